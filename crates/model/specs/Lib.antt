@@ -1,0 +1,16 @@
+pub mod Limits
+pub mod Bytes
+pub mod Tests
+pub mod Records
+pub mod Runs
+pub mod Events
+pub mod Messages
+pub mod Frames
+pub mod Notices
+pub mod Row
+pub mod Session
+pub mod Hearing
+pub mod Steps
+pub mod World
+pub mod Calls
+pub mod Program

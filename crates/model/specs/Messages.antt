@@ -1,0 +1,132 @@
+-- 01, "What a message does": the table of messages, and the tests that a message meets. Assumes nothing: these are definitions.
+use Prim.Native.Nat.{ℕ}
+use mathlib.Core.Bool.{Bool, true, false, not, cond, _&&_}
+use mathlib.Core.List.{List, [], _∷_}
+use mathlib.Core.Option.{Option, none, some}
+use lib.Dec.{eqb}
+use Rattle.model.specs.Bytes.{within, is-text, all}
+use Rattle.model.specs.Tests.{Test, _gives_, first}
+use Rattle.model.specs.Events.{identifiers, tightenings}
+
+-- ==== the table: each message's lengths, its revisions, its effect and its own error
+
+pub data Revisions : Type 0 where
+  not-read : Revisions
+  revisions : ℕ → ℕ → Revisions
+
+-- a number after a name is the kind of notice, and behind it the message's own error
+pub data Effect : Type 0 where
+  starts : Effect
+  stops : Effect
+  identifies : ℕ → Effect
+  subscribes : ℕ → ℕ → Effect
+  unsubscribes : ℕ → ℕ → Effect
+  acknowledges : ℕ → Effect
+  mirrors : Effect
+
+pub record Entry : Type 0 where
+  pub mid : ℕ
+  pub least : ℕ
+  pub greatest : ℕ
+  pub revision : Revisions
+  pub effect : Effect
+
+abbrev pub entry : ℕ → ℕ → ℕ → Revisions → Effect → Entry
+entry mid least greatest rs effect =
+    record { mid = mid; least = least; greatest = greatest; revision = rs; effect = effect }
+
+abbrev pub table : List Entry
+table =
+    entry 0001 20 20 (revisions 1 1) starts
+    ∷ entry 0003 20 20 not-read stops
+    ∷ entry 0050 21 45 (revisions 1 1) (identifies 08)
+    ∷ entry 0051 20 20 (revisions 1 2) (subscribes identifiers 06)
+    ∷ entry 0053 20 20 not-read (acknowledges identifiers)
+    ∷ entry 0054 20 20 not-read (unsubscribes identifiers 07)
+    ∷ entry 0060 20 20 (revisions 1 1) (subscribes tightenings 09)
+    ∷ entry 0062 20 20 not-read (acknowledges tightenings)
+    ∷ entry 0063 20 20 not-read (unsubscribes tightenings 10)
+    ∷ entry 9999 20 20 not-read mirrors
+    ∷ []
+
+abbrev pub listed : List Entry → ℕ → Option Entry
+listed [] mid = none
+listed (e ∷ es) mid = let r = listed es mid in cond (eqb (e .mid) mid) (some e) r
+
+-- the entry of a message number; none where it is not known
+unfoldable pub entry-of : ℕ → Option Entry
+entry-of mid = listed table mid
+
+-- whether a message ever gets a reply: an acknowledge does not
+abbrev pub gets-reply : Effect → Bool
+gets-reply starts = true
+gets-reply stops = true
+gets-reply (identifies n) = true
+gets-reply (subscribes kind n) = true
+gets-reply (unsubscribes kind n) = true
+gets-reply (acknowledges kind) = false
+gets-reply mirrors = true
+
+-- ==== errors, and the number that a reply gives for each
+
+pub data Error : Type 0 where
+  unknown-message : Error
+  already-started : Error
+  wrong-length : Error
+  wrong-revision : Error
+  wrong-data : Error
+  own : ℕ → Error
+
+abbrev pub code : Error → ℕ
+code unknown-message = 99
+code already-started = 96
+code wrong-length = 01
+code wrong-revision = 97
+code wrong-data = 01
+code (own n) = n
+
+-- ==== the tests
+
+-- what they look at besides the message: whether the session is started, whether identifiers are granted over the net, and to
+-- which kinds of notice the session is subscribed
+pub record Standing : Type 0 where
+  pub started : Bool
+  pub granted : Bool
+  pub subscribed : ℕ → Bool
+
+abbrev pub good-length : Entry → ℕ → Bool
+good-length e size = within (e .least) (e .greatest) size
+
+abbrev pub good-among : Revisions → ℕ → Bool
+good-among not-read revision = true
+good-among (revisions least greatest) revision = within least greatest revision
+
+-- (only 0050 has data when its length is good)
+abbrev pub good-data : List ℕ → Bool
+good-data bs = all is-text bs
+
+-- the message's own: 0050 wants the grant; who is subscribed cannot subscribe again, who is not cannot unsubscribe
+abbrev pub own-test : Standing → Effect → Test (Option Error)
+own-test x starts = false gives none
+own-test x stops = false gives none
+own-test x (identifies n) = not (x .granted) gives some (own n)
+own-test x (subscribes kind n) = x .subscribed kind gives some (own n)
+own-test x (unsubscribes kind n) = not (x .subscribed kind) gives some (own n)
+own-test x (acknowledges kind) = false gives none
+own-test x mirrors = false gives none
+
+-- in the paper's order, by the entry of the message's number in the table
+abbrev pub tested : Standing → Option Entry → ℕ → ℕ → List ℕ → Option Error
+tested x none size revision bs = some unknown-message
+tested x (some e) size revision bs =
+    first none
+    ((x .started && eqb (e .mid) 0001) gives some already-started
+    ∷ not (good-length e size) gives some wrong-length
+    ∷ not (good-among (e .revision) revision) gives some wrong-revision
+    ∷ not (good-data bs) gives some wrong-data
+    ∷ own-test x (e .effect)
+    ∷ [])
+
+-- the error, if there is one, of a message of that number, length and revision, with that data
+unfoldable pub error-of : Standing → ℕ → ℕ → ℕ → List ℕ → Option Error
+error-of x mid size revision bs = tested x (entry-of mid) size revision bs
