@@ -1,0 +1,3 @@
+pub mod Lists
+pub mod Numbers
+pub mod Puts

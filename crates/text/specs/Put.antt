@@ -1,0 +1,11 @@
+-- What a writer does to the bytes that it is lent. Assumes nothing: these are definitions.
+use mathlib.Core.Path.{_≡_}
+use Prim.Native.Nat.{ℕ, _+_}
+use mathlib.Core.List.{List}
+use lib.ListN.{length}
+use lib.Seq.{sets}
+
+-- bs stand in o from `at` on, o is otherwise as it was, and `next` is the place behind them
+pub record Put (o : List ℕ) (at : ℕ) (bs : List ℕ) (next : ℕ) (o′ : List ℕ) : Type 0 where
+  pub output : o′ ≡ sets o at bs
+  pub place : next ≡ at + length bs

@@ -1,0 +1,139 @@
+// Bytes, and the numbers and texts in them.
+ghost use mathlib.Core.Path.{_≡_};
+ghost use mathlib.Core.Bool.{true};
+ghost use Prim.Native.Nat.{_+_, _^_, _≤_, _<_};
+ghost use lib.ListN.{length, take, drop, replicate};
+ghost use Rattle.model.specs.Bytes.{within, is-digit, is-text, is-space, all, decimal as decimal-of, digits, little as little-of, in-bytes};
+ghost use Rattle.text.specs.Put.{Put};
+
+// ---- tests of bytes
+
+// Whether every byte of s is least..greatest.
+pub fn all_within(s: &[u8], least: u8, greatest: u8) -> bool
+    ensures { λ r. ⌜ r ≡ all (within least greatest) (now (s .entry)) ⌝ }
+{
+    let mut i = 0;
+    while i < s.len() {
+        let b = s[i];
+        if b < least {
+            return false;
+        }
+        if b > greatest {
+            return false;
+        }
+        i += 1;
+    }
+    true
+}
+
+pub fn is_text(s: &[u8]) -> bool
+    ensures { λ r. ⌜ r ≡ all is-text (now (s .entry)) ⌝ }
+{
+    all_within(s, 0x20, 0x7E)
+}
+
+pub fn is_digits(s: &[u8]) -> bool
+    ensures { λ r. ⌜ r ≡ all is-digit (now (s .entry)) ⌝ }
+{
+    all_within(s, b'0', b'9')
+}
+
+pub fn is_spaces(s: &[u8]) -> bool
+    ensures { λ r. ⌜ r ≡ all is-space (now (s .entry)) ⌝ }
+{
+    all_within(s, b' ', b' ')
+}
+
+// ---- numbers that bytes hold
+
+fn wide(x: u8) -> u64
+    ensures { λ r. ⌜ r ≡ x ⌝ }
+{
+    x as u64
+}
+
+// The number of the size bytes at `at`, little-endian.
+pub fn little(b: &[u8], at: usize, size: usize) -> u64
+    requires { ⌜ (at + size ≤ length (now b)) × (size ≤ 8) ⌝ }
+    ensures { λ r. ⌜ (r ≡ little-of (take size (drop at (now (b .entry))))) × (r < 256 ^ size) ⌝ }
+{
+    let mut i = size;
+    let mut n: u64 = 0;
+    while i > 0 {
+        i -= 1;
+        n = n * 256 + wide(b[at + i]);
+    }
+    n
+}
+
+// The number that digits give.
+pub fn decimal(s: &[u8]) -> u64
+    requires { ⌜ (length (now s) ≤ 19) × (all is-digit (now s) ≡ true) ⌝ }
+    ensures { λ r. ⌜ (r ≡ decimal-of (now (s .entry))) × (r < 10 ^ length (now (s .entry))) ⌝ }
+{
+    let mut i = 0;
+    let mut n: u64 = 0;
+    while i < s.len() {
+        n = n * 10 + wide(s[i] - b'0');
+        i += 1;
+    }
+    n
+}
+
+// ---- writers: each returns the place behind what it wrote
+
+// The bytes of s.
+pub fn copy(s: &[u8], out: &mut [u8], at: usize) -> usize
+    requires { ⌜ at + length (now s) ≤ length (now out) ⌝ }
+    ensures { λ r. ⌜ Put (now (out .entry)) at (now (s .entry)) r (now (out .exit)) ⌝ }
+{
+    let mut i = 0;
+    while i < s.len() {
+        out[at + i] = s[i];
+        i += 1;
+    }
+    at + i
+}
+
+// The byte b, width times.
+pub fn fill(out: &mut [u8], at: usize, width: usize, b: u8) -> usize
+    requires { ⌜ at + width ≤ length (now out) ⌝ }
+    ensures { λ r. ⌜ Put (now (out .entry)) at (replicate width b) r (now (out .exit)) ⌝ }
+{
+    let mut i = 0;
+    while i < width {
+        out[at + i] = b;
+        i += 1;
+    }
+    at + width
+}
+
+// n in size bytes, little-endian.
+pub fn put_little(out: &mut [u8], at: usize, size: usize, n: u64) -> usize
+    requires { ⌜ at + size ≤ length (now out) ⌝ }
+    ensures { λ r. ⌜ Put (now (out .entry)) at (in-bytes size n) r (now (out .exit)) ⌝ }
+{
+    let mut left = n;
+    let mut i = 0;
+    while i < size {
+        out[at + i] = (left % 256) as u8;
+        left = left / 256;
+        i += 1;
+    }
+    at + size
+}
+
+// n as a decimal field: its last width digits, zeros before them.
+pub fn put_digits(out: &mut [u8], at: usize, width: usize, n: u64) -> usize
+    requires { ⌜ at + width ≤ length (now out) ⌝ }
+    ensures { λ r. ⌜ Put (now (out .entry)) at (digits width n) r (now (out .exit)) ⌝ }
+{
+    let mut left = n;
+    let mut i = width;
+    while i > 0 {
+        i -= 1;
+        out[at + i] = b'0' + (left % 10) as u8;
+        left = left / 10;
+    }
+    at + width
+}
