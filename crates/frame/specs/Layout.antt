@@ -1,7 +1,7 @@
 -- Layouts: how the fields of a frame are made of the bytes of a source. Assumes nothing: these are definitions.
 use Prim.Native.Nat.{ℕ, _+_}
 use mathlib.Core.Bool.{Bool, cond, _&&_}
-use mathlib.Core.List.{List, map}
+use mathlib.Core.List.{List, [], _∷_, map}
 use lib.Dec.{leb, eqb}
 use lib.ListN.{getD, take, drop}
 use Rattle.model.specs.Bytes.{spaces, little}
@@ -30,6 +30,11 @@ field-of source row =
 -- the data of a frame: the fields of the rows, numbered from `first` on
 unfoldable pub laid-out : ℕ → List (List ℕ) → List ℕ → List ℕ
 laid-out first rows source = fields-from first (map (field-of source) rows)
+
+-- how many bytes that is: each field has its number's two digits before it
+unfoldable pub layout-length : List (List ℕ) → ℕ
+layout-length [] = 0
+layout-length (row ∷ rows) = 2 + width row + layout-length rows
 
 -- ==== which rows a source of so many bytes can serve
 

@@ -1,7 +1,6 @@
 // Frames: the header of a received one is read, and those that we send are put together by layouts.
 ghost use mathlib.Core.Path.{_≡_};
-ghost use mathlib.Core.Bool.{true, cond, _||_};
-ghost use mathlib.Core.List.{map};
+ghost use mathlib.Core.Bool.{true, _||_};
 ghost use Prim.Native.Nat.{_+_, _≤_, _<_};
 ghost use lib.ListN.{length, drop};
 ghost use Rattle.model.specs.Bytes.{digit-0, digit-1, is-digit, is-space, all};
@@ -20,7 +19,7 @@ ghost use Rattle.model.specs.Frames.{
 };
 ghost use Rattle.text.specs.Put.{Put};
 ghost use Rattle.frame.specs.Header.{header-of};
-ghost use Rattle.frame.specs.Layout.{field-of, laid-out, served, result-of};
+ghost use Rattle.frame.specs.Layout.{width as width-of, field-of, laid-out, layout-length, served, result-of};
 
 // ---- the header of a received run
 
@@ -122,4 +121,112 @@ pub fn data_field(run: &[u8]) -> &[u8]
         return &run[..0];
     }
     &run[20..]
+}
+
+// ---- layouts: a row is a field's width, how many bytes it is read from, and where they begin in the source
+
+// A row of so many bytes is a text, which is copied; one of so many is spaces.
+const COPIED: usize = 0;
+const BLANK: usize = 9;
+
+// Fields 01 to 03 of 0002 and 0061, of the settings: cell, channel, name.
+const CONTROLLER: [[usize; 3]; 3] = [[4, 2, 0], [2, 1, 2], [25, COPIED, 4]];
+
+// 0052, of the identifier.
+const IDENTIFIER_1: [[usize; 3]; 1] = [[25, COPIED, 0]];
+const IDENTIFIER_2: [[usize; 3]; 4] = [[25, COPIED, 0], [25, BLANK, 0], [25, BLANK, 0], [25, BLANK, 0]];
+
+// Fields 04 to 23 of 0061, of a result as it is kept.
+const RESULT: [[usize; 3]; 20] = [
+    // identifier, job, parameter set, batch size, batch counter
+    [25, COPIED, 0],
+    [2, 1, 25],
+    [3, 2, 26],
+    [4, 2, 28],
+    [4, 2, 30],
+    // tightening status, torque status, angle status
+    [1, 1, 32],
+    [1, 1, 33],
+    [1, 1, 34],
+    // torques: min, max, target, the torque
+    [6, 4, 35],
+    [6, 4, 39],
+    [6, 4, 43],
+    [6, 4, 47],
+    // angles: min, max, target, the angle
+    [5, 4, 51],
+    [5, 4, 55],
+    [5, 4, 59],
+    [5, 4, 63],
+    // time, parameter set change time, batch status, tightening number
+    [19, COPIED, 67],
+    [19, COPIED, 86],
+    [1, 1, 105],
+    [10, 4, 106],
+];
+
+// The value of one field.
+fn put_value(out: &mut [u8], at: usize, row: &[usize; 3], source: &[u8]) -> usize
+    requires { ⌜ (served (length (now source)) (now row) ≡ true) × (at + width-of (now row) ≤ length (now out)) ⌝ }
+    ensures { λ r. ⌜ (r ≡ at + width-of (now (row .entry))) × Put (now (out .entry)) at (value (field-of (now (source .entry)) (now (row .entry)))) r (now (out .exit)) ⌝ }
+{
+    let width = row[0];
+    let size = row[1];
+    let from = row[2];
+    if size == COPIED {
+        return text::copy(&source[from..from + width], out, at);
+    }
+    if size == BLANK {
+        return text::fill(out, at, width, b' ');
+    }
+    text::put_digits(out, at, width, text::little(source, from, size))
+}
+
+// The fields of a layout, each with its number before it, from `first` on.
+fn put_fields(out: &mut [u8], at: usize, first: u64, rows: &[[usize; 3]], source: &[u8]) -> usize
+    requires { ⌜ (all (served (length (now source))) (now rows) ≡ true) × (at + layout-length (now rows) ≤ length (now out)) × (first + length (now rows) ≤ 100) ⌝ }
+    ensures { λ r. ⌜ (r ≡ at + layout-length (now (rows .entry))) × Put (now (out .entry)) at (laid-out first (now (rows .entry)) (now (source .entry))) r (now (out .exit)) ⌝ }
+{
+    let mut to = at;
+    let mut k = 0;
+    while k < rows.len() {
+        let n = text::put_digits(out, to, 2, first + k as u64);
+        to = put_value(out, n, &rows[k], source);
+        k += 1;
+    }
+    to
+}
+
+// A frame's header.
+fn put_header(out: &mut [u8], size: u64, mid: u64, revision: u64, byte_12: u8) -> usize
+    requires { ⌜ 20 ≤ length (now out) ⌝ }
+    ensures { λ r. ⌜ (r ≡ 20) × Put (now (out .entry)) 0 (header-bytes size mid revision byte_12) r (now (out .exit)) ⌝ }
+{
+    let at = text::put_digits(out, 0, 4, size);
+    let at = text::put_digits(out, at, 4, mid);
+    let at = text::put_digits(out, at, 3, revision);
+    let at = text::fill(out, at, 1, byte_12);
+    text::fill(out, at, 8, b' ')
+}
+
+// ---- output records
+
+// A frame to session s, with its NUL.
+pub fn put_frame(out: &mut [u8], at: usize, s: u64, frame: &[u8]) -> usize
+    requires { ⌜ (at + length (now frame) + 5 ≤ length (now out)) × (s < 256) ⌝ }
+    ensures { λ r. ⌜ (r ≡ at + length (now (frame .entry)) + 5) × Put (now (out .entry)) at (frame-record s (now (frame .entry))) r (now (out .exit)) ⌝ }
+{
+    let at = text::put_little(out, at, 2, (frame.len() + 1) as u64);
+    let at = text::put_little(out, at, 2, 256 + s);
+    let at = text::copy(frame, out, at);
+    text::put_little(out, at, 1, 0)
+}
+
+// The order to close session s.
+pub fn put_close(out: &mut [u8], at: usize, s: u64) -> usize
+    requires { ⌜ (at + 4 ≤ length (now out)) × (s < 256) ⌝ }
+    ensures { λ r. ⌜ (r ≡ at + 4) × Put (now (out .entry)) at (close-record s) r (now (out .exit)) ⌝ }
+{
+    let at = text::put_little(out, at, 2, 0);
+    text::put_little(out, at, 2, 512 + s)
 }
