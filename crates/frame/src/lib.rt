@@ -1,8 +1,8 @@
 // Frames: the header of a received one is read, and those that we send are put together by layouts.
 ghost use mathlib.Core.Path.{_≡_};
-ghost use mathlib.Core.Bool.{true, _||_};
+ghost use mathlib.Core.Bool.{true, cond, _||_};
 ghost use Prim.Native.Nat.{_+_, _≤_, _<_};
-ghost use lib.ListN.{length, drop};
+ghost use lib.ListN.{length, take, drop};
 ghost use Rattle.model.specs.Bytes.{digit-0, digit-1, is-digit, is-space, all};
 ghost use Rattle.model.specs.Runs.{is-flag as is-flag-byte, revision-of, is-message as is-message-run};
 ghost use Rattle.model.specs.Records.{settings-of};
@@ -127,6 +127,7 @@ pub fn data_field(run: &[u8]) -> &[u8]
 
 // A row of so many bytes is a text, which is copied; one of so many is spaces.
 const COPIED: usize = 0;
+
 const BLANK: usize = 9;
 
 // Fields 01 to 03 of 0002 and 0061, of the settings: cell, channel, name.
@@ -134,7 +135,13 @@ const CONTROLLER: [[usize; 3]; 3] = [[4, 2, 0], [2, 1, 2], [25, COPIED, 4]];
 
 // 0052, of the identifier.
 const IDENTIFIER_1: [[usize; 3]; 1] = [[25, COPIED, 0]];
-const IDENTIFIER_2: [[usize; 3]; 4] = [[25, COPIED, 0], [25, BLANK, 0], [25, BLANK, 0], [25, BLANK, 0]];
+
+const IDENTIFIER_2: [[usize; 3]; 4] = [
+    [25, COPIED, 0],
+    [25, BLANK, 0],
+    [25, BLANK, 0],
+    [25, BLANK, 0],
+];
 
 // Fields 04 to 23 of 0061, of a result as it is kept.
 const RESULT: [[usize; 3]; 20] = [
@@ -229,4 +236,123 @@ pub fn put_close(out: &mut [u8], at: usize, s: u64) -> usize
 {
     let at = text::put_little(out, at, 2, 0);
     text::put_little(out, at, 2, 512 + s)
+}
+
+// ---- the frames that we write: each is put together in a scratch array and copied to its output record
+
+// 0002: the session is started. The settings are a settings record's payload.
+pub fn put_0002(out: &mut [u8], at: usize, s: u64, settings: &[u8]) -> usize
+    requires { ⌜ (at + 62 ≤ length (now out)) × (s < 256) × (length (now settings) ≡ 33) ⌝ }
+    ensures { λ r. ⌜ (r ≡ at + 62) × Put (now (out .entry)) at (frame-record s (frame-0002 (settings-of (now (settings .entry))))) r (now (out .exit)) ⌝ }
+{
+    let mut frame = [0u8; 57];
+    let to = put_header(&mut frame, 57, 2, 1, b' ');
+    put_fields(&mut frame, to, 1, &CONTROLLER, settings);
+    put_frame(out, at, s, &frame)
+}
+
+// 0004: message mid has an error.
+pub fn put_0004(out: &mut [u8], at: usize, s: u64, mid: u64, error: u64) -> usize
+    requires { ⌜ (at + 31 ≤ length (now out)) × (s < 256) ⌝ }
+    ensures { λ r. ⌜ (r ≡ at + 31) × Put (now (out .entry)) at (frame-record s (frame-0004 mid error)) r (now (out .exit)) ⌝ }
+{
+    let mut frame = [0u8; 26];
+    let to = put_header(&mut frame, 26, 4, 1, b' ');
+    let to = text::put_digits(&mut frame, to, 4, mid);
+    text::put_digits(&mut frame, to, 2, error);
+    put_frame(out, at, s, &frame)
+}
+
+// 0005: message mid is accepted.
+pub fn put_0005(out: &mut [u8], at: usize, s: u64, mid: u64) -> usize
+    requires { ⌜ (at + 29 ≤ length (now out)) × (s < 256) ⌝ }
+    ensures { λ r. ⌜ (r ≡ at + 29) × Put (now (out .entry)) at (frame-record s (frame-0005 mid)) r (now (out .exit)) ⌝ }
+{
+    let mut frame = [0u8; 24];
+    let to = put_header(&mut frame, 24, 5, 1, b' ');
+    text::put_digits(&mut frame, to, 4, mid);
+    put_frame(out, at, s, &frame)
+}
+
+// Byte 12 of a notice.
+fn byte_12(no_acknowledge: bool) -> u8
+    ensures { λ r. ⌜ r ≡ cond «no_acknowledge» digit-1 digit-0 ⌝ }
+{
+    if no_acknowledge { b'1' } else { b'0' }
+}
+
+// 0052, revision 1.
+fn put_0052_1(out: &mut [u8], at: usize, s: u64, no_acknowledge: bool, identifier: &[u8]) -> usize
+    requires { ⌜ (at + 52 ≤ length (now out)) × (s < 256) × (length (now identifier) ≡ 25) ⌝ }
+    ensures { λ r. ⌜ (r ≡ at + 52) × Put (now (out .entry)) at (frame-record s (frame-0052 1 «no_acknowledge» (now (identifier .entry)))) r (now (out .exit)) ⌝ }
+{
+    let mut frame = [0u8; 47];
+    let to = put_header(&mut frame, 47, 52, 1, byte_12(no_acknowledge));
+    put_fields(&mut frame, to, 1, &IDENTIFIER_1, identifier);
+    put_frame(out, at, s, &frame)
+}
+
+// 0052, any later revision.
+fn put_0052_2(
+    out: &mut [u8],
+    at: usize,
+    s: u64,
+    revision: u64,
+    no_acknowledge: bool,
+    identifier: &[u8],
+) -> usize
+    requires { ⌜ (at + 133 ≤ length (now out)) × (s < 256) × (length (now identifier) ≡ 25) ⌝ }
+    requires { ⌜ (revision ≡ 1 → ⊥) ⌝ }
+    ensures { λ r. ⌜ (r ≡ at + 133) × Put (now (out .entry)) at (frame-record s (frame-0052 revision «no_acknowledge» (now (identifier .entry)))) r (now (out .exit)) ⌝ }
+{
+    let mut frame = [0u8; 128];
+    let to = put_header(&mut frame, 128, 52, revision, byte_12(no_acknowledge));
+    put_fields(&mut frame, to, 1, &IDENTIFIER_2, identifier);
+    put_frame(out, at, s, &frame)
+}
+
+// 0052: an identifier, to a session that subscribed so.
+pub fn put_0052(
+    out: &mut [u8],
+    at: usize,
+    s: u64,
+    revision: u64,
+    no_acknowledge: bool,
+    identifier: &[u8],
+) -> usize
+    requires { ⌜ (at + 133 ≤ length (now out)) × (s < 256) × (length (now identifier) ≡ 25) ⌝ }
+    ensures { λ r. ⌜ (r ≤ at + 133) × Put (now (out .entry)) at (frame-record s (frame-0052 revision «no_acknowledge» (now (identifier .entry)))) r (now (out .exit)) ⌝ }
+{
+    if revision == 1 {
+        return put_0052_1(out, at, s, no_acknowledge, identifier);
+    }
+    put_0052_2(out, at, s, revision, no_acknowledge, identifier)
+}
+
+// 0061: a result as it is kept, to a session that subscribed so.
+pub fn put_0061(
+    out: &mut [u8],
+    at: usize,
+    s: u64,
+    revision: u64,
+    no_acknowledge: bool,
+    settings: &[u8],
+    result: &[u8],
+) -> usize
+    requires { ⌜ (at + 236 ≤ length (now out)) × (s < 256) × (length (now settings) ≡ 33) × (length (now result) ≡ 110) ⌝ }
+    ensures { λ r. ⌜ (r ≡ at + 236) × Put (now (out .entry)) at (frame-record s (frame-0061 (settings-of (now (settings .entry))) revision «no_acknowledge» (result-of (now (result .entry))))) r (now (out .exit)) ⌝ }
+{
+    let mut frame = [0u8; 231];
+    let to = put_header(&mut frame, 231, 61, revision, byte_12(no_acknowledge));
+    let to = put_fields(&mut frame, to, 1, &CONTROLLER, settings);
+    put_fields(&mut frame, to, 4, &RESULT, result);
+    put_frame(out, at, s, &frame)
+}
+
+// 9999: the header as it came.
+pub fn put_9999(out: &mut [u8], at: usize, s: u64, run: &[u8]) -> usize
+    requires { ⌜ (at + 25 ≤ length (now out)) × (s < 256) × (20 ≤ length (now run)) ⌝ }
+    ensures { λ r. ⌜ (r ≡ at + 25) × Put (now (out .entry)) at (frame-record s (take 20 (now (run .entry)))) r (now (out .exit)) ⌝ }
+{
+    put_frame(out, at, s, &run[0..20])
 }

@@ -47,8 +47,8 @@ pub left-put : {o bs o₁ o₂ xs ys : List ℕ} {at to r : ℕ} → Left o at b
 left-put {o} {bs} {o₁} {o₂} {xs} {ys} {at} {to} {r} l p = record {
   content = ap₂ (λ (z : List ℕ) (n : ℕ). sets z n ys) (p .output) (p .place) ∙ sets-sets xs ys o₁ to ∙ l .content;
   place =
-    ap (λ (n : ℕ). n + length ys) (p .place) ∙ add-assoc to (length xs) (length ys) ∙ ap (λ (n : ℕ). to + n) (sym (length-append xs ys))
-        ∙ l .place;
+      ap (λ (n : ℕ). n + length ys) (p .place) ∙ add-assoc to (length xs) (length ys) ∙ ap (λ (n : ℕ). to + n) (sym (length-append xs ys))
+      ∙ l .place;
   size = put-length p ∙ l .size;
 }
 

@@ -53,7 +53,7 @@ returns-3 c =
     let s = i .before .before .before .before .before .before .before in (
       search needs,
       put-as (value-number (s .args .source .now) (s .args .row .now) (i .before .if1 .left) (i .if2 .left) (c .before .before .before .little .ensures .0))
-      (c .before .before .put-digits .ensures .1),
+          (c .before .before .put-digits .ensures .1),
     )
 
 pub put-value-spec : {M : Type 1} → statement M
