@@ -117,10 +117,7 @@ pub fn read_header(run: &[u8], count: usize) -> Header
 pub fn data_field(run: &[u8]) -> &[u8]
     ensures { λ r. ⌜ now r ≡ drop 20 (now (run .entry)) ⌝ }
 {
-    if run.len() < 20 {
-        return &run[..0];
-    }
-    &run[20..]
+    text::rest(run, 20)
 }
 
 // ---- layouts: a row is a field's width, how many bytes it is read from, and where they begin in the source

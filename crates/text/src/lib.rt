@@ -8,6 +8,15 @@ ghost use Rattle.text.specs.Put.{Put};
 
 // ---- tests of bytes
 
+pub fn is_digit(b: u8) -> bool
+    ensures { λ r. ⌜ r ≡ is-digit b ⌝ }
+{
+    if b < b'0' {
+        return false;
+    }
+    b <= b'9'
+}
+
 // Whether every byte of s is least..greatest.
 pub fn all_within(s: &[u8], least: u8, greatest: u8) -> bool
     ensures { λ r. ⌜ r ≡ all (within least greatest) (now (s .entry)) ⌝ }
@@ -78,6 +87,18 @@ pub fn decimal(s: &[u8]) -> u64
         i += 1;
     }
     n
+}
+
+// ---- parts
+
+// The bytes from `from` on, as part of the caller's.
+pub fn rest(s: &[u8], from: usize) -> &[u8]
+    ensures { λ r. ⌜ now r ≡ drop from (now (s .entry)) ⌝ }
+{
+    if s.len() < from {
+        return &s[..0];
+    }
+    &s[from..]
 }
 
 // ---- writers: each returns the place behind what it wrote

@@ -1,0 +1,24 @@
+-- `record::is_record` meets its contract. Assumes nothing.
+use borrow.Author.Needs.{needs}
+use mathlib.Core.Path.{sym, ap, _∙_}
+use Prim.Native.Nat.{ℕ, _+_}
+use Rattle.record.proofs.Parts.{too-short, other-size, by-kind}
+use Rattle.record.proofs.is_record.Statement.{statement}
+use Rattle.record.proofs.is_record.Tie as tie
+
+returns : tie.Need-returns
+returns c = let a = c .before .before .args in too-short (a .kind) (a .slice .now) (c .if1 .taken)
+
+returns-2 : tie.Need-returns-2
+returns-2 c =
+    let a = c .before .before .before .before .args in
+    other-size (a .kind) (a .slice .now) (λ e. c .if2 .taken (ap (λ (n : ℕ). 4 + n) (c .before .little .ensures .0) ∙ e))
+
+returns-3 : tie.Need-returns-3
+returns-3 c =
+    let a = c .before .before .before .before .before .args in
+    by-kind (a .kind) (a .slice .now) (ap (λ (n : ℕ). 4 + n) (sym (c .before .before .little .ensures .0)) ∙ c .before .if2 .left) (c .little2 .ensures .0)
+
+pub is-record-spec : {M : Type 1} → statement M
+is-record-spec =
+    tie.close (tie.spec returns (λ c κs. search needs) (λ c. search needs) returns-2 (λ c κs. search needs) returns-3)

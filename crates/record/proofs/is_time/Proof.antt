@@ -1,0 +1,47 @@
+-- `record::is_time` meets its contract. The invariant: the test of the bytes that are left is the test of all. Assumes nothing.
+use borrow.Author.Needs.{needs}
+use borrow.Author.Tests.{not-true, not-false}
+use mathlib.Core.Path.{_≡_, refl, sym, _∙_}
+use Prim.Native.Nat.{_+_, _-_}
+use native.Mathlib.Omega.{arith}
+use lib.ListN.{length, drop}
+use Rattle.model.specs.Records.{is-time, is-time-from}
+use Rattle.record.proofs.Times.{time-goes-on, time-stops, time-ends}
+use Rattle.record.proofs.is_time.Statement.{statement}
+use Rattle.record.proofs.is_time.Tie as tie
+
+abbrev Inv-loop : tie.InvT-loop
+Inv-loop s i₀ i = is-time-from (i + 1) (drop i s) ≡ is-time s
+
+abbrev μ-loop : tie.MeasureT-loop
+μ-loop s i₀ i = length s - i
+
+returns : tie.Need-returns Inv-loop μ-loop
+returns c =
+    let t = c .before .before .before in
+    let l = t .before .loop in
+    time-stops (t .before .before .before .args .s .now) (l .i) (t .loop-test .taken) (sym (c .before .good-at .ensures) ∙ not-true _ (c .if1 .taken)) (l .inv)
+
+loop-again : tie.Need-loop-again Inv-loop μ-loop
+loop-again c =
+    let t = c .before .before .before in
+    let l = t .before .loop in
+    time-goes-on (t .before .before .before .args .s .now) (l .i) (t .loop-test .taken) (sym (c .before .good-at .ensures) ∙ not-false _ (c .if1 .left)) (l .inv)
+
+returns-2 : tie.Need-returns-2 Inv-loop μ-loop
+returns-2 c = time-ends (c .before .before .before .args .s .now) (c .before .loop .i) (c .loop-test .left) (c .before .loop .inv)
+
+pub is-time-spec : {M : Type 1} → statement M
+is-time-spec =
+    tie.close
+    (tie.spec
+    Inv-loop
+    μ-loop
+    (λ c. refl)
+    (λ c. search needs)
+    (λ c. search needs)
+    (λ c κs. search needs)
+    returns
+    (λ c. search needs)
+    loop-again
+    returns-2)

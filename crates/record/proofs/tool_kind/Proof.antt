@@ -1,0 +1,32 @@
+-- `record::tool_kind` meets its contract: the tables have the model's items. Assumes nothing.
+use borrow.Author.Needs.{needs}
+use mathlib.Core.Path.{sym, _∙_}
+use Rattle.model.specs.Records.{read-tool}
+use Rattle.record.proofs.tool_kind.Statement.{statement}
+use Rattle.record.proofs.tool_kind.Tie as tie
+
+returns : tie.Need-returns
+unfolding read-tool
+returns c = rw (sym (c .before .good-record .ensures) ∙ c .if1 .taken)
+
+returns-2 : tie.Need-returns-2
+unfolding read-tool
+returns-2 c =
+    rw (sym (c .before .before .before .before .good-record .ensures) ∙ c .before .before .before .if1 .left, sym (c .before .good-record2 .ensures) ∙ c .if2 .taken)
+
+returns-3 : tie.Need-returns-3
+unfolding read-tool
+returns-3 c =
+    rw (sym (c .before .before .before .before .good-record .ensures) ∙ c .before .before .before .if1 .left, sym (c .before .good-record2 .ensures) ∙ c .if2 .left)
+
+pub tool-kind-spec : {M : Type 1} → statement M
+tool-kind-spec =
+    tie.close
+    (tie.spec
+    (λ c. search needs)
+    (λ c κs. search needs)
+    returns
+    (λ c. search needs)
+    (λ c κs. search needs)
+    returns-2
+    returns-3)
