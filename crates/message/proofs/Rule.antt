@@ -12,27 +12,9 @@ use lib.ListN.{getD, drop}
 use lib.Seq.{drop-cons}
 use borrow.Author.Tests.{eqb-true, eq-eqb, ne-eqb}
 use Rattle.model.specs.Messages.{Entry, entry, Revisions, not-read, revisions, mirrors, table, listed, entry-of}
-use Rattle.message.specs.Inner.{any, Spans, Lists}
+use Rattle.message.specs.Inner.{any, messages, Spans, Lists}
 use Rattle.message.specs.declared.Listed.the-variants.{Not, Row}
 use Rattle.message.proofs.AtEach.{at-each}
-
-abbrev row : ℕ → ℕ → ℕ → ℕ → ℕ → List ℕ
-row mid least greatest oldest newest = mid ∷ least ∷ greatest ∷ oldest ∷ newest ∷ []
-
--- the code's table, MESSAGES
-abbrev rows : List (List ℕ)
-rows =
-    row 1 20 20 1 1
-    ∷ row 3 20 20 0 any
-    ∷ row 50 21 45 1 1
-    ∷ row 51 20 20 1 2
-    ∷ row 53 20 20 0 any
-    ∷ row 54 20 20 0 any
-    ∷ row 60 20 20 1 1
-    ∷ row 62 20 20 0 any
-    ∷ row 63 20 20 0 any
-    ∷ row 9999 20 20 0 any
-    ∷ []
 
 -- ==== the test, and what it tells
 
@@ -75,10 +57,10 @@ abbrev entry-at : ℕ → Entry
 entry-at k = getD table k beyond
 
 abbrev row-at : ℕ → List ℕ
-row-at k = getD rows k []
+row-at k = getD messages k []
 
 rule : (k : ℕ) → k < 10 → Says (row-at k) (entry-at k)
-rule k h = says-tells (row-at k) (entry-at k) (at-each says rows table [] beyond refl k h)
+rule k h = says-tells (row-at k) (entry-at k) (at-each says messages table [] beyond refl k h)
 
 -- ==== the search for a number, row after row
 

@@ -1,7 +1,7 @@
 -- What this crate's inner functions leave, from which the contracts of the public ones are proved. Assumes nothing: these are definitions.
 use Prim.Native.Nat.{ℕ}
 use mathlib.Core.Path.{_≡_}
-use mathlib.Core.List.{[], _∷_}
+use mathlib.Core.List.{List, [], _∷_}
 use mathlib.Core.Option.{Option, none, some}
 use Rattle.model.specs.Tests.{first}
 use Rattle.model.specs.Messages.{Entry, Revisions, not-read, revisions, Effect, Error, unknown-message, Standing, own-test}
@@ -13,6 +13,24 @@ use Rattle.message.specs.declared.Listed.the-variants.{Not, Row}
 -- the greatest number of eight bytes
 abbrev pub any : ℕ
 any = 0xFFFFFFFFFFFFFFFF
+
+abbrev pub row : ℕ → ℕ → ℕ → ℕ → ℕ → List ℕ
+row mid least greatest oldest newest = mid ∷ least ∷ greatest ∷ oldest ∷ newest ∷ []
+
+-- the code's table, MESSAGES, as a list: proofs/Rule tests it against the model's, and no contract cites it
+abbrev pub messages : List (List ℕ)
+messages =
+    row 1 20 20 1 1
+    ∷ row 3 20 20 0 any
+    ∷ row 50 21 45 1 1
+    ∷ row 51 20 20 1 2
+    ∷ row 53 20 20 0 any
+    ∷ row 54 20 20 0 any
+    ∷ row 60 20 20 1 1
+    ∷ row 62 20 20 0 any
+    ∷ row 63 20 20 0 any
+    ∷ row 9999 20 20 0 any
+    ∷ []
 
 -- the ends of a message's revisions: every number is between them where the revision is not read
 abbrev pub Spans : Revisions → ℕ → ℕ → Type 0
