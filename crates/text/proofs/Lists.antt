@@ -20,6 +20,11 @@ replicate-next n i a h = let e : n - i ≡ suc (n - (i + 1)) = omega arith in ap
 
 -- ==== tests of every element
 
+pub all-at : {A : Type 0} (test : A → Bool) (l : List A) (i : ℕ) (d : A) → all test l ≡ true → i < length l → test (getD l i d) ≡ true
+all-at test [] i d e h = absurd (omega arith)
+all-at test (x ∷ l) zero d e h = and-eq-true-iff (test x) (all test l) .0 e .0
+all-at test (x ∷ l) (suc i) d e h = all-at test l i d (and-eq-true-iff (test x) (all test l) .0 e .1) (omega arith)
+
 module _ (test : ℕ → Bool) where
   pub all-next : (l : List ℕ) (i : ℕ) → i < length l → all test (drop i l) ≡ test (getD l i 0) && all test (drop (i + 1) l)
   all-next l i h = ap (all test) (drop-next l i 0 h)
@@ -34,11 +39,6 @@ module _ (test : ℕ → Bool) where
 
   pub all-stops : (l : List ℕ) (i : ℕ) → i < length l → test (getD l i 0) ≡ false → all test (drop i l) ≡ all test l → false ≡ all test l
   all-stops l i h t e = ap (λ (b : Bool). b && all test (drop (i + 1) l)) (sym t) ∙ sym (all-next l i h) ∙ e
-
-  pub all-at : (l : List ℕ) (i : ℕ) → all test l ≡ true → i < length l → test (getD l i 0) ≡ true
-  all-at [] i e h = absurd (omega arith)
-  all-at (x ∷ l) zero e h = and-eq-true-iff (test x) (all test l) .0 e .0
-  all-at (x ∷ l) (suc i) e h = all-at l i (and-eq-true-iff (test x) (all test l) .0 e .1) (omega arith)
 
   pub all-same : (other : ℕ → Bool) → ((b : ℕ) → test b ≡ other b) → (l : List ℕ) → all test l ≡ all other l
   all-same other h [] = refl

@@ -1,10 +1,11 @@
 -- Writes one after another. Assumes nothing.
-use mathlib.Core.Path.{_≡_, refl, sym, ap, ap₂, _∙_}
+use mathlib.Core.Path.{_≡_, refl, sym, ap, ap₂, subst, _∙_}
 use Prim.Native.Nat.{ℕ, _+_}
 use native.Mathlib.Nat.{add-zero, add-assoc}
-use mathlib.Core.List.{List, [], _++_}
-use lib.ListN.{length, length-append}
-use lib.Seq.{sets, length-sets}
+use native.Mathlib.Omega.{arith}
+use mathlib.Core.List.{List, [], _++_, append-nil}
+use lib.ListN.{length, length-append, drop-of-length-le}
+use lib.Seq.{sets, length-sets, sets-eq}
 use Rattle.text.specs.Put.{Put}
 use Rattle.text.proofs.Lists.{sets-sets}
 
@@ -31,3 +32,35 @@ put-of {o} {o′} {at} k bs e p q = record { output = p; place = q ∙ ap (λ (n
 -- what is written to keeps its length
 pub put-length : {o o′ bs : List ℕ} {at r : ℕ} → Put o at bs r o′ → length o′ ≡ length o
 put-length {o} {o′} {bs} {at} p = ap length (p .output) ∙ length-sets o at bs
+
+-- ==== a loop of writes: what is left over what is there is all of it over what was there
+
+pub record Left (o : List ℕ) (at : ℕ) (bs : List ℕ) (o′ : List ℕ) (to : ℕ) (rest : List ℕ) : Type 0 where
+  pub content : sets o′ to rest ≡ sets o at bs
+  pub place : to + length rest ≡ at + length bs
+  pub size : length o′ ≡ length o
+
+pub left-all : (o : List ℕ) (at : ℕ) (bs : List ℕ) → Left o at bs o at bs
+left-all o at bs = record { content = refl; place = refl; size = refl }
+
+pub left-put : {o bs o₁ o₂ xs ys : List ℕ} {at to r : ℕ} → Left o at bs o₁ to (xs ++ ys) → Put o₁ to xs r o₂ → Left o at bs o₂ r ys
+left-put {o} {bs} {o₁} {o₂} {xs} {ys} {at} {to} {r} l p = record {
+  content = ap₂ (λ (z : List ℕ) (n : ℕ). sets z n ys) (p .output) (p .place) ∙ sets-sets xs ys o₁ to ∙ l .content;
+  place =
+      ap (λ (n : ℕ). n + length ys) (p .place) ∙ add-assoc to (length xs) (length ys) ∙ ap (λ (n : ℕ). to + n) (sym (length-append xs ys))
+      ∙ l .place;
+  size = put-length p ∙ l .size;
+}
+
+pub left-none : {o bs o′ : List ℕ} {at to : ℕ} → Left o at bs o′ to [] → Put o at bs to o′
+left-none {o} {bs} {o′} {at} {to} l = record { output = l .content; place = sym (add-zero to) ∙ l .place }
+
+-- what is left, by another name
+pub left-as : {o bs o′ xs ys : List ℕ} {at to : ℕ} → xs ≡ ys → Left o at bs o′ to xs → Left o at bs o′ to ys
+left-as {o} {bs} {o′} {xs} {ys} {at} {to} e l = subst (λ (z : List ℕ). Left o at bs o′ to z) e l
+
+-- ==== a scratch array that is written over whole
+
+pub scratch : {o o′ bs : List ℕ} {r : ℕ} → length o ≡ length bs → Put o 0 bs r o′ → o′ ≡ bs
+scratch {o} {o′} {bs} e p =
+    p .output ∙ sets-eq bs o 0 (omega arith) ∙ ap (λ (l : List ℕ). bs ++ l) (drop-of-length-le o {i = 0 + length bs} (omega arith)) ∙ append-nil bs

@@ -98,7 +98,7 @@ pub fn copy(s: &[u8], out: &mut [u8], at: usize) -> usize
 // The byte b, width times.
 pub fn fill(out: &mut [u8], at: usize, width: usize, b: u8) -> usize
     requires { ⌜ at + width ≤ length (now out) ⌝ }
-    ensures { λ r. ⌜ Put (now (out .entry)) at (replicate width b) r (now (out .exit)) ⌝ }
+    ensures { λ r. ⌜ (r ≡ at + width) × Put (now (out .entry)) at (replicate width b) r (now (out .exit)) ⌝ }
 {
     let mut i = 0;
     while i < width {
@@ -111,7 +111,7 @@ pub fn fill(out: &mut [u8], at: usize, width: usize, b: u8) -> usize
 // n in size bytes, little-endian.
 pub fn put_little(out: &mut [u8], at: usize, size: usize, n: u64) -> usize
     requires { ⌜ at + size ≤ length (now out) ⌝ }
-    ensures { λ r. ⌜ Put (now (out .entry)) at (in-bytes size n) r (now (out .exit)) ⌝ }
+    ensures { λ r. ⌜ (r ≡ at + size) × Put (now (out .entry)) at (in-bytes size n) r (now (out .exit)) ⌝ }
 {
     let mut left = n;
     let mut i = 0;
@@ -126,7 +126,7 @@ pub fn put_little(out: &mut [u8], at: usize, size: usize, n: u64) -> usize
 // n as a decimal field: its last width digits, zeros before them.
 pub fn put_digits(out: &mut [u8], at: usize, width: usize, n: u64) -> usize
     requires { ⌜ at + width ≤ length (now out) ⌝ }
-    ensures { λ r. ⌜ Put (now (out .entry)) at (digits width n) r (now (out .exit)) ⌝ }
+    ensures { λ r. ⌜ (r ≡ at + width) × Put (now (out .entry)) at (digits width n) r (now (out .exit)) ⌝ }
 {
     let mut left = n;
     let mut i = width;

@@ -28,7 +28,7 @@ digit : (c : tie.In-loop Inv-loop μ-loop) → let b = getD (c .before .before .
 digit c =
     let s = c .before .before .before in
     let b = getD (s .args .s .now) (c .before .loop .i) 0 in
-    let t = and-eq-true-iff (leb 48 b) (leb b 57) .0 (all-at is-digit (s .args .s .now) (c .before .loop .i) (s .pre .1) (c .loop-test .taken)) in
+    let t = and-eq-true-iff (leb 48 b) (leb b 57) .0 (all-at is-digit (s .args .s .now) (c .before .loop .i) 0 (s .pre .1) (c .loop-test .taken)) in
     (leb-true 48 b (t .0), leb-true b 57 (t .1))
 
 loop-again : tie.Need-loop-again Inv-loop μ-loop

@@ -35,7 +35,7 @@ returns c =
     let a = c .before .before .args in
     let l = c .before .loop in
     let z : l .i ≡ 0 = omega arith in
-    put-of (a .width) _ (digits-length (a .width) (a .n)) (all-written (a .at) (ap (λ (k : ℕ). digits k (l .left)) z) (l .inv .2)) refl
+    (refl, put-of (a .width) _ (digits-length (a .width) (a .n)) (all-written (a .at) (ap (λ (k : ℕ). digits k (l .left)) z) (l .inv .2)) refl)
 
 pub put-digits-spec : {M : Type 1} → statement M
 put-digits-spec =

@@ -1,0 +1,111 @@
+-- A frame that was put together in a scratch array is the frame that the model says. Assumes nothing.
+use mathlib.Core.Path.{_≡_, refl, sym, ap, _∙_}
+use Prim.Native.Nat.{ℕ, suc, _+_}
+use native.Mathlib.Nat.{add-zero, add-suc, suc-add}
+use native.Mathlib.Omega.{arith}
+use mathlib.Core.Bool.{Bool, true, cond}
+use mathlib.Core.List.{List, [], _∷_, _++_, append-assoc}
+use lib.ListN.{length, length-append}
+use lib.Seq.{take-all}
+use borrow.Author.Tests.{ne-eqb}
+use Rattle.model.specs.Bytes.{all, space, digit-0, digit-1, digits}
+use Rattle.model.specs.Records.{settings-of, tightening-of}
+use Rattle.model.specs.Frames.{header, frame, Field, value, fields-from, controller-fields, result-fields, frame-0002, frame-0004, frame-0005, frame-0052, frame-0061}
+use Rattle.text.specs.Put.{Put}
+use Rattle.text.proofs.Numbers.{digits-length}
+use Rattle.text.proofs.Puts.{scratch}
+use Rattle.frame.specs.Layout.{laid-out, served, result-of}
+
+header-length : (size mid revision byte-12 : ℕ) → length (header size mid revision byte-12) ≡ 20
+unfolding header
+header-length size mid revision byte-12 = simp (length-append, digits-length)
+
+-- the header gives the length that the data has
+pub built : {o o′ : List ℕ} {r : ℕ} (n mid revision byte-12 : ℕ) (bs : List ℕ) → 20 + length bs ≡ n → length o ≡ n
+    → Put o 0 (header n mid revision byte-12 ++ bs) r o′ → o′ ≡ frame mid revision byte-12 bs
+unfolding frame
+built n mid revision byte-12 bs e l p =
+    scratch (l ∙ sym e ∙ sym (length-append (header n mid revision byte-12) bs ∙ ap (λ (k : ℕ). k + length bs) (header-length n mid revision byte-12))) p
+    ∙ ap (λ (k : ℕ). header k mid revision byte-12 ++ bs) (sym e)
+
+-- ==== the layouts, as the code has them
+
+abbrev pub controller : List (List ℕ)
+controller = (4 ∷ 2 ∷ 0 ∷ []) ∷ (2 ∷ 1 ∷ 2 ∷ []) ∷ (25 ∷ 0 ∷ 4 ∷ []) ∷ []
+
+abbrev pub identifier-1 : List (List ℕ)
+identifier-1 = (25 ∷ 0 ∷ 0 ∷ []) ∷ []
+
+abbrev pub identifier-2 : List (List ℕ)
+identifier-2 = (25 ∷ 0 ∷ 0 ∷ []) ∷ (25 ∷ 9 ∷ 0 ∷ []) ∷ (25 ∷ 9 ∷ 0 ∷ []) ∷ (25 ∷ 9 ∷ 0 ∷ []) ∷ []
+
+abbrev pub result : List (List ℕ)
+result =
+    (25 ∷ 0 ∷ 0 ∷ [])
+    ∷ (2 ∷ 1 ∷ 25 ∷ [])
+    ∷ (3 ∷ 2 ∷ 26 ∷ [])
+    ∷ (4 ∷ 2 ∷ 28 ∷ [])
+    ∷ (4 ∷ 2 ∷ 30 ∷ [])
+    ∷ (1 ∷ 1 ∷ 32 ∷ [])
+    ∷ (1 ∷ 1 ∷ 33 ∷ [])
+    ∷ (1 ∷ 1 ∷ 34 ∷ [])
+    ∷ (6 ∷ 4 ∷ 35 ∷ [])
+    ∷ (6 ∷ 4 ∷ 39 ∷ [])
+    ∷ (6 ∷ 4 ∷ 43 ∷ [])
+    ∷ (6 ∷ 4 ∷ 47 ∷ [])
+    ∷ (5 ∷ 4 ∷ 51 ∷ [])
+    ∷ (5 ∷ 4 ∷ 55 ∷ [])
+    ∷ (5 ∷ 4 ∷ 59 ∷ [])
+    ∷ (5 ∷ 4 ∷ 63 ∷ [])
+    ∷ (19 ∷ 0 ∷ 67 ∷ [])
+    ∷ (19 ∷ 0 ∷ 86 ∷ [])
+    ∷ (1 ∷ 1 ∷ 105 ∷ [])
+    ∷ (10 ∷ 4 ∷ 106 ∷ [])
+    ∷ []
+
+-- a source of the right length serves a layout
+pub serves : (rows : List (List ℕ)) (n : ℕ) (source : List ℕ) → length source ≡ n → all (served n) rows ≡ true → all (served (length source)) rows ≡ true
+serves rows n source e t = ap (λ (k : ℕ). all (served k) rows) e ∙ t
+
+-- ==== the frames, of what is written
+
+pub is-0002 : (bs : List ℕ) → frame 2 1 space (laid-out 1 controller bs) ≡ frame-0002 (settings-of bs)
+unfolding frame-0002 laid-out settings-of
+is-0002 bs = refl
+
+pub is-0004 : (mid error : ℕ) → frame 4 1 space (digits 4 mid ++ digits 2 error) ≡ frame-0004 mid error
+unfolding frame-0004
+is-0004 mid error = refl
+
+pub is-0005 : (mid : ℕ) → frame 5 1 space (digits 4 mid) ≡ frame-0005 mid
+unfolding frame-0005
+is-0005 mid = refl
+
+-- the fields of two lists, the second numbered on from the first
+fields-append : (i : ℕ) (xs ys : List Field) → fields-from i (xs ++ ys) ≡ fields-from i xs ++ fields-from (i + length xs) ys
+unfolding fields-from
+fields-append i [] ys = ap (λ (n : ℕ). fields-from n ys) (sym (add-zero i))
+fields-append i (x ∷ xs) ys =
+    ap (λ (l : List ℕ). digits 2 i ++ value x ++ l)
+    (fields-append (suc i) xs ys ∙ ap (λ (n : ℕ). fields-from (suc i) xs ++ fields-from n ys) (suc-add i (length xs) ∙ sym (add-suc i (length xs))))
+    ∙ sym (append-assoc (digits 2 i ++ value x) (fields-from (suc i) xs) (fields-from (i + suc (length xs)) ys))
+
+module _ (no-acknowledge : Bool) where
+  abbrev flag : ℕ
+  flag = cond no-acknowledge digit-1 digit-0
+
+  pub is-0052-1 : (x : List ℕ) → length x ≡ 25 → frame 52 1 flag (laid-out 1 identifier-1 x) ≡ frame-0052 1 no-acknowledge x
+  unfolding frame-0052 laid-out
+  is-0052-1 x e = rw (take-all 25 x (omega arith))
+
+  pub is-0052-2 : (revision : ℕ) (x : List ℕ) → (revision ≡ 1 → ⊥) → length x ≡ 25
+      → frame 52 revision flag (laid-out 1 identifier-2 x) ≡ frame-0052 revision no-acknowledge x
+  unfolding frame-0052 laid-out
+  is-0052-2 revision x h e = rw (ne-eqb revision 1 h, take-all 25 x (omega arith))
+
+  pub is-0061 : (revision : ℕ) (bs rs : List ℕ)
+      → frame 61 revision flag (laid-out 1 controller bs ++ laid-out 4 result rs) ≡ frame-0061 (settings-of bs) revision no-acknowledge (result-of rs)
+  unfolding frame-0061 laid-out settings-of result-of tightening-of
+  is-0061 revision bs rs =
+      ap (frame 61 revision flag)
+      (sym (fields-append 1 (controller-fields (settings-of bs)) (result-fields (result-of rs) (tightening-of rs))))

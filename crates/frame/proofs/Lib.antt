@@ -1,0 +1,4 @@
+pub mod Tests
+pub mod Headers
+pub mod Frames
+pub mod Built

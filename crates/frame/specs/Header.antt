@@ -1,0 +1,16 @@
+-- What the header reader answers, in the model's terms. 01, "Runs and headers". Assumes nothing: these are definitions.
+use Prim.Native.Nat.{ℕ}
+use mathlib.Core.List.{List}
+use mathlib.Core.Option.{Option, none, some}
+use Rattle.model.specs.Runs.{Message as Heard, read-run}
+use Rattle.frame.specs.declared.Header.{Header}
+use Rattle.frame.specs.declared.Header.the-variants.{Dropped, Message}
+
+-- a run that is no message is dropped
+abbrev pub shown : Option Heard → Header
+shown none = Dropped
+shown (some m) = Message (m .size) (m .mid) (m .revision) (m .no-acknowledge)
+
+-- of a run of `count` bytes, of which these are the first
+unfoldable pub header-of : List ℕ → ℕ → Header
+header-of bs count = shown (read-run (record { kept = bs; count = count }))

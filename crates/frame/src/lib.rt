@@ -1,0 +1,358 @@
+// Frames: the header of a received one is read, and those that we send are put together by layouts.
+ghost use mathlib.Core.Path.{_≡_};
+ghost use mathlib.Core.Bool.{true, cond, _||_};
+ghost use Prim.Native.Nat.{_+_, _≤_, _<_};
+ghost use lib.ListN.{length, take, drop};
+ghost use Rattle.model.specs.Bytes.{digit-0, digit-1, is-digit, is-space, all};
+ghost use Rattle.model.specs.Runs.{is-flag as is-flag-byte, revision-of, is-message as is-message-run};
+ghost use Rattle.model.specs.Records.{settings-of};
+ghost use Rattle.model.specs.Frames.{
+  header as header-bytes,
+  value,
+  frame-0002,
+  frame-0004,
+  frame-0005,
+  frame-0052,
+  frame-0061,
+  frame-record,
+  close-record,
+};
+ghost use Rattle.text.specs.Put.{Put};
+ghost use Rattle.frame.specs.Header.{header-of};
+ghost use Rattle.frame.specs.Layout.{width as width-of, field-of, laid-out, layout-length, served, result-of};
+
+// ---- the header of a received run
+
+// What a run is: no message, or a message with what its header says.
+pub enum Header {
+    Dropped,
+    Message {
+        size: usize,
+        mid: u64,
+        revision: u64,
+        no_acknowledge: bool,
+    },
+}
+
+// Whether byte 12 is one that a header may have.
+fn is_flag(b: u8) -> bool
+    ensures { λ r. ⌜ r ≡ is-flag-byte b ⌝ }
+{
+    match b {
+        b'0' => true,
+        b'1' => true,
+        b' ' => true,
+        _ => false,
+    }
+}
+
+// Whether bytes 9 to 11 are digits or spaces.
+fn is_revision(s: &[u8]) -> bool
+    ensures { λ r. ⌜ r ≡ (all is-digit (now (s .entry)) || all is-space (now (s .entry))) ⌝ }
+{
+    if text::is_digits(s) {
+        return true;
+    }
+    text::is_spaces(s)
+}
+
+// The revision that they give.
+fn revision(s: &[u8]) -> u64
+    requires { ⌜ length (now s) ≤ 19 ⌝ }
+    requires { ⌜ (all is-digit (now s) || all is-space (now s)) ≡ true ⌝ }
+    ensures { λ r. ⌜ r ≡ revision-of (now (s .entry)) ⌝ }
+{
+    if text::is_spaces(s) {
+        return 1;
+    }
+    let n = text::decimal(s);
+    if n == 0 {
+        return 1;
+    }
+    n
+}
+
+// Whether a run of count bytes, whose first are these, is a message.
+fn is_message(run: &[u8], count: usize) -> bool
+    ensures { λ r. ⌜ r ≡ is-message-run (record { kept = now (run .entry); count = «count» }) ⌝ }
+{
+    if run.len() < 20 {
+        return false;
+    }
+    if count > 9999 {
+        return false;
+    }
+    let length = &run[0..4];
+    if !text::is_digits(length) {
+        return false;
+    }
+    if text::decimal(length) != count as u64 {
+        return false;
+    }
+    if !text::is_digits(&run[4..8]) {
+        return false;
+    }
+    if !is_revision(&run[8..11]) {
+        return false;
+    }
+    is_flag(run[11])
+}
+
+// What a run of count bytes, whose first are these, is.
+pub fn read_header(run: &[u8], count: usize) -> Header
+    ensures { λ r. ⌜ r ≡ header-of (now (run .entry)) «count» ⌝ }
+{
+    if !is_message(run, count) {
+        return Header::Dropped;
+    }
+    Header::Message {
+        size: count,
+        mid: text::decimal(&run[4..8]),
+        revision: revision(&run[8..11]),
+        no_acknowledge: run[11] == b'1',
+    }
+}
+
+// The data field: what stands behind the header, as part of the caller's bytes.
+pub fn data_field(run: &[u8]) -> &[u8]
+    ensures { λ r. ⌜ now r ≡ drop 20 (now (run .entry)) ⌝ }
+{
+    if run.len() < 20 {
+        return &run[..0];
+    }
+    &run[20..]
+}
+
+// ---- layouts: a row is a field's width, how many bytes it is read from, and where they begin in the source
+
+// A row of so many bytes is a text, which is copied; one of so many is spaces.
+const COPIED: usize = 0;
+
+const BLANK: usize = 9;
+
+// Fields 01 to 03 of 0002 and 0061, of the settings: cell, channel, name.
+const CONTROLLER: [[usize; 3]; 3] = [[4, 2, 0], [2, 1, 2], [25, COPIED, 4]];
+
+// 0052, of the identifier.
+const IDENTIFIER_1: [[usize; 3]; 1] = [[25, COPIED, 0]];
+
+const IDENTIFIER_2: [[usize; 3]; 4] = [
+    [25, COPIED, 0],
+    [25, BLANK, 0],
+    [25, BLANK, 0],
+    [25, BLANK, 0],
+];
+
+// Fields 04 to 23 of 0061, of a result as it is kept.
+const RESULT: [[usize; 3]; 20] = [
+    // identifier, job, parameter set, batch size, batch counter
+    [25, COPIED, 0],
+    [2, 1, 25],
+    [3, 2, 26],
+    [4, 2, 28],
+    [4, 2, 30],
+    // tightening status, torque status, angle status
+    [1, 1, 32],
+    [1, 1, 33],
+    [1, 1, 34],
+    // torques: min, max, target, the torque
+    [6, 4, 35],
+    [6, 4, 39],
+    [6, 4, 43],
+    [6, 4, 47],
+    // angles: min, max, target, the angle
+    [5, 4, 51],
+    [5, 4, 55],
+    [5, 4, 59],
+    [5, 4, 63],
+    // time, parameter set change time, batch status, tightening number
+    [19, COPIED, 67],
+    [19, COPIED, 86],
+    [1, 1, 105],
+    [10, 4, 106],
+];
+
+// The value of one field.
+fn put_value(out: &mut [u8], at: usize, row: &[usize; 3], source: &[u8]) -> usize
+    requires { ⌜ (served (length (now source)) (now row) ≡ true) × (at + width-of (now row) ≤ length (now out)) ⌝ }
+    ensures { λ r. ⌜ (r ≡ at + width-of (now (row .entry))) × Put (now (out .entry)) at (value (field-of (now (source .entry)) (now (row .entry)))) r (now (out .exit)) ⌝ }
+{
+    let width = row[0];
+    let size = row[1];
+    let from = row[2];
+    if size == COPIED {
+        return text::copy(&source[from..from + width], out, at);
+    }
+    if size == BLANK {
+        return text::fill(out, at, width, b' ');
+    }
+    text::put_digits(out, at, width, text::little(source, from, size))
+}
+
+// The fields of a layout, each with its number before it, from `first` on.
+fn put_fields(out: &mut [u8], at: usize, first: u64, rows: &[[usize; 3]], source: &[u8]) -> usize
+    requires { ⌜ (all (served (length (now source))) (now rows) ≡ true) × (at + layout-length (now rows) ≤ length (now out)) × (first + length (now rows) ≤ 100) ⌝ }
+    ensures { λ r. ⌜ (r ≡ at + layout-length (now (rows .entry))) × Put (now (out .entry)) at (laid-out first (now (rows .entry)) (now (source .entry))) r (now (out .exit)) ⌝ }
+{
+    let mut to = at;
+    let mut k = 0;
+    while k < rows.len() {
+        let n = text::put_digits(out, to, 2, first + k as u64);
+        to = put_value(out, n, &rows[k], source);
+        k += 1;
+    }
+    to
+}
+
+// A frame's header.
+fn put_header(out: &mut [u8], size: u64, mid: u64, revision: u64, byte_12: u8) -> usize
+    requires { ⌜ 20 ≤ length (now out) ⌝ }
+    ensures { λ r. ⌜ (r ≡ 20) × Put (now (out .entry)) 0 (header-bytes size mid revision byte_12) r (now (out .exit)) ⌝ }
+{
+    let at = text::put_digits(out, 0, 4, size);
+    let at = text::put_digits(out, at, 4, mid);
+    let at = text::put_digits(out, at, 3, revision);
+    let at = text::fill(out, at, 1, byte_12);
+    text::fill(out, at, 8, b' ')
+}
+
+// ---- output records
+
+// A frame to session s, with its NUL.
+pub fn put_frame(out: &mut [u8], at: usize, s: u64, frame: &[u8]) -> usize
+    requires { ⌜ (at + length (now frame) + 5 ≤ length (now out)) × (s < 256) ⌝ }
+    ensures { λ r. ⌜ (r ≡ at + length (now (frame .entry)) + 5) × Put (now (out .entry)) at (frame-record s (now (frame .entry))) r (now (out .exit)) ⌝ }
+{
+    let at = text::put_little(out, at, 2, (frame.len() + 1) as u64);
+    let at = text::put_little(out, at, 2, 256 + s);
+    let at = text::copy(frame, out, at);
+    text::put_little(out, at, 1, 0)
+}
+
+// The order to close session s.
+pub fn put_close(out: &mut [u8], at: usize, s: u64) -> usize
+    requires { ⌜ (at + 4 ≤ length (now out)) × (s < 256) ⌝ }
+    ensures { λ r. ⌜ (r ≡ at + 4) × Put (now (out .entry)) at (close-record s) r (now (out .exit)) ⌝ }
+{
+    let at = text::put_little(out, at, 2, 0);
+    text::put_little(out, at, 2, 512 + s)
+}
+
+// ---- the frames that we write: each is put together in a scratch array and copied to its output record
+
+// 0002: the session is started. The settings are a settings record's payload.
+pub fn put_0002(out: &mut [u8], at: usize, s: u64, settings: &[u8]) -> usize
+    requires { ⌜ (at + 62 ≤ length (now out)) × (s < 256) × (length (now settings) ≡ 33) ⌝ }
+    ensures { λ r. ⌜ (r ≡ at + 62) × Put (now (out .entry)) at (frame-record s (frame-0002 (settings-of (now (settings .entry))))) r (now (out .exit)) ⌝ }
+{
+    let mut frame = [0u8; 57];
+    let to = put_header(&mut frame, 57, 2, 1, b' ');
+    put_fields(&mut frame, to, 1, &CONTROLLER, settings);
+    put_frame(out, at, s, &frame)
+}
+
+// 0004: message mid has an error.
+pub fn put_0004(out: &mut [u8], at: usize, s: u64, mid: u64, error: u64) -> usize
+    requires { ⌜ (at + 31 ≤ length (now out)) × (s < 256) ⌝ }
+    ensures { λ r. ⌜ (r ≡ at + 31) × Put (now (out .entry)) at (frame-record s (frame-0004 mid error)) r (now (out .exit)) ⌝ }
+{
+    let mut frame = [0u8; 26];
+    let to = put_header(&mut frame, 26, 4, 1, b' ');
+    let to = text::put_digits(&mut frame, to, 4, mid);
+    text::put_digits(&mut frame, to, 2, error);
+    put_frame(out, at, s, &frame)
+}
+
+// 0005: message mid is accepted.
+pub fn put_0005(out: &mut [u8], at: usize, s: u64, mid: u64) -> usize
+    requires { ⌜ (at + 29 ≤ length (now out)) × (s < 256) ⌝ }
+    ensures { λ r. ⌜ (r ≡ at + 29) × Put (now (out .entry)) at (frame-record s (frame-0005 mid)) r (now (out .exit)) ⌝ }
+{
+    let mut frame = [0u8; 24];
+    let to = put_header(&mut frame, 24, 5, 1, b' ');
+    text::put_digits(&mut frame, to, 4, mid);
+    put_frame(out, at, s, &frame)
+}
+
+// Byte 12 of a notice.
+fn byte_12(no_acknowledge: bool) -> u8
+    ensures { λ r. ⌜ r ≡ cond «no_acknowledge» digit-1 digit-0 ⌝ }
+{
+    if no_acknowledge { b'1' } else { b'0' }
+}
+
+// 0052, revision 1.
+fn put_0052_1(out: &mut [u8], at: usize, s: u64, no_acknowledge: bool, identifier: &[u8]) -> usize
+    requires { ⌜ (at + 52 ≤ length (now out)) × (s < 256) × (length (now identifier) ≡ 25) ⌝ }
+    ensures { λ r. ⌜ (r ≡ at + 52) × Put (now (out .entry)) at (frame-record s (frame-0052 1 «no_acknowledge» (now (identifier .entry)))) r (now (out .exit)) ⌝ }
+{
+    let mut frame = [0u8; 47];
+    let to = put_header(&mut frame, 47, 52, 1, byte_12(no_acknowledge));
+    put_fields(&mut frame, to, 1, &IDENTIFIER_1, identifier);
+    put_frame(out, at, s, &frame)
+}
+
+// 0052, any later revision.
+fn put_0052_2(
+    out: &mut [u8],
+    at: usize,
+    s: u64,
+    revision: u64,
+    no_acknowledge: bool,
+    identifier: &[u8],
+) -> usize
+    requires { ⌜ (at + 133 ≤ length (now out)) × (s < 256) × (length (now identifier) ≡ 25) ⌝ }
+    requires { ⌜ (revision ≡ 1 → ⊥) ⌝ }
+    ensures { λ r. ⌜ (r ≡ at + 133) × Put (now (out .entry)) at (frame-record s (frame-0052 revision «no_acknowledge» (now (identifier .entry)))) r (now (out .exit)) ⌝ }
+{
+    let mut frame = [0u8; 128];
+    let to = put_header(&mut frame, 128, 52, revision, byte_12(no_acknowledge));
+    put_fields(&mut frame, to, 1, &IDENTIFIER_2, identifier);
+    put_frame(out, at, s, &frame)
+}
+
+// 0052: an identifier, to a session that subscribed so.
+pub fn put_0052(
+    out: &mut [u8],
+    at: usize,
+    s: u64,
+    revision: u64,
+    no_acknowledge: bool,
+    identifier: &[u8],
+) -> usize
+    requires { ⌜ (at + 133 ≤ length (now out)) × (s < 256) × (length (now identifier) ≡ 25) ⌝ }
+    ensures { λ r. ⌜ (r ≤ at + 133) × Put (now (out .entry)) at (frame-record s (frame-0052 revision «no_acknowledge» (now (identifier .entry)))) r (now (out .exit)) ⌝ }
+{
+    if revision == 1 {
+        return put_0052_1(out, at, s, no_acknowledge, identifier);
+    }
+    put_0052_2(out, at, s, revision, no_acknowledge, identifier)
+}
+
+// 0061: a result as it is kept, to a session that subscribed so.
+pub fn put_0061(
+    out: &mut [u8],
+    at: usize,
+    s: u64,
+    revision: u64,
+    no_acknowledge: bool,
+    settings: &[u8],
+    result: &[u8],
+) -> usize
+    requires { ⌜ (at + 236 ≤ length (now out)) × (s < 256) × (length (now settings) ≡ 33) × (length (now result) ≡ 110) ⌝ }
+    ensures { λ r. ⌜ (r ≡ at + 236) × Put (now (out .entry)) at (frame-record s (frame-0061 (settings-of (now (settings .entry))) revision «no_acknowledge» (result-of (now (result .entry))))) r (now (out .exit)) ⌝ }
+{
+    let mut frame = [0u8; 231];
+    let to = put_header(&mut frame, 231, 61, revision, byte_12(no_acknowledge));
+    let to = put_fields(&mut frame, to, 1, &CONTROLLER, settings);
+    put_fields(&mut frame, to, 4, &RESULT, result);
+    put_frame(out, at, s, &frame)
+}
+
+// 9999: the header as it came.
+pub fn put_9999(out: &mut [u8], at: usize, s: u64, run: &[u8]) -> usize
+    requires { ⌜ (at + 25 ≤ length (now out)) × (s < 256) × (20 ≤ length (now run)) ⌝ }
+    ensures { λ r. ⌜ (r ≡ at + 25) × Put (now (out .entry)) at (frame-record s (take 20 (now (run .entry)))) r (now (out .exit)) ⌝ }
+{
+    put_frame(out, at, s, &run[0..20])
+}
