@@ -210,7 +210,7 @@ fn own_error(x: Standing, e: Effect) -> Verdict
 }
 
 // The error of a message of that number, length, revision and data: the tests in order.
-pub fn judge(x: Standing, mid: u64, size: u64, revision: u64, data_field: &[u8]) -> Verdict
+pub fn judge(x: Standing, mid: u64, size: usize, revision: u64, data_field: &[u8]) -> Verdict
     ensures { λ r. ⌜ error-in r ≡ error-of (standing-of x) mid size revision (now (data_field .entry)) ⌝ }
 {
     let row = row_of(mid);
@@ -226,7 +226,7 @@ pub fn judge(x: Standing, mid: u64, size: u64, revision: u64, data_field: &[u8])
     if starts_again(x.started, mid) {
         return Verdict::AlreadyStarted;
     }
-    if !within(least, greatest, size) {
+    if !within(least, greatest, size as u64) {
         return Verdict::Length;
     }
     if !within(oldest, newest, revision) {
