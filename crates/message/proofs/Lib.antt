@@ -1,0 +1,4 @@
+pub mod AtEach
+pub mod Rule
+pub mod Tests
+pub mod Order

@@ -1,0 +1,91 @@
+-- `message::judge` meets its contract: at each return the tests that were made say which case of the paper's order holds. Assumes nothing.
+use borrow.Author.Needs.{needs}
+use borrow.Author.Tests.{not-true, not-false}
+use mathlib.Core.Path.{refl, sym, _∙_, ap}
+use Rattle.message.specs.Inner.{own-error}
+use Rattle.message.proofs.Order.{unknown, ordered}
+use Rattle.message.proofs.judge.Statement.{statement}
+use Rattle.message.proofs.judge.Tie as tie
+
+returns : tie.Need-returns
+returns c = unknown _ _ _ _ _ (c .enum-told .given .1) (c .before .before .row-of .ensures)
+
+returns-2 : tie.Need-returns-2
+returns-2 c =
+    let l = c .before .before .before in
+    ordered _ _ _ _ _ (search needs) (l .row .given .1) (l .before .before .row-of .ensures)
+    (sym (c .if1 .taken) ∙ c .before .starts-again .ensures)
+    refl
+    refl
+    refl
+    refl
+
+returns-3 : tie.Need-returns-3
+returns-3 c =
+    let a = c .before .before in
+    let l = a .before .before .before in
+    ordered _ _ _ _ _ (search needs) (l .row .given .1) (l .before .before .row-of .ensures)
+    (sym (a .if1 .left) ∙ a .before .starts-again .ensures)
+    (sym (not-true _ (c .if2 .taken)) ∙ c .before .within .ensures)
+    refl
+    refl
+    refl
+
+returns-4 : tie.Need-returns-4
+returns-4 c =
+    let s = c .before .before in
+    let a = s .before .before in
+    let l = a .before .before .before in
+    ordered _ _ _ _ _ (search needs) (l .row .given .1) (l .before .before .row-of .ensures)
+    (sym (a .if1 .left) ∙ a .before .starts-again .ensures)
+    (sym (not-false _ (s .if2 .left)) ∙ s .before .within .ensures)
+    (sym (not-true _ (c .if3 .taken)) ∙ c .before .within2 .ensures)
+    refl
+    refl
+
+returns-5 : tie.Need-returns-5
+returns-5 c =
+    let v = c .before .before in
+    let s = v .before .before in
+    let a = s .before .before in
+    let l = a .before .before .before in
+    ordered _ _ _ _ _ (search needs) (l .row .given .1) (l .before .before .row-of .ensures)
+    (sym (a .if1 .left) ∙ a .before .starts-again .ensures)
+    (sym (not-false _ (s .if2 .left)) ∙ s .before .within .ensures)
+    (sym (not-false _ (v .if3 .left)) ∙ v .before .within2 .ensures)
+    (sym (not-true _ (c .if4 .taken)) ∙ c .before .is-text .ensures)
+    refl
+
+returns-6 : tie.Need-returns-6
+returns-6 c =
+    let t = c .before .before in
+    let v = t .before .before in
+    let s = v .before .before in
+    let a = s .before .before in
+    let l = a .before .before .before in
+    ordered _ _ _ _ _ (search needs) (l .row .given .1) (l .before .before .row-of .ensures)
+    (sym (a .if1 .left) ∙ a .before .starts-again .ensures)
+    (sym (not-false _ (s .if2 .left)) ∙ s .before .within .ensures)
+    (sym (not-false _ (v .if3 .left)) ∙ v .before .within2 .ensures)
+    (sym (not-false _ (t .if4 .left)) ∙ t .before .is-text .ensures)
+    (c .own-error .ensures ∙ ap (own-error _) (c .before .effect-of .ensures))
+
+pub judge-spec : {M : Type 1} → statement M
+judge-spec =
+    tie.close
+    (tie.spec
+    (λ c κs. search needs)
+    (λ c. search needs)
+    (λ c. search needs)
+    returns
+    (λ c κs. search needs)
+    returns-2
+    (λ c κs. search needs)
+    returns-3
+    (λ c κs. search needs)
+    returns-4
+    (λ c κs. search needs)
+    returns-5
+    (λ c κs. search needs)
+    (λ c κs. search needs)
+    returns-6)

@@ -1,0 +1,239 @@
+// What a message does, and the error that it has (01, "What a message does"): decided by value, whatever the numbers are.
+ghost use mathlib.Core.Path.{_≡_};
+ghost use mathlib.Core.Bool.{cond, _&&_};
+ghost use mathlib.Core.Option.{none, some};
+ghost use lib.Dec.{eqb};
+ghost use Rattle.model.specs.Bytes.{within as is-within};
+ghost use Rattle.model.specs.Messages.{entry-of, own, error-of};
+ghost use Rattle.message.specs.Meaning.{effect-in, effect-listed, answered, standing-of, error-in, error-number};
+ghost use Rattle.message.specs.Inner.{Lists, own-error};
+
+// ---- what a message does
+
+// The kinds of notice.
+pub const IDENTIFIERS: usize = 0;
+
+pub const TIGHTENINGS: usize = 1;
+
+// What a message does when it has no error; the number is that of its own error.
+pub enum Effect {
+    Unknown,
+    Starts,
+    Stops,
+    Identifies { error: u64 },
+    Subscribes { kind: usize, error: u64 },
+    Unsubscribes { kind: usize, error: u64 },
+    Acknowledges { kind: usize },
+    Mirrors,
+}
+
+// The decision over message numbers.
+pub fn effect_of(mid: u64) -> Effect
+    ensures { λ r. ⌜ effect-in r ≡ effect-listed (entry-of mid) ⌝ }
+{
+    match mid {
+        1 => Effect::Starts,
+        3 => Effect::Stops,
+        50 => Effect::Identifies { error: 8 },
+        51 => Effect::Subscribes {
+            kind: IDENTIFIERS,
+            error: 6,
+        },
+        53 => Effect::Acknowledges { kind: IDENTIFIERS },
+        54 => Effect::Unsubscribes {
+            kind: IDENTIFIERS,
+            error: 7,
+        },
+        60 => Effect::Subscribes {
+            kind: TIGHTENINGS,
+            error: 9,
+        },
+        62 => Effect::Acknowledges { kind: TIGHTENINGS },
+        63 => Effect::Unsubscribes {
+            kind: TIGHTENINGS,
+            error: 10,
+        },
+        9999 => Effect::Mirrors,
+        _ => Effect::Unknown,
+    }
+}
+
+// Whether a message is ever answered: an acknowledge is not, and an unknown one is.
+pub fn gets_reply(e: Effect) -> bool
+    ensures { λ r. ⌜ r ≡ answered (effect-in e) ⌝ }
+{
+    match e {
+        Effect::Unknown => true,
+        Effect::Starts => true,
+        Effect::Stops => true,
+        Effect::Identifies { error: _ } => true,
+        Effect::Subscribes { kind: _, error: _ } => true,
+        Effect::Unsubscribes { kind: _, error: _ } => true,
+        Effect::Acknowledges { kind: _ } => false,
+        Effect::Mirrors => true,
+    }
+}
+
+// ---- each message's lengths and revisions
+
+// The greatest revision of a message whose revision is not read.
+const ANY: u64 = 0xFFFF_FFFF_FFFF_FFFF;
+
+// A message's number, its least and greatest length, its least and greatest revision.
+const MESSAGES: [[u64; 5]; 10] = [
+    [1, 20, 20, 1, 1],
+    [3, 20, 20, 0, ANY],
+    [50, 21, 45, 1, 1],
+    [51, 20, 20, 1, 2],
+    [53, 20, 20, 0, ANY],
+    [54, 20, 20, 0, ANY],
+    [60, 20, 20, 1, 1],
+    [62, 20, 20, 0, ANY],
+    [63, 20, 20, 0, ANY],
+    [9999, 20, 20, 0, ANY],
+];
+
+// What the table has for a message number.
+enum Listed {
+    Not,
+    Row {
+        least: u64,
+        greatest: u64,
+        oldest: u64,
+        newest: u64,
+    },
+}
+
+fn row_of(mid: u64) -> Listed
+    ensures { λ r. ⌜ Lists mid r (entry-of mid) ⌝ }
+{
+    let mut k = 0;
+    while k < 10 {
+        let row = MESSAGES[k];
+        if row[0] == mid {
+            return Listed::Row {
+                least: row[1],
+                greatest: row[2],
+                oldest: row[3],
+                newest: row[4],
+            };
+        }
+        k += 1;
+    }
+    Listed::Not
+}
+
+// ---- the tests
+
+// What the tests look at besides the message: the last two say which kinds of notice the session is subscribed to.
+pub struct Standing {
+    pub started: bool,
+    pub granted: bool,
+    pub identifiers: bool,
+    pub tightenings: bool,
+}
+
+// What the tests find; an own error has its number.
+pub enum Verdict {
+    Fine,
+    Unknown,
+    AlreadyStarted,
+    Length,
+    Revision,
+    Data,
+    Own(u64),
+}
+
+// The number that a reply gives for what the tests found, and 0 for no error.
+pub fn error_code(v: Verdict) -> u64
+    ensures { λ r. ⌜ r ≡ error-number (error-in v) ⌝ }
+{
+    match v {
+        Verdict::Fine => 0,
+        Verdict::Unknown => 99,
+        Verdict::AlreadyStarted => 96,
+        Verdict::Length => 1,
+        Verdict::Revision => 97,
+        Verdict::Data => 1,
+        Verdict::Own(error) => error,
+    }
+}
+
+// Whether 0001 comes to a session that is started.
+fn starts_again(started: bool, mid: u64) -> bool
+    ensures { λ r. ⌜ r ≡ (started && eqb mid 1) ⌝ }
+{
+    started && mid == 1
+}
+
+fn within(least: u64, greatest: u64, n: u64) -> bool
+    ensures { λ r. ⌜ r ≡ is-within least greatest n ⌝ }
+{
+    least <= n && n <= greatest
+}
+
+fn subscribed(x: Standing, kind: usize) -> bool
+    ensures { λ r. ⌜ r ≡ (standing-of x) .subscribed kind ⌝ }
+{
+    match kind {
+        IDENTIFIERS => x.identifiers,
+        TIGHTENINGS => x.tightenings,
+        _ => false,
+    }
+}
+
+// An own error, where its test applies.
+fn own_if(applies: bool, error: u64) -> Verdict
+    ensures { λ r. ⌜ error-in r ≡ cond applies (some (own error)) none ⌝ }
+{
+    if applies {
+        Verdict::Own(error)
+    } else {
+        Verdict::Fine
+    }
+}
+
+// The message's own test.
+fn own_error(x: Standing, e: Effect) -> Verdict
+    ensures { λ r. ⌜ error-in r ≡ own-error (standing-of x) (effect-in e) ⌝ }
+{
+    match e {
+        Effect::Unknown => Verdict::Unknown,
+        Effect::Starts => Verdict::Fine,
+        Effect::Stops => Verdict::Fine,
+        Effect::Identifies { error } => own_if(!x.granted, error),
+        Effect::Subscribes { kind, error } => own_if(subscribed(x, kind), error),
+        Effect::Unsubscribes { kind, error } => own_if(!subscribed(x, kind), error),
+        Effect::Acknowledges { kind: _ } => Verdict::Fine,
+        Effect::Mirrors => Verdict::Fine,
+    }
+}
+
+// The error of a message of that number, length, revision and data: the tests in order.
+pub fn judge(x: Standing, mid: u64, size: usize, revision: u64, data_field: &[u8]) -> Verdict
+    ensures { λ r. ⌜ error-in r ≡ error-of (standing-of x) mid size revision (now (data_field .entry)) ⌝ }
+{
+    let row = row_of(mid);
+    let Listed::Row {
+        least,
+        greatest,
+        oldest,
+        newest,
+    } = row
+    else {
+        return Verdict::Unknown;
+    };
+    if starts_again(x.started, mid) {
+        return Verdict::AlreadyStarted;
+    }
+    if !within(least, greatest, size as u64) {
+        return Verdict::Length;
+    }
+    if !within(oldest, newest, revision) {
+        return Verdict::Revision;
+    }
+    if !text::is_text(data_field) {
+        return Verdict::Data;
+    }
+    own_error(x, effect_of(mid))
+}
