@@ -1,0 +1,34 @@
+# Two commands matter: `make run` shows what there is, `make test` runs everything that the gate runs.
+SHELL := /bin/bash
+.SHELLFLAGS := -euo pipefail -c
+.DEFAULT_GOAL := help
+.PHONY: help run test format tools clean
+
+help:
+	@echo "make run    proves the library and shows what is proved"
+	@echo "make test   everything that the gate runs: layout, proofs, must-fail edits, programs"
+	@echo "make format lays the sources out"
+	@echo "make clean  removes what was built"
+
+# What the commands need besides the toolchain, from Debian's packages.
+tools:
+	@for tool in git; do \
+	  command -v $$tool > /dev/null || { apt-get update -qq && apt-get install -y -qq $$tool; }; \
+	done
+	@command -v rt > /dev/null || { echo "the Rattle toolchain's command rt is not on the PATH" >&2; exit 1; }
+
+run: tools
+	@rt check | grep '^rt:'
+	@echo "each of these public functions is proved to answer what its ensures says:"
+	@grep -oE '^pub fn [a-z0-9_]+' crates/*/src/*.rt | sed -E 's#crates/([a-z]+)/.*:pub fn (.*)#  \1::\2#'
+
+# rt ci comes last: its own last line is the gate's.
+test: tools
+	@rt fmt --check
+	@rt ci
+
+format: tools
+	@rt fmt
+
+clean:
+	@rm -rf target
