@@ -1,3 +1,8 @@
+pub mod Text
+pub mod Histories
+pub mod Examples
+pub mod Cases
+pub mod Rules
 pub mod RowLaws
 pub mod Sessions
 pub mod Erase

@@ -1,0 +1,152 @@
+-- 01, section by section: an example of each rule that neither the worked example nor the cases (a) to (l) show, in one table with
+-- one computed test. Assumes nothing.
+use Prim.Native.Nat.{ℕ}
+use Prim.Native.String.{String}
+use mathlib.Core.Path.{_≡_, refl}
+use mathlib.Core.List.{List, [], _∷_, _++_}
+use lib.ListN.{replicate}
+use Rattle.model.proofs.Text.{_&_, ascii}
+use Rattle.model.proofs.Histories.{settings, result-of-guide, a-tightening, scan, opened, hung-up, received, message, sends, tick, ticks, line4, up, on, told, alive, welcome, accepted, refused, notice-0061, result, copy, prints, takes, Example, example, answered, outcome, failing}
+
+-- ==== histories and lines
+
+-- session 0 acknowledges a tightening
+abbrev acks : List ℕ
+acks = sends 0 "00200062001_________"
+
+-- that session is opened, started and subscribed to identifiers, with acknowledge
+abbrev joins : ℕ → List (List ℕ)
+joins s = opened s ∷ sends s "00200001001_________" ∷ sends s "00200051001_________" ∷ []
+
+-- the lines of that, but for the session
+abbrev joined : String → List String
+joined s =
+    (s & " S 00570002001_________010012020303LINE4____________________") ∷ (s & " S 00240005001_________0051") ∷ []
+
+-- 0052 to that session, the identifier being one letter
+abbrev identified : String → String → String
+identified s letter = s & " S 004700520010________01" & letter & "________________________"
+
+-- ==== the table
+
+abbrev pub rules : List Example
+rules =
+    -- "What the product holds": the refusals, and what a start does
+    example "2 before a start, whatever else" (tick ∷ opened 4 ∷ sends 0 "" ∷ []) (prints ("R 2" ∷ "R 2" ∷ "R 2" ∷ []))
+    ∷ example "4 and 5 and 6" (line4 ∷ opened 4 ∷ hung-up 15 ∷ hung-up 3 ∷ opened 3 ∷ opened 3 ∷ [])
+    (prints ("R 4" ∷ "R 4" ∷ "R 5" ∷ "R 6" ∷ []))
+    ∷ example "7: an identifier with NUL in it" (up ++ scan "A\0" ∷ []) (prints ("R 7" ∷ []))
+    ∷ example "7 before 8; a scanned identifier is never 8"
+    (settings 0 0 0 "" 4_294_967_295 ∷ a-tightening ∷ result-of-guide "\u{1f}" ∷ scan "A" ∷ [])
+    (prints ("R 8" ∷ "R 7" ∷ []))
+    ∷ example "9, and the session stays" (up ++ settings 10_000 3 1 "LINE4" 0 ∷ opened 0 ∷ []) (prints ("R 9" ∷ "R 6" ∷ []))
+    ∷ example "a start closes every session, and no identifier is in force"
+    (on ++ scan "A" ∷ line4 ∷ acks ∷ told ++ result-of-guide "" ∷ [])
+    (prints
+    (welcome ∷ "R 5" ∷ welcome ∷ accepted "0060" ∷ result "_________________________" "0000000001" ∷ []))
+    ∷ example "taken: 1 and 4" (told ++ opened 1 ∷ joins 2 ++ sends 2 "002000600011________" ∷ a-tightening ∷ scan "A" ∷ [])
+    (takes (replicate 9 0 ++ 5 ∷ 4 ∷ []))
+    -- "Runs and headers"
+    ∷ example "a run in three calls, a second in the last of them"
+    (up
+    ++ received 0 (ascii "0020")
+    ∷ received 0 []
+    ∷ received 0 (ascii "0001001        ")
+    ∷ received 0 (ascii " \0" ++ message "00209999001_________")
+    ∷ [])
+    (prints (welcome ∷ "0 S 00209999001_________" ∷ []))
+    ∷ example "a revision of two digits, a fourth flag" (on ++ sends 0 "0020999901__________" ∷ sends 0 "002099990012________" ∷ [])
+    (prints (welcome ∷ []))
+    -- "What a message does": the tests in their order
+    ∷ example "0001 before start, 01 before 97" (up ++ sends 0 "00210001002__________" ∷ []) (prints (refused "000101" ∷ []))
+    ∷ answered "96 before 01" "00210001001__________" (refused "000196")
+    ∷ answered "01 before 97" "00210060002__________" (refused "006001")
+    ∷ answered "97 before the data's 01" "00210050002_________\u{7f}" (refused "005097")
+    ∷ example "the data's 01 before 08"
+    (settings 12 3 0 "LINE4" 0 ∷ opened 0 ∷ sends 0 "00200001001_________" ∷ sends 0 "00210050001_________\u{7f}" ∷ [])
+    (prints (welcome ∷ refused "005001" ∷ []))
+    ∷ answered "0051 has revision 2" "00200051002_________" (accepted "0051")
+    ∷ answered "and no third" "00200051003_________" (refused "005197")
+    ∷ answered "0054's revision is not read" "00200054999_________" (refused "005407")
+    ∷ answered "0050 of 21 bytes" "00210050001_________A" (accepted "0050")
+    ∷ example "0053 and 0062 of a wrong length count, and get no reply"
+    (on ++ ticks 14 ++ sends 0 "00210053001__________" ∷ ticks 14 ++ sends 0 "00210062001__________" ∷ tick ∷ [])
+    (prints (welcome ∷ []))
+    ∷ example "a message with an error counts" (on ++ ticks 14 ++ sends 0 "00201234001_________" ∷ tick ∷ [])
+    (prints (welcome ∷ refused "123499" ∷ []))
+    ∷ example "0050 is in force, padded" (told ++ sends 0 "00220050001_________AB" ∷ result-of-guide "" ∷ [])
+    (prints (welcome ∷ accepted "0060" ∷ accepted "0050" ∷ result "AB_______________________" "0000000001" ∷ []))
+    -- "Notices and the clock"
+    ∷ example "a reply, then the notices by session, the sender's too"
+    (line4 ∷ joins 3 ++ joins 0 ++ opened 1 ∷ sends 3 "00210050001_________A" ∷ [])
+    (prints
+    (joined "3" ++ joined "0" ++ "3 S 00240005001_________0050" ∷ identified "0" "A" ∷ identified "3" "A" ∷ []))
+    ∷ example "no acknowledge asked: one copy each, at once"
+    (on ++ sends 0 "002000600011________" ∷ a-tightening ∷ a-tightening ∷ alive 20)
+    (prints
+    (welcome
+    ∷ accepted "0060"
+    ∷ notice-0061 "1" "KP0L3456JKL0897__________" "0000000001"
+    ∷ notice-0061 "1" "KP0L3456JKL0897__________" "0000000002"
+    ∷ []))
+    ∷ example "eight held; the ninth has its number all the same" (told ++ replicate 9 a-tightening ++ replicate 9 acks ++ a-tightening ∷ [])
+    (prints
+    (welcome
+    ∷ accepted "0060"
+    ∷ copy "0000000001"
+    ∷ copy "0000000002"
+    ∷ copy "0000000003"
+    ∷ copy "0000000004"
+    ∷ copy "0000000005"
+    ∷ copy "0000000006"
+    ∷ copy "0000000007"
+    ∷ copy "0000000008"
+    ∷ copy "0000000010"
+    ∷ []))
+    ∷ example "the newest identifier replaces the waiting one"
+    (line4
+    ∷ joins 0
+    ++ scan "A"
+    ∷ scan "B"
+    ∷ scan "C"
+    ∷ sends 0 "00200053001_________"
+    ∷ sends 0 "00200053001_________"
+    ∷ [])
+    (prints (joined "0" ++ identified "0" "A" ∷ identified "0" "C" ∷ []))
+    ∷ example "a doubled acknowledge closes the next" (told ++ replicate 3 a-tightening ++ acks ∷ acks ∷ acks ∷ alive 20)
+    (prints (welcome ∷ accepted "0060" ∷ copy "0000000001" ∷ copy "0000000002" ∷ copy "0000000003" ∷ []))
+    ∷ example "unsubscribed, the notices are gone"
+    (told
+    ++ replicate 3 a-tightening
+    ++ sends 0 "00200063001_________"
+    ∷ sends 0 "00200060001_________"
+    ∷ acks
+    ∷ alive 20)
+    (prints (welcome ∷ accepted "0060" ∷ copy "0000000001" ∷ accepted "0063" ∷ accepted "0060" ∷ []))
+    ∷ example "given up at 120, and the next goes out" (told ++ replicate 2 a-tightening ++ alive 140)
+    (prints (welcome ∷ accepted "0060" ∷ replicate 6 (copy "0000000001") ++ replicate 2 (copy "0000000002")))
+    ∷ example "a tick: 0052, then 0061"
+    (told
+    ++ sends 0 "00200051001_________"
+    ∷ a-tightening
+    ∷ scan "A"
+    ∷ ticks 10
+    ++ sends 0 "00200060001_________"
+    ∷ ticks 10)
+    (prints
+    (welcome
+    ∷ accepted "0060"
+    ∷ accepted "0051"
+    ∷ copy "0000000001"
+    ∷ identified "0" "A"
+    ∷ refused "006009"
+    ∷ identified "0" "A"
+    ∷ copy "0000000001"
+    ∷ []))
+    -- "Counted and compared"
+    ∷ example "any other kind is a tool record" (line4 ∷ received 17 [] ∷ received 100 [] ∷ []) (prints ("R 7" ∷ "R 7" ∷ []))
+    ∷ []
+
+pub the-rules-show : failing rules ≡ []
+unfolding outcome
+the-rules-show = refl
