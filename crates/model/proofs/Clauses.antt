@@ -1,4 +1,4 @@
--- 01, section by section: an example of each rule that neither the worked example nor the cases (a) to (l) show, in one table with
+-- 01, section by section: an example of each clause that neither the worked example nor the cases (a) to (l) show, in one table with
 -- one computed test. Assumes nothing.
 use Prim.Native.Nat.{ℕ}
 use Prim.Native.String.{String}
@@ -29,8 +29,8 @@ identified s letter = s & " S 004700520010________01" & letter & "______________
 
 -- ==== the table
 
-abbrev pub rules : List Example
-rules =
+abbrev pub clauses : List Example
+clauses =
     -- "What the product holds": the refusals, and what a start does
     example "2 before a start, whatever else" (tick ∷ opened 4 ∷ sends 0 "" ∷ []) (prints ("R 2" ∷ "R 2" ∷ "R 2" ∷ []))
     ∷ example "4 and 5 and 6" (line4 ∷ opened 4 ∷ hung-up 15 ∷ hung-up 3 ∷ opened 3 ∷ opened 3 ∷ [])
@@ -147,6 +147,6 @@ rules =
     ∷ example "any other kind is a tool record" (line4 ∷ received 17 [] ∷ received 100 [] ∷ []) (prints ("R 7" ∷ "R 7" ∷ []))
     ∷ []
 
-pub the-rules-show : failing rules ≡ []
+pub the-clauses-show : failing clauses ≡ []
 unfolding outcome
-the-rules-show = refl
+the-clauses-show = refl
