@@ -5,7 +5,7 @@ use Prim.Native.String.{String}
 use mathlib.Core.Path.{_≡_, refl}
 use mathlib.Core.List.{List, [], _∷_, _++_}
 use lib.ListN.{replicate}
-use Rattle.model.proofs.Histories.{result-of-guide, a-tightening, scan, opened, hung-up, sends, tick, ticks, up, on, told, alive, welcome, accepted, refused, result, copy, prints, takes, Example, example, answered, outcome, failing}
+use Rattle.model.proofs.Histories.{result-of-guide, a-tightening, scan, opened, hung-up, sends, tick, ticks, up, on, told, alive, welcome, accepted, refused, result, copy, prints, answers, Example, example, answered, outcome, failing}
 
 -- ==== (a) to (l)
 
@@ -39,7 +39,16 @@ cases =
     ∷ repeated "(j) T of 120" 120 6
     ∷ example "(k) idle 14 stays" (on ++ ticks 14 ++ opened 0 ∷ []) (prints (welcome ∷ "R 6" ∷ []))
     ∷ example "(k) idle 15 closes" (on ++ ticks 15 ++ opened 0 ∷ []) (prints (welcome ∷ "0 C" ∷ []))
-    ∷ example "(l) eight taken, a ninth not" (told ++ replicate 9 a-tightening) (takes (replicate 4 0 ++ replicate 8 1 ++ 0 ∷ []))
+    ∷ example "(l) eight taken, a ninth not" (told ++ replicate 9 a-tightening)
+    (answers
+    ((0 ∷ 0 ∷ 0 ∷ 0 ∷ [])
+    ∷ (0 ∷ 0 ∷ 0 ∷ 0 ∷ [])
+    ∷ (0 ∷ 21 ∷ 62 ∷ 0 ∷ [])
+    ∷ (0 ∷ 21 ∷ 29 ∷ 0 ∷ [])
+    ∷ (0 ∷ 0 ∷ 236 ∷ 1 ∷ [])
+    ∷ replicate 7 (0 ∷ 0 ∷ 0 ∷ 1 ∷ [])
+    ++ (0 ∷ 0 ∷ 0 ∷ 0 ∷ [])
+    ∷ []))
     ∷ []
 
 pub the-cases-hold : failing cases ≡ []

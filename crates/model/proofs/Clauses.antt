@@ -1,12 +1,17 @@
 -- 01, section by section: an example of each clause that neither the worked example nor the cases (a) to (l) show, in one table with
 -- one computed test. Assumes nothing.
-use Prim.Native.Nat.{ℕ}
+use Prim.Native.Nat.{ℕ, suc}
 use Prim.Native.String.{String}
 use mathlib.Core.Path.{_≡_, refl}
-use mathlib.Core.List.{List, [], _∷_, _++_}
-use lib.ListN.{replicate}
-use Rattle.model.proofs.Text.{_&_, ascii}
-use Rattle.model.proofs.Histories.{settings, result-of-guide, a-tightening, scan, opened, hung-up, received, message, sends, tick, ticks, line4, up, on, told, alive, welcome, accepted, refused, notice-0061, result, copy, prints, takes, Example, example, answered, outcome, failing}
+use mathlib.Core.Bool.{true, false}
+use mathlib.Core.List.{List, [], _∷_, _++_, map}
+use lib.ListN.{getD, set, replicate}
+use Rattle.model.specs.Bytes.{NUL, spaces, in-bytes}
+use Rattle.model.specs.Records.{house-record}
+use Rattle.model.specs.World.{World}
+use Rattle.model.specs.Calls.{Call, start, one-tick, Lent, refusal, answer-bytes, returned}
+use Rattle.model.proofs.Text.{_&_, ascii, frame-text}
+use Rattle.model.proofs.Histories.{settings, tightening, result-of-guide, a-tightening, scan, opened, hung-up, received, message, sends, tick, ticks, line4, up, on, told, alive, welcome, accepted, refused, notice-0061, result, copy, prints, answers, Example, example, answered, lent, outcome, failing}
 
 -- ==== histories and lines
 
@@ -27,6 +32,17 @@ joined s =
 abbrev identified : String → String → String
 identified s letter = s & " S 004700520010________01" & letter & "________________________"
 
+-- every number of a tightening at its greatest, from the job to the angle; and number i too great
+abbrev greatest : List ℕ
+greatest =
+    99 ∷ 999 ∷ 9_999 ∷ 9_999 ∷ 1 ∷ 2 ∷ 2 ∷ 999_999 ∷ 999_999 ∷ 999_999 ∷ 999_999 ∷ 99_999 ∷ 99_999 ∷ 99_999 ∷ 99_999 ∷ []
+
+abbrev a-time : String
+a-time = "2001-06-02:09:54:09"
+
+abbrev too-great : ℕ → List ℕ
+too-great i = tightening "" (set greatest i (suc (getD greatest i 0))) a-time a-time 2
+
 -- ==== the table
 
 abbrev pub clauses : List Example
@@ -44,8 +60,37 @@ clauses =
     (on ++ scan "A" ∷ line4 ∷ acks ∷ told ++ result-of-guide "" ∷ [])
     (prints
     (welcome ∷ "R 5" ∷ welcome ∷ accepted "0060" ∷ result "_________________________" "0000000001" ∷ []))
-    ∷ example "taken: 1 and 4" (told ++ opened 1 ∷ joins 2 ++ sends 2 "002000600011________" ∷ a-tightening ∷ scan "A" ∷ [])
-    (takes (replicate 9 0 ++ 5 ∷ 4 ∷ []))
+    ∷ example "consumed, written; taken by 0 and 2; nothing of a refused call"
+    (told ++ joins 2 ++ sends 2 "002000600011________" ∷ a-tightening ∷ scan "A" ∷ received 0 (ascii "00") ∷ sends 1 "00" ∷ [])
+    (answers
+    ((0 ∷ 0 ∷ 0 ∷ 0 ∷ [])
+    ∷ (0 ∷ 0 ∷ 0 ∷ 0 ∷ [])
+    ∷ (0 ∷ 21 ∷ 62 ∷ 0 ∷ [])
+    ∷ (0 ∷ 21 ∷ 29 ∷ 0 ∷ [])
+    ∷ (0 ∷ 0 ∷ 0 ∷ 0 ∷ [])
+    ∷ (0 ∷ 21 ∷ 62 ∷ 0 ∷ [])
+    ∷ (0 ∷ 21 ∷ 29 ∷ 0 ∷ [])
+    ∷ (0 ∷ 21 ∷ 29 ∷ 0 ∷ [])
+    ∷ (0 ∷ 0 ∷ 472 ∷ 5 ∷ [])
+    ∷ (0 ∷ 0 ∷ 52 ∷ 4 ∷ [])
+    ∷ (0 ∷ 2 ∷ 0 ∷ 0 ∷ [])
+    ∷ (5 ∷ 0 ∷ 0 ∷ 0 ∷ [])
+    ∷ []))
+    -- "House records": every number at its greatest, then one of them too great; a time; lengths
+    ∷ example "a tightening's numbers" (line4 ∷ tightening "" greatest a-time a-time 2 ∷ map too-great (0 ∷ 1 ∷ 2 ∷ 3 ∷ 4 ∷ 5 ∷ 6 ∷ 7 ∷ 8 ∷ 9 ∷ 10 ∷ 11 ∷ 12 ∷ 13 ∷ 14 ∷ []) ++ tightening "" greatest a-time a-time 3 ∷ [])
+    (prints (replicate 16 "R 7"))
+    ∷ example "a tightening's times"
+    (line4
+    ∷ tightening "" greatest "2001-06-02 09:54:09" a-time 0
+    ∷ tightening "" greatest a-time "2001-06:02:09:54:09" 0
+    ∷ tightening "" greatest a-time "2001-06-02:09-54:09" 0
+    ∷ tightening "" greatest "2001-06-02:09:54:0a" a-time 0
+    ∷ [])
+    (prints (replicate 4 "R 7"))
+    ∷ example "an identifier of 24 bytes, of 26" (line4 ∷ house-record 2 (spaces 24) ∷ house-record 2 (spaces 26) ∷ [])
+    (prints ("R 7" ∷ "R 7" ∷ []))
+    ∷ example "settings at their greatest, then too great" (settings 9_999 99 1 "~" 4_294_967_295 ∷ settings 0 100 1 "" 0 ∷ settings 0 0 2 "" 0 ∷ settings 0 0 0 "\u{7f}" 0 ∷ [])
+    (prints ("R 9" ∷ "R 9" ∷ "R 9" ∷ []))
     -- "Runs and headers"
     ∷ example "a run in three calls, a second in the last of them"
     (up
@@ -57,7 +102,61 @@ clauses =
     (prints (welcome ∷ "0 S 00209999001_________" ∷ []))
     ∷ example "a revision of two digits, a fourth flag" (on ++ sends 0 "0020999901__________" ∷ sends 0 "002099990012________" ∷ [])
     (prints (welcome ∷ []))
-    -- "What a message does": the tests in their order
+    ∷ example "a message number of letters, a length with spaces before it"
+    (on ++ sends 0 "0020ABCD001_________" ∷ sends 0 "__209999001_________" ∷ [])
+    (prints (welcome ∷ []))
+    ∷ example "9,999 bytes are a message, 10,000 are none"
+    (on
+    ++ received 0 (frame-text "99991234____________" ++ spaces 8_000)
+    ∷ received 0 (spaces 1_979 ++ NUL ∷ [])
+    ∷ received 0 (frame-text "99991234____________" ++ spaces 8_000)
+    ∷ received 0 (spaces 1_980 ++ NUL ∷ [])
+    ∷ [])
+    (prints (welcome ∷ refused "123499" ∷ []))
+    -- "What a message does": the table's lengths and revisions, and the tests in their order
+    ∷ example "21 bytes"
+    (told
+    ++ a-tightening
+    ∷ a-tightening
+    ∷ sends 0 "00210003001__________"
+    ∷ sends 0 "00210051001__________"
+    ∷ sends 0 "00210054001__________"
+    ∷ sends 0 "00210060001__________"
+    ∷ sends 0 "00210062001__________"
+    ∷ sends 0 "00210063001__________"
+    ∷ sends 0 "00219999001__________"
+    ∷ [])
+    (prints
+    (welcome
+    ∷ accepted "0060"
+    ∷ copy "0000000001"
+    ∷ refused "000301"
+    ∷ refused "005101"
+    ∷ refused "005401"
+    ∷ refused "006001"
+    ∷ refused "006301"
+    ∷ refused "999901"
+    ∷ []))
+    ∷ example "a revision that is not read"
+    (told
+    ++ a-tightening
+    ∷ a-tightening
+    ∷ sends 0 "00200062999_________"
+    ∷ sends 0 "00200063999_________"
+    ∷ sends 0 "00200054999_________"
+    ∷ sends 0 "00209999999_________"
+    ∷ sends 0 "00200003999_________"
+    ∷ [])
+    (prints
+    (welcome
+    ∷ accepted "0060"
+    ∷ copy "0000000001"
+    ∷ copy "0000000002"
+    ∷ accepted "0063"
+    ∷ refused "005407"
+    ∷ "0 S 00209999999_________"
+    ∷ accepted "0003"
+    ∷ []))
     ∷ example "0001 before start, 01 before 97" (up ++ sends 0 "00210001002__________" ∷ []) (prints (refused "000101" ∷ []))
     ∷ answered "96 before 01" "00210001001__________" (refused "000196")
     ∷ answered "01 before 97" "00210060002__________" (refused "006001")
@@ -67,15 +166,14 @@ clauses =
     (prints (welcome ∷ refused "005001" ∷ []))
     ∷ answered "0051 has revision 2" "00200051002_________" (accepted "0051")
     ∷ answered "and no third" "00200051003_________" (refused "005197")
-    ∷ answered "0054's revision is not read" "00200054999_________" (refused "005407")
     ∷ answered "0050 of 21 bytes" "00210050001_________A" (accepted "0050")
     ∷ example "0053 and 0062 of a wrong length count, and get no reply"
     (on ++ ticks 14 ++ sends 0 "00210053001__________" ∷ ticks 14 ++ sends 0 "00210062001__________" ∷ tick ∷ [])
     (prints (welcome ∷ []))
     ∷ example "a message with an error counts" (on ++ ticks 14 ++ sends 0 "00201234001_________" ∷ tick ∷ [])
     (prints (welcome ∷ refused "123499" ∷ []))
-    ∷ example "0050 is in force, padded" (told ++ sends 0 "00220050001_________AB" ∷ result-of-guide "" ∷ [])
-    (prints (welcome ∷ accepted "0060" ∷ accepted "0050" ∷ result "AB_______________________" "0000000001" ∷ []))
+    ∷ example "0050 is in force, padded" (told ++ sends 0 "00220050001_________AB" ∷ result-of-guide "" ∷ sends 0 "00450050001_________ABCDEFGHIJKLMNOPQRSTUVWXY" ∷ result-of-guide "" ∷ acks ∷ [])
+    (prints (welcome ∷ accepted "0060" ∷ accepted "0050" ∷ result "AB_______________________" "0000000001" ∷ accepted "0050" ∷ result "ABCDEFGHIJKLMNOPQRSTUVWXY" "0000000002" ∷ []))
     -- "Notices and the clock"
     ∷ example "a reply, then the notices by session, the sender's too"
     (line4 ∷ joins 3 ++ joins 0 ++ opened 1 ∷ sends 3 "00210050001_________A" ∷ [])
@@ -150,3 +248,30 @@ clauses =
 pub the-clauses-show : failing clauses ≡ []
 unfolding outcome
 the-clauses-show = refl
+
+-- ==== what no record shows: the lengths of what is lent, and what goes to C
+
+module _ (w : World) where
+  pub lent-too-short : map (λ l. refusal l w one-tick)
+      (lent 16_383 false 0 ∷ lent 16_384 false 0 ∷ lent 16_384 true 2_047 ∷ lent 16_384 true 2_048 ∷ [])
+      ≡ 1 ∷ 2 ∷ 3 ∷ 0 ∷ []
+  unfolding outcome
+  lent-too-short = refl
+
+  -- a start needs no output, and a table that is long enough; of two numbers it gives the lower
+  pub start-lent-too-short : map (λ l. refusal l w (start line4)) (lent 16_383 true 0 ∷ lent 16_384 false 0 ∷ []) ≡ 1 ∷ 0 ∷ []
+  unfolding outcome
+  start-lent-too-short = refl
+
+  pub start-lowest : map (λ l. refusal l w (start [])) (lent 16_383 false 0 ∷ lent 16_384 false 0 ∷ []) ≡ 1 ∷ 9 ∷ []
+  unfolding outcome
+  start-lowest = refl
+
+  pub too-short-for-C : (l : Lent) (c : Call)
+      → returned 31 l w c ≡ record { number = 10; world = w; to-answer = []; to-output = [] }
+  too-short-for-C l c = refl
+
+pub answer-for-C : answer-bytes (record { number = 1; consumed = 0x0302; written = 4; taken = 5 })
+    ≡ 1 ∷ replicate 7 0 ++ 2 ∷ 3 ∷ replicate 6 0 ++ 4 ∷ replicate 7 0 ++ 5 ∷ replicate 7 0
+unfolding in-bytes
+answer-for-C = refl
