@@ -1,0 +1,92 @@
+-- Laws of a row, for any cells and any call: what the call does to one cell, and what that cell says; and cells of another kind
+-- that go along with these. Assumes nothing.
+use Prim.Native.Nat.{ℕ, zero, suc, _+_, _≤_, _<_}
+use mathlib.Core.Path.{_≡_, refl, _∙_, ap, subst}
+use mathlib.Core.Bool.{Bool, true, false, cond}
+use mathlib.Core.List.{List, [], _∷_, _++_, map, append-nil, map-append}
+use native.Mathlib.Omega.{arith}
+use lib.Dec.{eqb}
+use lib.ListN.{length, getD}
+use borrow.Author.Tests.{eq-eqb, ne-eqb}
+use Rattle.model.specs.Row.{Tagged, tag, pick, row, said}
+
+module _ {E : Type 0} where
+  pub pick-append : (n : ℕ) (xs ys : List (Tagged E)) → pick n (xs ++ ys) ≡ pick n xs ++ pick n ys
+  pick-append n [] ys = refl
+  pick-append n (x ∷ xs) ys = go (eqb (x .who) n) (pick-append n xs ys)
+    where
+      go : (b : Bool) → pick n (xs ++ ys) ≡ pick n xs ++ pick n ys
+          → cond b (x .what ∷ pick n (xs ++ ys)) (pick n (xs ++ ys)) ≡ cond b (x .what ∷ pick n xs) (pick n xs) ++ pick n ys
+      go true ih = ap (x .what ∷_) ih
+      go false ih = ih
+
+  pub pick-same : (n : ℕ) (xs : List E) → pick n (tag n xs) ≡ xs
+  pick-same n [] = refl
+  pick-same n (x ∷ xs) = rw (eq-eqb n n refl) (ap (x ∷_) (pick-same n xs))
+
+  pub pick-other : (n i : ℕ) (xs : List E) → (i ≡ n → ⊥) → pick n (tag i xs) ≡ []
+  pick-other n i [] h = refl
+  pick-other n i (x ∷ xs) h = rw (ne-eqb i n h) (pick-other n i xs h)
+
+module _ {X E : Type 0} (act : ℕ → X → X × List E) where
+  pub length-row : (i : ℕ) (xs : List X) → length (row act i xs) ≡ length xs
+  length-row i [] = refl
+  length-row i (x ∷ xs) = ap suc (length-row (suc i) xs)
+
+  later : (n i : ℕ) (xs : List X) → n < i → pick n (said act i xs) ≡ []
+  later n i [] h = refl
+  later n i (x ∷ xs) h =
+      pick-append n (tag i ((act i x) .1)) (said act (suc i) xs)
+      ∙ rw (pick-other n i ((act i x) .1) (omega arith)) (later n (suc i) xs (omega arith))
+
+  row-from : (xs : List X) (i j n : ℕ) (d : X) → i + j ≡ n → j < length xs → getD (row act i xs) j d ≡ (act n (getD xs j d)) .0
+  row-from [] i j n d e h = absurd (omega arith)
+  row-from (x ∷ xs) i zero n d e h = ap (λ (m : ℕ). (act m x) .0) (omega arith)
+  row-from (x ∷ xs) i (suc j) n d e h = row-from xs (suc i) j n d (omega arith) (omega arith)
+
+  said-from : (xs : List X) (i j n : ℕ) (d : X) → i + j ≡ n → j < length xs → pick n (said act i xs) ≡ (act n (getD xs j d)) .1
+  said-from [] i j n d e h = absurd (omega arith)
+  said-from (x ∷ xs) i zero n d e h =
+      subst (λ (m : ℕ). pick m (said act i (x ∷ xs)) ≡ (act m x) .1) (omega arith)
+      (pick-append i (tag i ((act i x) .1)) (said act (suc i) xs)
+      ∙ rw (pick-same i ((act i x) .1), later i (suc i) xs (omega arith)) (append-nil ((act i x) .1)))
+  said-from (x ∷ xs) i (suc j) n d e h =
+      pick-append n (tag i ((act i x) .1)) (said act (suc i) xs)
+      ∙ rw (pick-other n i ((act i x) .1) (omega arith)) (said-from xs (suc i) j n d (omega arith) (omega arith))
+
+  none-from : (xs : List X) (i n : ℕ) → i + length xs ≤ n → pick n (said act i xs) ≡ []
+  none-from [] i n h = refl
+  none-from (x ∷ xs) i n h =
+      pick-append n (tag i ((act i x) .1)) (said act (suc i) xs)
+      ∙ rw (pick-other n i ((act i x) .1) (omega arith)) (none-from xs (suc i) n (omega arith))
+
+  -- cell n after the call, and what it said
+  pub row-at : (xs : List X) (n : ℕ) (d : X) → n < length xs → getD (row act 0 xs) n d ≡ (act n (getD xs n d)) .0
+  row-at xs n d h = row-from xs 0 n n d (omega arith) h
+
+  pub said-at : (xs : List X) (n : ℕ) (d : X) → n < length xs → pick n (said act 0 xs) ≡ (act n (getD xs n d)) .1
+  said-at xs n d h = said-from xs 0 n n d (omega arith) h
+
+  pub said-past : (xs : List X) (n : ℕ) → length xs ≤ n → pick n (said act 0 xs) ≡ []
+  said-past xs n h = none-from xs 0 n (omega arith)
+
+-- ==== a row beside a row: where each cell of the one answers as the other's does, by way of m and e, so do the rows
+
+module _ {E F : Type 0} (e : E → F) where
+  abbrev pub retag : Tagged E → Tagged F
+  retag t = record { who = t .who; what = e (t .what) }
+
+  tag-map : (i : ℕ) (xs : List E) → tag i (map e xs) ≡ map retag (tag i xs)
+  tag-map i [] = refl
+  tag-map i (x ∷ xs) = ap (record { who = i; what = e x } ∷_) (tag-map i xs)
+
+module _ {X Y E F : Type 0} (f : ℕ → X → X × List E) (g : ℕ → Y → Y × List F) (m : X → Y) (e : E → F)
+    (same : (i : ℕ) (x : X) → g i (m x) ≡ (m ((f i x) .0), map e ((f i x) .1))) where
+  pub row-map : (i : ℕ) (xs : List X) → row g i (map m xs) ≡ map m (row f i xs)
+  row-map i [] = refl
+  row-map i (x ∷ xs) = rw (same i x, row-map (suc i) xs)
+
+  pub said-map : (i : ℕ) (xs : List X) → said g i (map m xs) ≡ map (retag e) (said f i xs)
+  said-map i [] = refl
+  said-map i (x ∷ xs) =
+      rw (same i x, said-map (suc i) xs, tag-map e i ((f i x) .1), map-append (retag e) (tag i ((f i x) .1)) (said f (suc i) xs))
