@@ -1,3 +1,4 @@
 pub mod Lists
 pub mod Numbers
 pub mod Puts
+pub mod Cells

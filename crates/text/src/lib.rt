@@ -3,6 +3,7 @@ ghost use mathlib.Core.Path.{_≡_};
 ghost use mathlib.Core.Bool.{true};
 ghost use Prim.Native.Nat.{_+_, _^_, _≤_, _<_};
 ghost use lib.ListN.{length, take, drop, replicate};
+ghost use lib.Seq.{sets};
 ghost use Rattle.model.specs.Bytes.{within, is-digit, is-text, is-space, all, decimal as decimal-of, digits, little as little-of, in-bytes};
 ghost use Rattle.text.specs.Put.{Put};
 
@@ -157,4 +158,16 @@ pub fn put_digits(out: &mut [u8], at: usize, width: usize, n: u64) -> usize
         left = left / 10;
     }
     at + width
+}
+
+// The n bytes at `from`, moved down to `to`.
+pub fn shift(b: &mut [u8], to: usize, from: usize, n: usize)
+    requires { ⌜ (to ≤ from) × (from + n ≤ length (now b)) ⌝ }
+    ensures { λ _. ⌜ now (b .exit) ≡ sets (now (b .entry)) to (take n (drop from (now (b .entry)))) ⌝ }
+{
+    let mut i = 0;
+    while i < n {
+        b[to + i] = b[from + i];
+        i += 1;
+    }
 }
