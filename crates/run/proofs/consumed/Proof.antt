@@ -1,0 +1,14 @@
+-- `run::consumed` meets its contract. Assumes nothing.
+use borrow.Author.Needs.{needs}
+use Rattle.run.proofs.Pieces.{with-NUL, without-NUL}
+use Rattle.run.proofs.consumed.Statement.{statement}
+use Rattle.run.proofs.consumed.Tie as tie
+
+pub consumed-spec : {M : Type 1} → statement M
+consumed-spec =
+    tie.close
+    (tie.spec
+    (λ c κs. search needs)
+    (λ c. search needs)
+    (λ c. with-NUL _ _ (c .before .ends-at .ensures) (c .if1 .taken))
+    (λ c. without-NUL _ _ (c .before .ends-at .ensures) (c .if1 .left)))

@@ -1,0 +1,28 @@
+-- A session's run as the table holds it, in 48 bytes: how many bytes it has in two of them, then those that are kept.
+-- 01, "Runs and headers". Assumes nothing: these are definitions.
+use mathlib.Core.Path.{_≡_}
+use Prim.Native.Nat.{ℕ, _≤_, min}
+use mathlib.Core.Bool.{Bool, true}
+use mathlib.Core.List.{List}
+use lib.Dec.{leb, ltb}
+use lib.ListN.{length, take, drop}
+use Rattle.model.specs.Limits.{run-kept, run-counted}
+use Rattle.model.specs.Bytes.{little}
+use Rattle.model.specs.Runs.{Run, cut}
+
+unfoldable pub run-of : List ℕ → Run
+run-of a = record { kept = take (min run-kept (little (take 2 a))) (drop 2 a); count = little (take 2 a) }
+
+-- well formed: the count is one that a run can have
+unfoldable pub run-formed : List ℕ → Bool
+run-formed a = leb (little (take 2 a)) run-counted
+
+pub record Area (a : List ℕ) : Type 0 where
+  pub size : length a ≡ 48
+  pub formed : run-formed a ≡ true
+
+-- where a piece of received bytes ends: before the first NUL, or with the last byte
+pub record Ends (bs : List ℕ) (n : ℕ) : Type 0 where
+  pub within : n ≤ length bs
+  pub bytes : (cut bs) .bytes ≡ take n bs
+  pub ends : (cut bs) .ends ≡ ltb n (length bs)

@@ -1,0 +1,91 @@
+// The run of bytes that a session is receiving, as the table holds it.
+ghost use mathlib.Core.Path.{_≡_};
+ghost use mathlib.Core.Bool.{true};
+ghost use Prim.Native.Nat.{_≤_, min};
+ghost use lib.ListN.{length};
+ghost use Rattle.model.specs.Runs.{empty-run, longer as longer-run, cut, consumed-by};
+ghost use Rattle.run.specs.Area.{run-of, run-formed, Area, Ends};
+
+const KEPT: usize = 45;
+
+const COUNTED: usize = 10_000;
+
+fn least(a: usize, b: usize) -> usize
+    ensures { λ r. ⌜ r ≡ min a b ⌝ }
+{
+    if a < b { a } else { b }
+}
+
+// ---- received bytes
+
+// Where what one call reads of them ends.
+pub fn ends_at(bytes: &[u8]) -> usize
+    ensures { λ r. ⌜ Ends (now (bytes .entry)) r ⌝ }
+{
+    let mut i = 0;
+    while i < bytes.len() {
+        if bytes[i] == 0 {
+            return i;
+        }
+        i += 1;
+    }
+    i
+}
+
+// What one call consumes of them.
+pub fn consumed(bytes: &[u8]) -> usize
+    ensures { λ r. ⌜ r ≡ consumed-by (cut (now (bytes .entry))) ⌝ }
+{
+    let i = ends_at(bytes);
+    if i < bytes.len() {
+        return i + 1;
+    }
+    i
+}
+
+// ---- the run in its area
+
+pub fn is_formed(area: &[u8]) -> bool
+    requires { ⌜ length (now area) ≡ 48 ⌝ }
+    ensures { λ r. ⌜ r ≡ run-formed (now (area .entry)) ⌝ }
+{
+    text::little(area, 0, 2) <= COUNTED as u64
+}
+
+// How many bytes it has.
+pub fn count(area: &[u8]) -> usize
+    requires { ⌜ Area (now area) ⌝ }
+    ensures { λ r. ⌜ (r ≡ run-of (now (area .entry)) .count) × (r ≤ 10000) ⌝ }
+{
+    text::little(area, 0, 2) as usize
+}
+
+// The bytes that are kept, as they stand.
+pub fn kept(area: &[u8]) -> &[u8]
+    requires { ⌜ Area (now area) ⌝ }
+    ensures { λ r. ⌜ now r ≡ run-of (now (area .entry)) .kept ⌝ }
+{
+    let k = least(KEPT, count(area));
+    &area[2..2 + k]
+}
+
+// More bytes of it.
+pub fn lengthen(area: &mut [u8], bytes: &[u8])
+    requires { ⌜ Area (now area) ⌝ }
+    ensures { λ _. ⌜ (run-of (now (area .exit)) ≡ longer-run (run-of (now (area .entry))) (now (bytes .entry))) × Area (now (area .exit)) ⌝ }
+{
+    let n = count(area);
+    let k = least(KEPT, n);
+    let m = least(KEPT - k, bytes.len());
+    text::copy(&bytes[0..m], area, 2 + k);
+    let v = least(COUNTED - n, bytes.len());
+    text::put_little(area, 0, 2, (n + v) as u64);
+}
+
+// It is over.
+pub fn clear(area: &mut [u8])
+    requires { ⌜ length (now area) ≡ 48 ⌝ }
+    ensures { λ _. ⌜ (run-of (now (area .exit)) ≡ empty-run) × Area (now (area .exit)) ⌝ }
+{
+    text::put_little(area, 0, 2, 0);
+}
