@@ -99,18 +99,25 @@ module _ (a k : ℕ) (l ys : List ℕ) (len : length ys ≡ k) (fits : a + k ≤
   pub area-after : (b m : ℕ) → a + k ≤ b → midOf b m (putMid a k l ys) ≡ midOf b m l
   area-after b m h = ap (take m) (drop-after l ys a k b len fits h)
 
+-- the first i of n cells
+pub cells-prefix : {A : Type 0} (f : List ℕ → A) (k i n : ℕ) (l : List ℕ) → i ≤ n → take i (cells f k n l) ≡ cells f k i l
+unfolding cells
+cells-prefix f k zero n l h = refl
+cells-prefix f k (suc i) zero l h = absurd (omega arith)
+cells-prefix f k (suc i) (suc n) l h = ap (λ (z : List _). f (take k l) ∷ z) (cells-prefix f k i n (drop k l) (omega arith))
+
 -- ---- a queue in cells, the oldest first
 module _ {A : Type 0} (f : List ℕ → A) (k : ℕ) (l : List ℕ) where
   -- one more, behind the first i: what stood there and behind is no more of it
   pub cells-push : (i : ℕ) (p : List ℕ) → length p ≡ k → i * k + k ≤ length l → cells f k (suc i) (sets l (i * k) p) ≡ cells f k i l ++ (f p ∷ [])
   cells-push i p e h =
       let new : take k (drop (i * k) (sets l (i * k) p)) ≡ p =
-        ap (λ (m : ℕ). take k (drop (i * k) (sets l m p))) (sym (add-zero (i * k))) ∙ ap (take k) (drop-sets p l (i * k) 0)
-        ∙ ap (λ (m : ℕ). take m (sets (drop (i * k) l) 0 p)) (sym e ∙ sym (zero-add (length p)))
-        ∙ take-sets p (drop (i * k) l) 0 (rw length-drop (omega arith)) in
+      ap (λ (m : ℕ). take k (drop (i * k) (sets l m p))) (sym (add-zero (i * k))) ∙ ap (take k) (drop-sets p l (i * k) 0)
+      ∙ ap (λ (m : ℕ). take m (sets (drop (i * k) l) 0 p)) (sym e ∙ sym (zero-add (length p)))
+      ∙ take-sets p (drop (i * k) l) 0 (rw length-drop (omega arith)) in
       let old : cells f k i (sets l (i * k) p) ≡ cells f k i l =
-        sym (cells-take f k i (i * k) (sets l (i * k) p) (omega arith)) ∙ ap (cells f k i) (take-sets-before p l (i * k) (i * k) (omega arith))
-        ∙ cells-take f k i (i * k) l (omega arith) in
+      sym (cells-take f k i (i * k) (sets l (i * k) p) (omega arith)) ∙ ap (cells f k i) (take-sets-before p l (i * k) (i * k) (omega arith))
+      ∙ cells-take f k i (i * k) l (omega arith) in
       cells-snoc f k i (sets l (i * k) p) ∙ ap₂ (λ (a : List A) (b : List ℕ). a ++ (f b ∷ [])) old new
 
   -- the first is gone, and the n others moved down
@@ -121,6 +128,6 @@ module _ {A : Type 0} (f : List ℕ → A) (k : ℕ) (l : List ℕ) where
       let ys = take (n * k) (drop k l) in
       let ly : length ys ≡ n * k = length-take-le (n * k) (drop k l) (rw length-drop (omega arith)) in
       let front : take (n * k) (sets l 0 ys) ≡ ys =
-        ap (λ (m : ℕ). take m (sets l 0 ys)) (sym ly ∙ sym (zero-add (length ys))) ∙ take-sets ys l 0 (omega arith) in
+      ap (λ (m : ℕ). take m (sets l 0 ys)) (sym ly ∙ sym (zero-add (length ys))) ∙ take-sets ys l 0 (omega arith) in
       ap (λ (z : List A). f (take k l) ∷ z)
       (sym (cells-take f k n (n * k) (sets l 0 ys) (omega arith)) ∙ ap (cells f k n) front ∙ cells-take f k n (n * k) (drop k l) (omega arith))
