@@ -131,3 +131,14 @@ module _ {A : Type 0} (f : List ℕ → A) (k : ℕ) (l : List ℕ) where
       ap (λ (m : ℕ). take m (sets l 0 ys)) (sym ly ∙ sym (zero-add (length ys))) ∙ take-sets ys l 0 (omega arith) in
       ap (λ (z : List A). f (take k l) ∷ z)
       (sym (cells-take f k n (n * k) (sets l 0 ys) (omega arith)) ∙ ap (cells f k n) front ∙ cells-take f k n (n * k) (drop k l) (omega arith))
+
+-- ---- areas after a run of stores
+module _ (a k : ℕ) (l ys : List ℕ) (len : length ys ≡ k) (fits : a + k ≤ length l) where
+  pub stored-same : take k (drop a (sets l a ys)) ≡ ys
+  stored-same = ap (λ (z : List ℕ). take k (drop a z)) (sets-mid l ys a k len fits) ∙ area-same a k l ys len fits
+
+  pub stored-before : (b m : ℕ) → b + m ≤ a → take m (drop b (sets l a ys)) ≡ take m (drop b l)
+  stored-before b m h = ap (λ (z : List ℕ). take m (drop b z)) (sets-mid l ys a k len fits) ∙ area-before a k l ys len fits b m h
+
+  pub stored-after : (b m : ℕ) → a + k ≤ b → take m (drop b (sets l a ys)) ≡ take m (drop b l)
+  stored-after b m h = ap (λ (z : List ℕ). take m (drop b z)) (sets-mid l ys a k len fits) ∙ area-after a k l ys len fits b m h
