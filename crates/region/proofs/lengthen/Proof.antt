@@ -1,0 +1,22 @@
+-- `region::lengthen` meets its contract. Assumes nothing.
+use borrow.Author.Needs.{needs}
+use Rattle.region.proofs.Areas.{parts, run-replaced}
+use Rattle.region.proofs.lengthen.Statement.{statement}
+use Rattle.region.proofs.lengthen.Tie as tie
+
+returns : tie.Need-returns
+returns c =
+    let p = c .before .before in
+    let s = p .before .before .before .before in
+    run-replaced (s .args .region .now) (p .lengthen .last .0) (s .pre) _ (p .lengthen .ensures .1 .size) (p .lengthen .ensures .0) (p .lengthen .ensures .1 .formed)
+
+pub lengthen-spec : {M : Type 1} → statement M
+lengthen-spec =
+    tie.close
+    (tie.spec
+    (λ c. search needs)
+    (λ c. search needs)
+    (λ c. search needs)
+    (λ c κs. parts _ (c .before .before .before .pre) .run)
+    (λ c. search needs)
+    returns)

@@ -1,0 +1,66 @@
+-- A session in its region of the table, 1,024 bytes: its control, its run, and the places of its notices. docs/TABLE.md has the map.
+-- Assumes nothing: these are definitions.
+use mathlib.Core.Path.{_≡_}
+use Prim.Native.Nat.{ℕ, _≤_, _<_}
+use mathlib.Core.Bool.{Bool, true, _&&_}
+use mathlib.Core.List.{List, []}
+use lib.ListN.{length, take, drop}
+use Rattle.model.specs.Records.{Settings}
+use Rattle.model.specs.Runs.{Run}
+use Rattle.model.specs.Events.{identifiers, tightenings}
+use Rattle.model.specs.Session.{Emission}
+use Rattle.model.specs.Session as model
+use Rattle.model.specs.Row.{tag}
+use Rattle.model.specs.Calls.{output}
+use Rattle.session.specs.Meaning.{session-in}
+use Rattle.session.specs.declared.Session.{Session}
+use Rattle.run.specs.Area.{run-of, run-formed}
+use Rattle.head.specs.Head.{head-of, head-formed}
+use Rattle.notices.specs.Places.{notices-in}
+
+-- ==== its areas
+
+abbrev pub region-size : ℕ
+region-size = 1_024
+
+abbrev pub head-area : List ℕ → List ℕ
+head-area r = take 32 (drop 0 r)
+
+abbrev pub run-area : List ℕ → List ℕ
+run-area r = take 48 (drop 32 r)
+
+abbrev pub identifiers-area : List ℕ → List ℕ
+identifiers-area r = take 50 (drop 80 r)
+
+abbrev pub tightenings-area : List ℕ → List ℕ
+tightenings-area r = take 880 (drop 136 r)
+
+-- ==== its meaning
+
+-- a session of that control and run, whose notices are in those places
+abbrev pub meaning : Session → Run → List ℕ → List ℕ → model.Session
+meaning x run is ts =
+    session-in x run (notices-in identifiers (x .identifiers .held) is) (notices-in tightenings (x .tightenings .held) ts)
+
+unfoldable pub session-of : List ℕ → model.Session
+session-of r = meaning (head-of (head-area r)) (run-of (run-area r)) (identifiers-area r) (tightenings-area r)
+
+-- well formed: its control and its run are
+unfoldable pub region-formed : List ℕ → Bool
+region-formed r = head-formed (head-area r) && run-formed (run-area r)
+
+pub record Good (r : List ℕ) : Type 0 where
+  pub size : length r ≡ region-size
+  pub formed : region-formed r ≡ true
+
+-- what stands in a region
+pub record Stands (r : List ℕ) (x : Session) (n : Run) (is ts : List ℕ) : Type 0 where
+  pub good : Good r
+  pub head : head-of (head-area r) ≡ x
+  pub run : run-of (run-area r) ≡ n
+  pub identifiers : identifiers-area r ≡ is
+  pub tightenings : tightenings-area r ≡ ts
+
+-- ==== a step of session s: what the region means after it, and what goes out
+abbrev pub out-bytes : ℕ → List Emission → List ℕ
+out-bytes s es = output (tag s es)
