@@ -1,21 +1,26 @@
 -- The areas of a region: what is known of each, and what stands in the region after one of them was replaced. Assumes nothing.
-use mathlib.Core.Path.{_≡_, refl, sym, ap, ap₂, _∙_}
+use mathlib.Core.Path.{_≡_, refl, sym, ap, ap₂, subst, _∙_}
 use Prim.Native.Nat.{ℕ, _+_, _-_, _≤_, _<_}
 use native.Mathlib.Omega.{arith}
 use mathlib.Core.Bool.{Bool, true, false, _&&_, and-eq-true-iff}
 use mathlib.Core.List.{List, [], _++_}
 use lib.Dec.{leb, lit≤}
 use lib.ListN.{length, getD, take, drop, length-append}
-use borrow.Author.Tests.{leb-true}
+use borrow.Author.Tests.{leb-true, eq-eqb, ne-eqb}
 use borrow.Rule.Slice.PartMut.{putMid, midOf, mid-len, same-len-mid}
+use Rattle.model.specs.Records.{Settings}
 use Rattle.model.specs.Runs.{Run}
+use Rattle.model.specs.Notices.{Deed}
+use Rattle.text.specs.Put.{Put}
+use Rattle.session.specs.declared.Subscription.{Subscription}
+use Rattle.notices.specs.Places.{places-size, Deals, dealt-bytes}
 use Rattle.text.proofs.Cells.{area-same, area-before, area-after}
 use Rattle.session.specs.declared.Session.{Session}
 use Rattle.run.specs.Area.{run-of, run-formed}
 use Rattle.run.specs.Area as run
 use Rattle.head.specs.Head.{head-of, control-formed, head-formed, Storable}
 use Rattle.head.specs.Head as head
-use Rattle.region.specs.Region.{head-area, run-area, identifiers-area, tightenings-area, session-of, region-formed, Good, Stands}
+use Rattle.region.specs.Region.{head-area, run-area, identifiers-area, tightenings-area, session-of, region-formed, Good, Stands, places-of, Moved}
 
 -- ==== what is known of each
 
@@ -136,3 +141,48 @@ module _ (r ys : List ℕ) (g : Good r) where
         identifiers = before 80 50 (lit≤ tt);
         tightenings = area-same 136 880 r ys len f;
       }
+
+-- ==== the places of a kind were replaced
+
+module _ (r ys : List ℕ) (g : Good r) where
+  pub moved-identifiers : length ys ≡ 50 → Moved 0 r (putMid 80 50 r ys)
+  moved-identifiers len =
+      let s = identifiers-replaced r ys g len in
+      record { good = s .good; head = s .head; run = s .run; other = s .tightenings }
+
+  pub moved-tightenings : length ys ≡ 880 → Moved 1 r (putMid 136 880 r ys)
+  moved-tightenings len =
+      let s = tightenings-replaced r ys g len in
+      record { good = s .good; head = s .head; run = s .run; other = s .identifiers }
+
+-- ==== an area is the places of a kind
+
+module _ (kind : ℕ) (r : List ℕ) where
+  pub places-of-identifiers : kind ≡ 0 → identifiers-area r ≡ places-of kind r
+  places-of-identifiers e = rw (eq-eqb kind 0 e)
+
+  pub places-of-tightenings : (kind ≡ 0 → ⊥) → tightenings-area r ≡ places-of kind r
+  places-of-tightenings h = rw (ne-eqb kind 0 h)
+
+module _ (kind : ℕ) (r ys : List ℕ) (g : Good r) where
+  pub moved-0 : kind ≡ 0 → length ys ≡ 50 → Moved kind r (putMid 80 50 r ys)
+  moved-0 e len = subst (λ (k : ℕ). Moved k r (putMid 80 50 r ys)) (sym e) (moved-identifiers r ys g len)
+
+  pub moved-1 : kind ≡ 1 → length ys ≡ 880 → Moved kind r (putMid 136 880 r ys)
+  moved-1 e len = subst (λ (k : ℕ). Moved k r (putMid 136 880 r ys)) (sym e) (moved-tightenings r ys g len)
+
+module _ (kind : ℕ) (deed : Deed) (x x′ : Subscription) (p q r r′ : List ℕ) (e : p ≡ places-of kind r) (f : q ≡ places-of kind r′) where
+  pub dealt-there : Deals kind deed x p x′ q → Deals kind deed x (places-of kind r) x′ (places-of kind r′)
+  dealt-there d =
+      subst (λ (z : List ℕ). Deals kind deed x z x′ (places-of kind r′)) e (subst (λ (z : List ℕ). Deals kind deed x p x′ z) f d)
+
+  pub put-there : {o o′ : List ℕ} {at to : ℕ} (s : ℕ) (st : Settings) → Put o at (dealt-bytes kind s st deed x p) to o′
+      → Put o at (dealt-bytes kind s st deed x (places-of kind r)) to o′
+  put-there {o} {o′} {at} {to} s st w = subst (λ (z : List ℕ). Put o at (dealt-bytes kind s st deed x z) to o′) e w
+
+-- the places of a kind are as long as they are to be
+pub size-0 : (kind : ℕ) (ys : List ℕ) → kind ≡ 0 → length ys ≡ places-size kind → length ys ≡ 50
+size-0 kind ys e l = l ∙ ap places-size e
+
+pub size-1 : (kind : ℕ) (ys : List ℕ) → kind ≡ 1 → length ys ≡ places-size kind → length ys ≡ 880
+size-1 kind ys e l = l ∙ ap places-size e

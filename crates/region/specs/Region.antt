@@ -2,8 +2,9 @@
 -- Assumes nothing: these are definitions.
 use mathlib.Core.Path.{_≡_}
 use Prim.Native.Nat.{ℕ, _≤_, _<_}
-use mathlib.Core.Bool.{Bool, true, _&&_}
+use mathlib.Core.Bool.{Bool, true, cond, _&&_}
 use mathlib.Core.List.{List, []}
+use lib.Dec.{eqb}
 use lib.ListN.{length, take, drop}
 use Rattle.model.specs.Records.{Settings}
 use Rattle.model.specs.Runs.{Run}
@@ -60,6 +61,21 @@ pub record Stands (r : List ℕ) (x : Session) (n : Run) (is ts : List ℕ) : Ty
   pub run : run-of (run-area r) ≡ n
   pub identifiers : identifiers-area r ≡ is
   pub tightenings : tightenings-area r ≡ ts
+
+-- ==== the places of a kind, and what else there is
+
+abbrev pub places-of : ℕ → List ℕ → List ℕ
+places-of kind r = cond (eqb kind identifiers) (identifiers-area r) (tightenings-area r)
+
+abbrev pub other-kind : ℕ → ℕ
+other-kind kind = cond (eqb kind identifiers) tightenings identifiers
+
+-- only the places of that kind may have changed
+pub record Moved (kind : ℕ) (r r′ : List ℕ) : Type 0 where
+  pub good : Good r′
+  pub head : head-of (head-area r′) ≡ head-of (head-area r)
+  pub run : run-of (run-area r′) ≡ run-of (run-area r)
+  pub other : places-of (other-kind kind) r′ ≡ places-of (other-kind kind) r
 
 -- ==== a step of session s: what the region means after it, and what goes out
 abbrev pub out-bytes : ℕ → List Emission → List ℕ

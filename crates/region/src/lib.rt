@@ -3,11 +3,18 @@ ghost use mathlib.Core.Path.{_≡_};
 ghost use mathlib.Core.Bool.{true};
 ghost use Prim.Native.Nat.{_+_, _≤_, _<_};
 ghost use lib.ListN.{length};
+ghost use Rattle.model.specs.Records.{settings-of};
 ghost use Rattle.model.specs.Runs.{empty-run, longer};
+ghost use Rattle.model.specs.Notices.{room-of, beats, acks, news, takes};
+ghost use Rattle.text.specs.Put.{Put};
 ghost use Rattle.run.specs.Area.{run-of};
 ghost use Rattle.head.specs.Head.{head-of, Storable};
-ghost use Rattle.region.specs.Region.{head-area, run-area, identifiers-area, tightenings-area, session-of, region-formed, Good, Stands};
+ghost use Rattle.notices.specs.Places.{place-size, notice-in, subscription-of, Kept, Deals, dealt-bytes};
+ghost use Rattle.region.specs.Region.{head-area, run-area, identifiers-area, tightenings-area, session-of, region-formed, Good, Stands, places-of, Moved};
+use notices::Dealt;
+use notices::Took;
 use session::Session;
+use session::Subscription;
 
 // ---- its areas
 
@@ -49,4 +56,67 @@ fn clear_run(region: &mut [u8])
     ensures { λ _. ⌜ Stands (now (region .exit)) (head-of (head-area (now (region .entry)))) empty-run (identifiers-area (now (region .entry))) (tightenings-area (now (region .entry))) ⌝ }
 {
     run::clear(&mut region[32..80]);
+}
+
+// ---- what is done to the notices of a kind
+
+// A tick.
+fn tick_kind(
+    region: &mut [u8],
+    out: &mut [u8],
+    at: usize,
+    s: u64,
+    kind: usize,
+    x: Subscription,
+    settings: &[u8],
+) -> Dealt
+    requires { ⌜ (at + 236 ≤ length (now out)) × (s < 256) × (length (now settings) ≡ 33) × (kind < 2) ⌝ }
+    requires { ⌜ Good (now region) × Kept kind x (places-of kind (now region)) ⌝ }
+    ensures { λ r. ⌜ (r .at ≤ at + 236) × Moved kind (now (region .entry)) (now (region .exit)) × Deals kind beats x (places-of kind (now (region .entry))) (r .next) (places-of kind (now (region .exit))) × Put (now (out .entry)) at (dealt-bytes kind s (settings-of (now (settings .entry))) beats x (places-of kind (now (region .entry)))) (r .at) (now (out .exit)) ⌝ }
+{
+    if kind == message::IDENTIFIERS {
+        return notices::tick(&mut region[80..130], out, at, s, kind, x, settings);
+    }
+    notices::tick(&mut region[136..1016], out, at, s, kind, x, settings)
+}
+
+// An acknowledge.
+fn acknowledge_kind(
+    region: &mut [u8],
+    out: &mut [u8],
+    at: usize,
+    s: u64,
+    kind: usize,
+    x: Subscription,
+    settings: &[u8],
+) -> Dealt
+    requires { ⌜ (at + 236 ≤ length (now out)) × (s < 256) × (length (now settings) ≡ 33) × (kind < 2) ⌝ }
+    requires { ⌜ Good (now region) × Kept kind x (places-of kind (now region)) ⌝ }
+    ensures { λ r. ⌜ (r .at ≤ at + 236) × Moved kind (now (region .entry)) (now (region .exit)) × Deals kind acks x (places-of kind (now (region .entry))) (r .next) (places-of kind (now (region .exit))) × Put (now (out .entry)) at (dealt-bytes kind s (settings-of (now (settings .entry))) acks x (places-of kind (now (region .entry)))) (r .at) (now (out .exit)) ⌝ }
+{
+    if kind == message::IDENTIFIERS {
+        return notices::acknowledge(&mut region[80..130], out, at, s, kind, x, settings);
+    }
+    notices::acknowledge(&mut region[136..1016], out, at, s, kind, x, settings)
+}
+
+// An event, whose notice is in `place`.
+fn take_kind(
+    region: &mut [u8],
+    out: &mut [u8],
+    at: usize,
+    s: u64,
+    kind: usize,
+    x: Subscription,
+    settings: &[u8],
+    place: &[u8],
+) -> Took
+    requires { ⌜ (at + 236 ≤ length (now out)) × (s < 256) × (length (now settings) ≡ 33) × (kind < 2) ⌝ }
+    requires { ⌜ Good (now region) × Kept kind x (places-of kind (now region)) × (length (now place) ≡ place-size kind) ⌝ }
+    ensures { λ r. ⌜ (r .at ≤ at + 236) × Moved kind (now (region .entry)) (now (region .exit)) × Deals kind (news (notice-in kind (now (place .entry)))) x (places-of kind (now (region .entry))) (r .next) (places-of kind (now (region .exit))) × Put (now (out .entry)) at (dealt-bytes kind s (settings-of (now (settings .entry))) (news (notice-in kind (now (place .entry)))) x (places-of kind (now (region .entry)))) (r .at) (now (out .exit)) × (r .taken ≡ takes (room-of kind) (subscription-of kind x (places-of kind (now (region .entry))))) ⌝ }
+{
+    if kind == message::IDENTIFIERS {
+        return notices::take(&mut region[80..130], out, at, s, kind, x, settings, place);
+    }
+    notices::take(&mut region[136..1016], out, at, s, kind, x, settings, place)
 }
