@@ -1,1 +1,3 @@
 pub mod Areas
+pub mod Outputs
+pub mod Both

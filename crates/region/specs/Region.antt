@@ -3,7 +3,7 @@
 use mathlib.Core.Path.{_≡_}
 use Prim.Native.Nat.{ℕ, _≤_, _<_}
 use mathlib.Core.Bool.{Bool, true, cond, _&&_}
-use mathlib.Core.List.{List, []}
+use mathlib.Core.List.{List, [], _∷_}
 use lib.Dec.{eqb}
 use lib.ListN.{length, take, drop}
 use Rattle.model.specs.Records.{Settings}
@@ -17,7 +17,9 @@ use Rattle.session.specs.Meaning.{session-in}
 use Rattle.session.specs.declared.Session.{Session}
 use Rattle.run.specs.Area.{run-of, run-formed}
 use Rattle.head.specs.Head.{head-of, head-formed}
-use Rattle.notices.specs.Places.{notices-in}
+use Rattle.model.specs.Notices.{Subscription}
+use Rattle.text.specs.Put.{Put}
+use Rattle.notices.specs.Places.{notices-in, subscription-of}
 
 -- ==== its areas
 
@@ -80,3 +82,14 @@ pub record Moved (kind : ℕ) (r r′ : List ℕ) : Type 0 where
 -- ==== a step of session s: what the region means after it, and what goes out
 abbrev pub out-bytes : ℕ → List Emission → List ℕ
 out-bytes s es = output (tag s es)
+
+-- the subscriptions of a session of that control in a region
+abbrev pub subscriptions-of : Session → List ℕ → List Subscription
+subscriptions-of x r =
+    subscription-of identifiers (x .identifiers) (identifiers-area r) ∷ subscription-of tightenings (x .tightenings) (tightenings-area r) ∷ []
+
+-- the region means the session that the step leaves, and what it emits to session s is written
+pub record Steps (s : ℕ) (step : model.Session × List Emission) (r o : List ℕ) (at next : ℕ) (o′ : List ℕ) : Type 0 where
+  pub good : Good r
+  pub session : session-of r ≡ step .0
+  pub bytes : Put o at (out-bytes s (step .1)) next o′

@@ -6,13 +6,15 @@ ghost use lib.ListN.{length};
 ghost use Rattle.model.specs.Records.{settings-of};
 ghost use Rattle.model.specs.Runs.{empty-run, longer};
 ghost use Rattle.model.specs.Notices.{room-of, beats, acks, news, takes};
+ghost use Rattle.model.specs.Session.{dealt};
 ghost use Rattle.text.specs.Put.{Put};
 ghost use Rattle.run.specs.Area.{run-of};
 ghost use Rattle.head.specs.Head.{head-of, Storable};
 ghost use Rattle.notices.specs.Places.{place-size, notice-in, subscription-of, Kept, Deals, dealt-bytes};
-ghost use Rattle.region.specs.Region.{head-area, run-area, identifiers-area, tightenings-area, session-of, region-formed, Good, Stands, places-of, Moved};
+ghost use Rattle.region.specs.Region.{head-area, run-area, identifiers-area, tightenings-area, session-of, region-formed, Good, Stands, places-of, Moved, subscriptions-of, Steps};
 use notices::Dealt;
 use notices::Took;
+use session::Phase;
 use session::Session;
 use session::Subscription;
 
@@ -119,4 +121,36 @@ fn take_kind(
         return notices::take(&mut region[80..130], out, at, s, kind, x, settings, place);
     }
     notices::take(&mut region[136..1016], out, at, s, kind, x, settings, place)
+}
+
+// ---- a tick
+
+// What a tick does to one that is started and stays: its idle count has gone up already.
+fn tick_kinds(
+    region: &mut [u8],
+    out: &mut [u8],
+    at: usize,
+    s: u64,
+    settings: &[u8],
+    x: Session,
+) -> usize
+    requires { ⌜ (at + 472 ≤ length (now out)) × (s < 256) × (length (now settings) ≡ 33) × Good (now region) × Storable x ⌝ }
+    ensures { λ r. ⌜ (r ≤ at + 472) × Steps s (dealt (settings-of (now (settings .entry))) (x .idle) (run-of (run-area (now (region .entry)))) (λ kind. beats) (subscriptions-of x (now (region .entry)))) (now (region .exit)) (now (out .entry)) at r (now (out .exit)) ⌝ }
+{
+    let i = x.identifiers;
+    let i = tick_kind(region, out, at, s, message::IDENTIFIERS, i, settings);
+    let t = x.tightenings;
+    let t = tick_kind(region, out, i.at, s, message::TIGHTENINGS, t, settings);
+    let identifiers = i.next;
+    let tightenings = t.next;
+    store(
+        region,
+        Session {
+            phase: Phase::Started,
+            idle: x.idle,
+            identifiers,
+            tightenings,
+        },
+    );
+    t.at
 }
