@@ -15,6 +15,7 @@ use Rattle.model.specs.Session as model
 use Rattle.text.specs.Put.{Put}
 use Rattle.text.proofs.Puts.{put-as}
 use Rattle.session.specs.Meaning.{Holds, session-as}
+use Rattle.session.specs.Control.{fresh, cleared}
 use Rattle.session.specs.declared.Phase.{Phase}
 use Rattle.session.specs.declared.Phase.the-variants.{Started}
 use Rattle.session.specs.declared.Session.{Session}
@@ -63,6 +64,12 @@ module _ (p : Phase) (idle : ℕ) (i t : Subscription) (is ts : List ℕ) where
       let fi = hi .fits in
       let ft = ht .fits in
       record { idle = l; i-clock = omega arith; i-held = omega arith; t-clock = omega arith; t-held = omega arith }
+
+pub cleared-storable : Storable cleared
+cleared-storable = record { idle = omega arith; i-clock = omega arith; i-held = omega arith; t-clock = omega arith; t-held = omega arith }
+
+pub fresh-storable : Storable fresh
+fresh-storable = record { idle = omega arith; i-clock = omega arith; i-held = omega arith; t-clock = omega arith; t-held = omega arith }
 
 -- ==== both kinds
 

@@ -1,3 +1,4 @@
 pub mod Areas
 pub mod Outputs
 pub mod Both
+pub mod Ticks

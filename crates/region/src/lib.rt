@@ -7,13 +7,17 @@ ghost use Rattle.model.specs.Records.{settings-of};
 ghost use Rattle.model.specs.Runs.{empty-run, longer};
 ghost use Rattle.model.specs.Notices.{room-of, beats, acks, news, takes};
 ghost use Rattle.model.specs.Session.{dealt};
+ghost use Rattle.model.specs.Steps.{step, tick as one-tick};
+ghost use Rattle.model.specs.Events.{identifiers, tightenings};
+ghost use Rattle.session.specs.Meaning.{tick-goes-on};
 ghost use Rattle.text.specs.Put.{Put};
 ghost use Rattle.run.specs.Area.{run-of};
 ghost use Rattle.head.specs.Head.{head-of, Storable};
-ghost use Rattle.notices.specs.Places.{place-size, notice-in, subscription-of, Kept, Deals, dealt-bytes};
+ghost use Rattle.notices.specs.Places.{place-size, notice-in, notices-in, subscription-of, Kept, Deals, dealt-bytes};
 ghost use Rattle.region.specs.Region.{head-area, run-area, identifiers-area, tightenings-area, session-of, region-formed, Good, Stands, places-of, Moved, subscriptions-of, Steps};
 use notices::Dealt;
 use notices::Took;
+use session::Idling;
 use session::Phase;
 use session::Session;
 use session::Subscription;
@@ -153,4 +157,46 @@ fn tick_kinds(
         },
     );
     t.at
+}
+
+// What a tick does to one that stays, by its phase.
+fn tick_stays(
+    region: &mut [u8],
+    out: &mut [u8],
+    at: usize,
+    s: u64,
+    settings: &[u8],
+    x: Session,
+) -> usize
+    requires { ⌜ (at + 472 ≤ length (now out)) × (s < 256) × (length (now settings) ≡ 33) × Good (now region) × Storable x ⌝ }
+    ensures { λ r. ⌜ (r ≤ at + 472) × Steps s (tick-goes-on (settings-of (now (settings .entry))) (run-of (run-area (now (region .entry)))) (notices-in identifiers (x .identifiers .held) (identifiers-area (now (region .entry)))) (notices-in tightenings (x .tightenings .held) (tightenings-area (now (region .entry)))) (x .phase) x) (now (region .exit)) (now (out .entry)) at r (now (out .exit)) ⌝ }
+{
+    let phase = x.phase;
+    match phase {
+        Phase::Closed => {
+            store(region, x);
+            at
+        }
+        Phase::Opened => {
+            store(region, x);
+            at
+        }
+        Phase::Started => tick_kinds(region, out, at, s, settings, x),
+    }
+}
+
+// A tick to session s.
+pub fn tick(region: &mut [u8], out: &mut [u8], at: usize, s: u64, settings: &[u8]) -> usize
+    requires { ⌜ (at + 472 ≤ length (now out)) × (s < 256) × (length (now settings) ≡ 33) × Good (now region) ⌝ }
+    ensures { λ r. ⌜ (r ≤ at + 472) × Steps s (step (settings-of (now (settings .entry))) one-tick (session-of (now (region .entry)))) (now (region .exit)) (now (out .entry)) at r (now (out .exit)) ⌝ }
+{
+    let x = load(region);
+    let idling = session::idled(x);
+    match idling {
+        Idling::Stays(y) => tick_stays(region, out, at, s, settings, y),
+        Idling::TimesOut => {
+            store(region, Session::cleared());
+            frame::put_close(out, at, s)
+        }
+    }
 }
