@@ -8,16 +8,17 @@ use lib.Dec.{leb}
 use borrow.Author.Tests.{leb-false}
 use Rattle.model.specs.Limits.{idle-limit}
 use Rattle.model.specs.Records.{Settings}
-use Rattle.model.specs.Runs.{Run}
+use Rattle.model.specs.Runs.{Run, empty-run}
 use Rattle.model.specs.Events.{Notice}
 use Rattle.model.specs.Frames.{close-record}
-use Rattle.model.specs.Session.{closed, opened, started, Emission, close}
+use Rattle.model.specs.Session.{closed, opened, started, is-closed, Emission, close}
 use Rattle.model.specs.Session as model
+use Rattle.model.specs.Notices as notice
 use Rattle.model.specs.Steps.{step, tick}
 use Rattle.text.specs.Put.{Put}
 use Rattle.text.proofs.Puts.{put-nothing, put-as}
-use Rattle.session.specs.Meaning.{session-in, tick-goes-on, ticked-so}
-use Rattle.session.specs.Control.{session, with-idle, idled, idled-from, idled-open, cleared}
+use Rattle.session.specs.Meaning.{session-as, session-in, tick-goes-on, ticked-so}
+use Rattle.session.specs.Control.{session, with-idle, idled, idled-from, idled-open, fresh, cleared}
 use Rattle.session.proofs.Sessions.{idle-right}
 use Rattle.session.specs.declared.Phase.{Phase}
 use Rattle.session.specs.declared.Phase.the-variants.{Closed, Opened, Started}
@@ -146,3 +147,21 @@ module _ (s : ℕ) (st : Settings) (r : List ℕ) (x : Session) (ex : x ≡ head
         session = means r′ cleared run is ts w ∙ sym (ap (λ (z : model.Session × List Emission). z .0) q);
         bytes = put-as (sym (append-nil (close-record s)) ∙ ap (λ (z : model.Session × List Emission). out-bytes s (z .1)) (sym q)) p;
       }
+
+-- ==== whether it is closed, how it begins and ends
+
+closed-as : (p : Phase) (idle : ℕ) (run : Run) (subs : List notice.Subscription) → is-closed (session-as p idle run subs) ≡ is-closed (session-as p 0 empty-run [])
+closed-as Closed idle run subs = refl
+closed-as Opened idle run subs = refl
+closed-as Started idle run subs = refl
+
+pub closed-by : (r : List ℕ) (p : Phase) → (head-of (head-area r)) .phase ≡ p → is-closed (session-of r) ≡ is-closed (session-as p 0 empty-run [])
+unfolding session-of
+closed-by r p e = closed-as (head-of (head-area r) .phase) _ _ _ ∙ ap (λ (q : Phase). is-closed (session-as q 0 empty-run [])) e
+
+module _ (r : List ℕ) (x : Session) (run : Run) (is ts : List ℕ) (s : Stands r x run is ts) where
+  pub hung-up : x ≡ cleared → Good r × (session-of r ≡ closed)
+  hung-up e = (s .good, means r x run is ts s ∙ ap (λ (z : Session). meaning z run is ts) e)
+
+  pub begun : x ≡ fresh → run ≡ empty-run → Good r × (session-of r ≡ model.fresh)
+  begun e f = (s .good, means r x run is ts s ∙ ap₂ (λ (z : Session) (n : Run). meaning z n is ts) e f)

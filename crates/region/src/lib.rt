@@ -6,7 +6,7 @@ ghost use lib.ListN.{length};
 ghost use Rattle.model.specs.Records.{settings-of};
 ghost use Rattle.model.specs.Runs.{empty-run, longer};
 ghost use Rattle.model.specs.Notices.{room-of, beats, acks, news, takes};
-ghost use Rattle.model.specs.Session.{dealt};
+ghost use Rattle.model.specs.Session.{dealt, closed, fresh, is-closed as is-closed-session};
 ghost use Rattle.model.specs.Steps.{step, tick as one-tick};
 ghost use Rattle.model.specs.Events.{identifiers, tightenings};
 ghost use Rattle.session.specs.Meaning.{tick-goes-on};
@@ -199,4 +199,36 @@ pub fn tick(region: &mut [u8], out: &mut [u8], at: usize, s: u64, settings: &[u8
             frame::put_close(out, at, s)
         }
     }
+}
+
+// ---- an opening, a hang-up
+
+pub fn is_closed(region: &[u8]) -> bool
+    requires { ⌜ Good (now region) ⌝ }
+    ensures { λ r. ⌜ r ≡ is-closed-session (session-of (now (region .entry))) ⌝ }
+{
+    let x = load(region);
+    let phase = x.phase;
+    match phase {
+        Phase::Closed => true,
+        Phase::Opened => false,
+        Phase::Started => false,
+    }
+}
+
+// The session begins.
+pub fn open(region: &mut [u8])
+    requires { ⌜ Good (now region) ⌝ }
+    ensures { λ _. ⌜ Good (now (region .exit)) × (session-of (now (region .exit)) ≡ fresh) ⌝ }
+{
+    store(region, Session::fresh());
+    clear_run(region);
+}
+
+// The session ends.
+pub fn hang_up(region: &mut [u8])
+    requires { ⌜ Good (now region) ⌝ }
+    ensures { λ _. ⌜ Good (now (region .exit)) × (session-of (now (region .exit)) ≡ closed) ⌝ }
+{
+    store(region, Session::cleared());
 }
