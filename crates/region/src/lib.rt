@@ -6,7 +6,7 @@ ghost use lib.ListN.{length};
 ghost use Rattle.model.specs.Records.{settings-of};
 ghost use Rattle.model.specs.Runs.{empty-run, longer};
 ghost use Rattle.model.specs.Notices.{room-of, beats, acks, news, takes};
-ghost use Rattle.model.specs.Session.{dealt, closed, fresh, is-closed as is-closed-session};
+ghost use Rattle.model.specs.Session.{dealt, closed, fresh, is-closed as is-closed-session, only};
 ghost use Rattle.model.specs.Steps.{step, tick as one-tick};
 ghost use Rattle.model.specs.Events.{identifiers, tightenings};
 ghost use Rattle.session.specs.Meaning.{tick-goes-on};
@@ -231,4 +231,94 @@ pub fn hang_up(region: &mut [u8])
     ensures { λ _. ⌜ Good (now (region .exit)) × (session-of (now (region .exit)) ≡ closed) ⌝ }
 {
     store(region, Session::cleared());
+}
+
+// ---- an event
+
+// What an event did to a session: the place behind what went out, and whether it was taken.
+pub struct Told {
+    pub at: usize,
+    pub taken: bool,
+}
+
+// An identifier, to one that is started.
+fn identified(
+    region: &mut [u8],
+    out: &mut [u8],
+    at: usize,
+    s: u64,
+    settings: &[u8],
+    x: Session,
+    place: &[u8],
+) -> Told
+    requires { ⌜ (at + 236 ≤ length (now out)) × (s < 256) × (length (now settings) ≡ 33) × Good (now region) × Storable x × (length (now place) ≡ place-size 0) ⌝ }
+    ensures { λ r. ⌜ (r .at ≤ at + 236) × Steps s (dealt (settings-of (now (settings .entry))) (x .idle) (run-of (run-area (now (region .entry)))) (only 0 (news (notice-in 0 (now (place .entry))))) (subscriptions-of x (now (region .entry)))) (now (region .exit)) (now (out .entry)) at (r .at) (now (out .exit)) × (r .taken ≡ takes (room-of 0) (subscription-of 0 (x .identifiers) (identifiers-area (now (region .entry))))) ⌝ }
+{
+    let x_kind = x.identifiers;
+    let t = take_kind(
+        region,
+        out,
+        at,
+        s,
+        message::IDENTIFIERS,
+        x_kind,
+        settings,
+        place,
+    );
+    let next = t.next;
+    let kept = x.tightenings;
+    store(
+        region,
+        Session {
+            phase: Phase::Started,
+            idle: x.idle,
+            identifiers: next,
+            tightenings: kept,
+        },
+    );
+    Told {
+        at: t.at,
+        taken: t.taken,
+    }
+}
+
+// A tightening, to one that is started.
+fn tightened(
+    region: &mut [u8],
+    out: &mut [u8],
+    at: usize,
+    s: u64,
+    settings: &[u8],
+    x: Session,
+    place: &[u8],
+) -> Told
+    requires { ⌜ (at + 236 ≤ length (now out)) × (s < 256) × (length (now settings) ≡ 33) × Good (now region) × Storable x × (length (now place) ≡ place-size 1) ⌝ }
+    ensures { λ r. ⌜ (r .at ≤ at + 236) × Steps s (dealt (settings-of (now (settings .entry))) (x .idle) (run-of (run-area (now (region .entry)))) (only 1 (news (notice-in 1 (now (place .entry))))) (subscriptions-of x (now (region .entry)))) (now (region .exit)) (now (out .entry)) at (r .at) (now (out .exit)) × (r .taken ≡ takes (room-of 1) (subscription-of 1 (x .tightenings) (tightenings-area (now (region .entry))))) ⌝ }
+{
+    let x_kind = x.tightenings;
+    let t = take_kind(
+        region,
+        out,
+        at,
+        s,
+        message::TIGHTENINGS,
+        x_kind,
+        settings,
+        place,
+    );
+    let next = t.next;
+    let kept = x.identifiers;
+    store(
+        region,
+        Session {
+            phase: Phase::Started,
+            idle: x.idle,
+            identifiers: kept,
+            tightenings: next,
+        },
+    );
+    Told {
+        at: t.at,
+        taken: t.taken,
+    }
 }
