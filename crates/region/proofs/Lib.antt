@@ -2,3 +2,4 @@ pub mod Areas
 pub mod Outputs
 pub mod Both
 pub mod Ticks
+pub mod Events

@@ -7,7 +7,7 @@ ghost use Rattle.model.specs.Records.{settings-of};
 ghost use Rattle.model.specs.Runs.{empty-run, longer};
 ghost use Rattle.model.specs.Notices.{room-of, beats, acks, news, takes};
 ghost use Rattle.model.specs.Session.{dealt, closed, fresh, is-closed as is-closed-session, only};
-ghost use Rattle.model.specs.Steps.{step, tick as one-tick};
+ghost use Rattle.model.specs.Steps.{step, tick as one-tick, event as event-of, takes as takes-event};
 ghost use Rattle.model.specs.Events.{identifiers, tightenings};
 ghost use Rattle.session.specs.Meaning.{tick-goes-on};
 ghost use Rattle.text.specs.Put.{Put};
@@ -320,5 +320,32 @@ fn tightened(
     Told {
         at: t.at,
         taken: t.taken,
+    }
+}
+
+// An event of that kind, whose notice is in `place`, to session s.
+pub fn event(
+    region: &mut [u8],
+    out: &mut [u8],
+    at: usize,
+    s: u64,
+    settings: &[u8],
+    kind: usize,
+    place: &[u8],
+) -> Told
+    requires { ⌜ (at + 236 ≤ length (now out)) × (s < 256) × (length (now settings) ≡ 33) × Good (now region) × (kind < 2) × (length (now place) ≡ place-size kind) ⌝ }
+    ensures { λ r. ⌜ (r .at ≤ at + 236) × Steps s (step (settings-of (now (settings .entry))) (event-of (notice-in kind (now (place .entry)))) (session-of (now (region .entry)))) (now (region .exit)) (now (out .entry)) at (r .at) (now (out .exit)) × (r .taken ≡ takes-event kind (session-of (now (region .entry)))) ⌝ }
+{
+    let x = load(region);
+    let phase = x.phase;
+    match phase {
+        Phase::Closed => Told { at, taken: false },
+        Phase::Opened => Told { at, taken: false },
+        Phase::Started => {
+            if kind == message::IDENTIFIERS {
+                return identified(region, out, at, s, settings, x, place);
+            }
+            tightened(region, out, at, s, settings, x, place)
+        }
     }
 }
