@@ -376,15 +376,20 @@ static bool load_run(struct reader *reader, struct session *session)
     return memchr(session->run, 0, run_kept(session)) == NULL;
 }
 
+/* Of the notices' places only the first `count` are read; the counts are tested before. */
 static bool load_notices(struct reader *reader, struct session *session)
 {
-    for (unsigned i = 0; i < session->subscription[IDENTIFIER].count; i++)
+    bool texts = true;
+    for (unsigned i = 0; i < session->subscription[IDENTIFIER].count; i++) {
         memcpy(session->identifier[i], reader->at + i * TEXT_BYTES, TEXT_BYTES);
+        texts = texts && is_text(session->identifier[i], TEXT_BYTES);
+    }
     reader->at += IDENTIFIERS_HELD * TEXT_BYTES;
-    for (unsigned i = 0; i < session->subscription[TIGHTENING].count; i++)
+    for (unsigned i = 0; i < session->subscription[TIGHTENING].count; i++) {
         memcpy(session->result[i], reader->at + i * RESULT_BYTES, RESULT_BYTES);
-    return is_text(session->identifier[0], session->subscription[IDENTIFIER].count * TEXT_BYTES)
-        && is_text(session->result[0], session->subscription[TIGHTENING].count * RESULT_BYTES);
+        texts = texts && is_text(session->result[i], RESULT_BYTES);
+    }
+    return texts;
 }
 
 static bool load_session(const uint8_t *bytes, struct session *session)
@@ -671,9 +676,9 @@ static void drop_open(struct session *session, enum kind kind)
     if (FAULT != CLOCK_NOT_RESET || part->count == 0)
         part->clock = 0;
     if (kind == IDENTIFIER)
-        memmove(session->identifier[0], session->identifier[1], part->count * TEXT_BYTES);
+        memmove(session->identifier, session->identifier + 1, part->count * TEXT_BYTES);
     else
-        memmove(session->result[0], session->result[1], part->count * RESULT_BYTES);
+        memmove(session->result, session->result + 1, part->count * RESULT_BYTES);
 }
 
 /* Ends the open notice and sends the one behind it, if there is one. */
