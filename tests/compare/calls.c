@@ -175,23 +175,37 @@ static uint64_t both(const struct call *call)
     return sides[0].returned;
 }
 
+/* What may be spoilt in a call, one or several. */
+enum { SPOIL_TABLE = 1, SPOIL_OUTPUT = 2, SPOIL_SESSION = 4, SPOIL_ANSWER = 8, SPOIL_GIVEN = 16 };
+
+static bool surely_refused(unsigned spoil, enum what what, bool cut)
+{
+    if (spoil & (SPOIL_TABLE | SPOIL_ANSWER))
+        return true;
+    if ((spoil & SPOIL_OUTPUT) && what != START)
+        return true;
+    if ((spoil & SPOIL_SESSION) && (what == OPEN || what == HANG_UP || what == BYTES))
+        return true;
+    return cut && (what == START || what == RECORD); /* its length field now lies */
+}
+
 /* Calls that must be refused by their lengths or their session, tried on the way. */
 static void try_refused(struct call call)
 {
     static const uint64_t HIGH[] = { 4, 5, 255, 256, UINT64_C(1) << 32, UINT64_MAX };
-    unsigned spoil = 1 + roll(31); /* which of five things to spoil, perhaps several */
-    if (spoil & 1)
+    unsigned spoil = roll(2) ? 1u << roll(5) : 1 + roll(31);
+    if (spoil & SPOIL_TABLE)
         call.table_length = roll(2) ? TABLE - 1 : roll(TABLE);
-    if (spoil & 2)
+    if (spoil & SPOIL_OUTPUT)
         call.output_length = roll(2) ? OUTPUT - 1 : roll(OUTPUT);
-    if (spoil & 4)
+    if (spoil & SPOIL_SESSION)
         call.session = HIGH[roll(6)];
-    if (spoil & 8)
+    if (spoil & SPOIL_ANSWER)
         call.answer_length = roll(2) ? ANSWER - 1 : roll(ANSWER);
-    if ((spoil & 16) && call.given_length > 0)
+    bool cut = (spoil & SPOIL_GIVEN) && call.given_length > 0;
+    if (cut)
         call.given_length = roll((unsigned)call.given_length);
-    bool surely = (spoil & 1) || (spoil & 8) || ((spoil & 2) && call.what != START);
-    if (!surely)
+    if (!surely_refused(spoil, call.what, cut))
         return;
     if (both(&call) == 0)
         different(&call, "a call was done that must be refused");

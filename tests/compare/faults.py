@@ -4,8 +4,8 @@
     faults.py [--count N] [--first-seed N] [--records N]
 
 Builds the test program once with each fault of independent/faults.h and compares it with
-the faultless one over the histories; faults that show in the four numbers only are
-compared call by call. Exit status 0: every fault was found."""
+the faultless one over the histories; faults that its lines do not show are compared
+call by call. Exit status 0: every fault was found."""
 
 import argparse
 import multiprocessing
@@ -20,20 +20,23 @@ import compare
 HERE = os.path.dirname(os.path.abspath(__file__))
 SOURCE = os.path.join(HERE, "..", "independent")
 FLAGS = ["-std=c11", "-Wall", "-Wextra", "-Werror", "-O1"]
-NUMBERS_ONLY = {"FREE_SESSION_NOT_TAKEN"}
 
 
 def all_faults():
-    """(name, number) of each fault, as faults.h has them."""
+    """(name, number, how it is seen) of each fault: the names of faults.h, as FAULTS.md tells of them."""
     with open(os.path.join(SOURCE, "faults.h"), encoding="ascii") as file:
-        pairs = re.findall(r"^\s+([A-Z0-9_]+) = (\d+),?$", file.read(), re.M)
-    return [(name, int(number)) for name, number in pairs if name not in ("NO_FAULT", "LAST_FAULT")]
+        planted = re.findall(r"^\s+([A-Z0-9_]+) = (\d+),?$", file.read(), re.M)
+    with open(os.path.join(SOURCE, "FAULTS.md"), encoding="ascii") as file:
+        told = re.findall(r"^\| (\d+) \| ([A-Z0-9_]+) \|.*\| (lines|calls) \|$", file.read(), re.M)
+    if [(name, number) for number, name, _ in told] != planted[1:]:
+        sys.exit("faults.h and FAULTS.md do not list the same faults")
+    return [(name, int(number), seen) for number, name, seen in told]
 
 
-def build(name, number):
-    """The faulty program, or the faulty library where only the numbers show it."""
+def build(number, seen):
+    """The faulty program, or the faulty library where the lines do not show it."""
     source = [os.path.join(SOURCE, "independent.c")]
-    if name in NUMBERS_ONLY:
+    if seen == "calls":
         path = os.path.join(compare.BUILD, "libfault-%d.so" % number)
         flags = FLAGS + ["-fPIC", "-shared"]
     else:
@@ -45,9 +48,9 @@ def build(name, number):
 
 
 def find(arguments):
-    (name, number), seeds, records = arguments
-    path = build(name, number)
-    if name in NUMBERS_ONLY:
+    (name, number, seen), seeds, records = arguments
+    path = build(number, seen)
+    if seen == "calls":
         right = os.path.join(compare.BUILD, "libindependent.so:independent")
         pair = compare.Calls(right, path + ":independent")
     else:

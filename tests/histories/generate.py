@@ -497,8 +497,10 @@ class History:
                 self.any_message(s)
             elif sort < 0.85:
                 self.near_miss(s)
-            elif sort < 0.93:
+            elif sort < 0.92:
                 self.event()
+            elif sort < 0.95:
+                self.open(s)
             else:
                 self.tick()
 

@@ -1242,7 +1242,7 @@ static size_t consume(struct state *state, unsigned s, const uint8_t *bytes, siz
     if (nul == NULL)
         return before;
     end_run(state, s, output);
-    return before + 1;
+    return FAULT == NUL_NOT_CONSUMED ? before : before + 1;
 }
 
 /* ---------------------------------------------------------------- the calls */
@@ -1268,6 +1268,8 @@ static uint64_t finish(uint8_t *table, const struct state *state,
                        uint8_t *answer, uint64_t consumed, uint64_t taken)
 {
     save(table, state);
+    if (FAULT == WHOLE_OUTPUT_WRITTEN)
+        memcpy(lent, output->bytes, sizeof output->bytes);
     if (output->written > 0)
         memcpy(lent, output->bytes, output->written);
     return reply(answer, DONE, consumed, output->written, taken);
@@ -1284,6 +1286,20 @@ static uint64_t enter(const uint8_t *table, size_t table_len, size_t output_len,
     if (output_len < INDEPENDENT_OUTPUT_BYTES)
         return OUTPUT_SHORT;
     return DONE;
+}
+
+/* Numbers 1 to 4, for the calls that name a session. */
+static uint64_t enter_session(const uint8_t *table, size_t table_len, size_t output_len,
+                              uint64_t session, struct state *state)
+{
+    uint64_t number = enter(table, table_len, output_len, state);
+    if (FAULT == SESSION_BEFORE_OUTPUT && number == OUTPUT_SHORT && session >= SESSIONS)
+        return SESSION_ABOVE_3;
+    if (number != DONE)
+        return number;
+    if (FAULT == SESSION_CUT_TO_32_BITS)
+        session = (uint32_t)session;
+    return session >= SESSIONS ? SESSION_ABOVE_3 : DONE;
 }
 
 uint64_t independent_start(uint8_t *table, size_t table_len,
@@ -1317,14 +1333,15 @@ uint64_t independent_open(uint8_t *table, size_t table_len,
     struct output gathered = { .written = 0 };
     if (answer_len < INDEPENDENT_ANSWER_BYTES)
         return ANSWER_SHORT;
-    uint64_t number = enter(table, table_len, output_len, &state);
+    if (FAULT == OPEN_NEEDS_NO_OUTPUT)
+        output_len = INDEPENDENT_OUTPUT_BYTES;
+    uint64_t number = enter_session(table, table_len, output_len, session, &state);
     if (number != DONE)
         return refuse(answer, number);
-    if (session >= SESSIONS)
-        return refuse(answer, SESSION_ABOVE_3);
-    if (state.session[session].phase != CLOSED)
+    unsigned s = (unsigned)session;
+    if (state.session[s].phase != CLOSED)
         return refuse(answer, SESSION_NOT_CLOSED);
-    state.session[session].phase = OPENED; /* a closed session is clear already */
+    state.session[s].phase = OPENED; /* a closed session is clear already */
     return finish(table, &state, output, &gathered, answer, 0, 0);
 }
 
@@ -1337,14 +1354,15 @@ uint64_t independent_hang_up(uint8_t *table, size_t table_len,
     struct output gathered = { .written = 0 };
     if (answer_len < INDEPENDENT_ANSWER_BYTES)
         return ANSWER_SHORT;
-    uint64_t number = enter(table, table_len, output_len, &state);
+    if (FAULT == OPEN_NEEDS_NO_OUTPUT)
+        output_len = INDEPENDENT_OUTPUT_BYTES;
+    uint64_t number = enter_session(table, table_len, output_len, session, &state);
     if (number != DONE)
         return refuse(answer, number);
-    if (session >= SESSIONS)
-        return refuse(answer, SESSION_ABOVE_3);
-    if (state.session[session].phase == CLOSED)
+    unsigned s = (unsigned)session;
+    if (state.session[s].phase == CLOSED)
         return refuse(answer, SESSION_CLOSED);
-    clear_session(&state.session[session], CLOSED, KEPT_THROUGH_HANG_UP);
+    clear_session(&state.session[s], CLOSED, KEPT_THROUGH_HANG_UP);
     return finish(table, &state, output, &gathered, answer, 0, 0);
 }
 
@@ -1358,14 +1376,13 @@ uint64_t independent_bytes(uint8_t *table, size_t table_len,
     struct output gathered = { .written = 0 };
     if (answer_len < INDEPENDENT_ANSWER_BYTES)
         return ANSWER_SHORT;
-    uint64_t number = enter(table, table_len, output_len, &state);
+    uint64_t number = enter_session(table, table_len, output_len, session, &state);
     if (number != DONE)
         return refuse(answer, number);
-    if (session >= SESSIONS)
-        return refuse(answer, SESSION_ABOVE_3);
-    if (state.session[session].phase == CLOSED)
+    unsigned s = (unsigned)session;
+    if (state.session[s].phase == CLOSED)
         return refuse(answer, SESSION_CLOSED);
-    size_t consumed = consume(&state, (unsigned)session, bytes, bytes_len, &gathered);
+    size_t consumed = consume(&state, s, bytes, bytes_len, &gathered);
     return finish(table, &state, output, &gathered, answer, consumed, 0);
 }
 
@@ -1375,6 +1392,11 @@ uint64_t independent_tick(uint8_t *table, size_t table_len,
 {
     struct state state = { 0 };
     struct output gathered = { .written = 0 };
+    if (FAULT == SHORT_ANSWER_BUT_DONE && answer_len < INDEPENDENT_ANSWER_BYTES) {
+        uint8_t spare[INDEPENDENT_ANSWER_BYTES];
+        independent_tick(table, table_len, output, output_len, spare, sizeof spare);
+        return ANSWER_SHORT;
+    }
     if (answer_len < INDEPENDENT_ANSWER_BYTES)
         return ANSWER_SHORT;
     uint64_t number = enter(table, table_len, output_len, &state);
