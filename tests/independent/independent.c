@@ -249,8 +249,6 @@ static bool read_settings(const uint8_t *payload, struct settings *settings)
     settings->granted = granted == 1;
     memcpy(settings->name, take_bytes(&reader, TEXT_BYTES), TEXT_BYTES);
     settings->last = take_number(&reader, 4);
-    if (FAULT == FULL_SETTINGS_REFUSED && settings->last == LAST_NUMBER_GREATEST)
-        return false;
     return settings->cell <= 9999 && settings->channel <= 99 && granted <= 1
         && is_text(settings->name, TEXT_BYTES);
 }
@@ -1313,6 +1311,8 @@ uint64_t independent_start(uint8_t *table, size_t table_len,
         return refuse(answer, TABLE_SHORT);
     if (!is_record(settings, settings_len, KIND_SETTINGS, SETTINGS_BYTES)
         || !read_settings(settings + RECORD_HEADER_BYTES, &state.settings))
+        return refuse(answer, SETTINGS_BAD);
+    if (FAULT == FULL_SETTINGS_REFUSED && state.settings.last == LAST_NUMBER_GREATEST)
         return refuse(answer, SETTINGS_BAD);
     memset(state.in_force, ' ', TEXT_BYTES);
     if (FAULT == START_KEEPS_IDENTIFIER) {
