@@ -1,0 +1,762 @@
+#!/usr/bin/env python3
+"""Prints a history as house records, for a seed.
+
+    generate.py SEED [--records N]
+
+The history is aimed at deep states. It is made of stretches, each of one sort, so that
+long orderly ones (which reach clocks of 120 and full queues) alternate with disorder.
+The generator keeps a rough idea of what stands at the other end (is the session up, how
+long was it silent) to stay in deep states; it does not know the rules, and its idea
+may be wrong. The same seed always gives the same history."""
+
+import argparse
+import random
+import struct
+import sys
+
+TIGHTENING, SCANNED, SETTINGS = 1, 2, 3
+OPEN, HANG_UP, BYTES, TICK = 16, 32, 48, 64
+GREATEST_NUMBER = 4294967295
+GREATEST_PAYLOAD = 8192
+
+KNOWN = (1, 3, 50, 51, 53, 54, 60, 62, 63, 9999)
+OTHERS = (0, 2, 4, 5, 6, 10, 49, 52, 55, 59, 61, 64, 65, 70, 71, 72, 73, 100, 999, 1001,
+          1234, 5000, 5001, 5100, 6000, 9990, 9998)
+REVISIONS = (b"001", b"000", b"   ", b"002", b"003", b"004", b"010", b"011", b"100", b"101",
+             b"200", b"257", b"999")
+GOOD_REVISIONS = (b"001", b"001", b"000", b"   ")
+BAD_REVISIONS = (b"0  ", b"  1", b"00 ", b" 01", b"1  ", b"0 1", b"00a", b"/00", b"00:", b"-01",
+                 b"\xb0\xb01", b"  \x1f")
+TICK_RECORD = struct.pack("<HH", 0, TICK)
+
+
+def record(kind, payload=b""):
+    return struct.pack("<HH", len(payload), kind) + payload
+
+
+def message(mid, revision=b"001", twelve=b" ", rest=b"        ", data=b"", length=None):
+    """The bytes of a message with its NUL; `length` only where the digits shall lie."""
+    if length is None:
+        length = 20 + len(data)
+    return b"%04d%04d" % (length, mid) + revision + twelve + rest + data + b"\0"
+
+
+class Session:
+    """What the generator believes of a session."""
+
+    def __init__(self):
+        self.up = self.started = False
+        self.silent = 0
+        self.pending = bytearray()  # bytes made but not yet sent
+
+
+class History:
+    def __init__(self, seed, count):
+        self.random = random.Random(seed)
+        self.count = count
+        self.records = []
+        self.sessions = [Session() for _ in range(4)]
+        self.manner = "whole"  # how messages are cut into records
+        self.serial = 0
+
+    # ---- small chances
+
+    def chance(self, share):
+        return self.random.random() < share
+
+    def pick(self, things):
+        return things[int(self.random.random() * len(things))]
+
+    def between(self, least, greatest):
+        return least + int(self.random.random() * (greatest - least + 1))
+
+    def full(self):
+        return len(self.records) >= self.count
+
+    def some_sessions(self):
+        return [s for s in range(4) if self.chance(0.6)] or [self.between(0, 3)]
+
+    def started_sessions(self):
+        return [s for s in range(4) if self.sessions[s].started]
+
+    def a_session(self):
+        """Mostly one that is up."""
+        up = [s for s in range(4) if self.sessions[s].up]
+        return self.pick(up) if up and not self.chance(0.05) else self.between(0, 3)
+
+    # ---- records
+
+    def put(self, kind, payload=b""):
+        self.records.append(record(kind, payload))
+
+    def tick(self):
+        self.flush_all()
+        if self.chance(0.01):
+            self.put(TICK, b"x" * self.between(1, 5))
+        else:
+            self.records.append(TICK_RECORD)
+        for session in self.sessions:
+            session.silent += 1
+            if session.up and session.silent >= 15:
+                session.up = session.started = False
+
+    def open(self, s):
+        self.put(OPEN + s, b"?" if self.chance(0.02) else b"")
+        if s < 4 and not self.sessions[s].up:
+            self.sessions[s] = Session()
+            self.sessions[s].up = True
+
+    def hang_up(self, s):
+        self.put(HANG_UP + s, b"?" if self.chance(0.02) else b"")
+        if s < 4:
+            self.sessions[s] = Session()
+
+    def settings(self, last=None, granted=None):
+        if last is None:
+            last = self.pick((0, 0, 7, 99, 65535, 345674, 9999999, GREATEST_NUMBER - 200,
+                              self.between(0, GREATEST_NUMBER)))
+        if granted is None:
+            granted = 0 if self.chance(0.15) else 1
+        cell = self.pick((0, 1, 12, 999, 1000, 9998, 9999))
+        channel = self.pick((0, 1, 9, 10, 98, 99))
+        return struct.pack("<HBB25sI", cell, channel, granted, self.text(), last)
+
+    def start(self, last=None, granted=None):
+        self.put(SETTINGS, self.settings(last, granted))
+        self.sessions = [Session() for _ in range(4)]
+
+    # ---- contents
+
+    def text(self):
+        """25 bytes of text, each one different where that can be."""
+        self.serial += 1
+        sort = self.random.random()
+        if sort < 0.08:
+            return b" " * 25
+        if sort < 0.16:
+            return bytes(self.between(0x20, 0x7E) for _ in range(25))
+        if sort < 0.2:
+            return (b" " * self.between(1, 24) + b"e%d" % self.serial)[:25].ljust(25)
+        return (b"ID-%d" % self.serial).ljust(25)
+
+    def time(self):
+        return b"%04d-%02d-%02d:%02d:%02d:%02d" % (
+            self.between(0, 9999), self.between(0, 99), self.between(0, 99),
+            self.between(0, 99), self.between(0, 99), self.between(0, 99))
+
+    def number(self, greatest):
+        if self.chance(0.3):
+            return self.pick((0, 1, 9, 10, greatest // 10, greatest - 1, greatest))
+        return self.between(0, greatest)
+
+    def tightening_fields(self):
+        number = self.number
+        identifier = b" " * 25 if self.chance(0.5) else self.text()
+        return [identifier, number(99), number(999), number(9999), number(9999), self.between(0, 1),
+                self.between(0, 2), self.between(0, 2)] \
+            + [number(999999) for _ in range(4)] + [number(99999) for _ in range(4)] \
+            + [self.time(), self.time(), self.between(0, 2)]
+
+    def tightening_payload(self, fields):
+        return struct.pack("<25sBHHHBBB4I4I19s19sB", *fields)
+
+    def tightening(self):
+        self.put(TIGHTENING, self.tightening_payload(self.tightening_fields()))
+
+    def scan(self):
+        self.put(SCANNED, self.text())
+
+    def event(self):
+        if self.chance(0.65):
+            self.tightening()
+        elif self.chance(0.6):
+            self.scan()
+        else:
+            self.download(self.a_session())
+
+    # ---- messages
+
+    def send(self, s, data):
+        """Sends bytes to a session in the manner of the stretch."""
+        session = self.sessions[s]
+        session.silent = 0 if session.started else session.silent
+        session.pending += data
+        if self.manner == "whole":
+            self.flush(s)
+        elif self.manner == "joined":
+            if self.chance(0.25):
+                self.flush(s)
+        else:
+            self.send_pieces(s)
+
+    def send_pieces(self, s):
+        pending = self.sessions[s].pending
+        while pending and not self.chance(0.2):
+            size = self.between(0, min(len(pending), self.pick((1, 4, 12, 30))))
+            self.put(BYTES + s, bytes(pending[:size]))
+            del pending[:size]
+
+    def flush(self, s):
+        pending = self.sessions[s].pending
+        while pending:
+            self.put(BYTES + s, bytes(pending[:GREATEST_PAYLOAD]))
+            del pending[:GREATEST_PAYLOAD]
+
+    def flush_all(self):
+        """Now and then a part stays behind, so that ticks fall into the middle of a run."""
+        for s in range(4):
+            if self.sessions[s].pending and not self.chance(0.1):
+                self.flush(s)
+
+    def rest(self):
+        """Bytes 13 to 20, which are not read."""
+        if self.chance(0.8):
+            return b"        "
+        if self.chance(0.5):
+            return b"00000000"
+        return bytes(self.between(1, 255) for _ in range(8))
+
+    def twelve(self):
+        return self.pick((b" ", b" ", b"0", b"1"))
+
+    def begin(self, s):
+        self.send(s, message(1, self.pick(GOOD_REVISIONS), self.twelve(), self.rest()))
+        session = self.sessions[s]
+        if session.up and not session.started:
+            session.started = True
+            session.silent = 0
+
+    def subscribe(self, s, mid, free=None):
+        if free is None:
+            free = self.chance(0.2)
+        twelve = b"1" if free else self.pick((b"0", b" "))
+        revision = self.pick(GOOD_REVISIONS if mid == 60 else GOOD_REVISIONS + (b"002", b"002"))
+        if self.chance(0.05):  # first one that may be too high
+            self.send(s, message(mid, self.pick(REVISIONS), twelve, self.rest()))
+        self.send(s, message(mid, revision, twelve, self.rest()))
+
+    def acknowledge(self, s, mid=None):
+        mid = mid or self.pick((62, 62, 53))
+        self.send(s, message(mid, self.pick(REVISIONS), self.twelve(), self.rest()))
+
+    def download(self, s):
+        size = self.pick((1, 2, 10, 24, 25, self.between(1, 25)))
+        data = (b"D%d-" % self.serial + self.text().replace(b" ", b"."))[:size]
+        if self.chance(0.05):
+            data = b" " * size
+        if self.chance(0.12):
+            data = self.odd_byte(data)
+        self.send(s, message(50, self.pick(GOOD_REVISIONS), self.twelve(), self.rest(), data))
+
+    def keep_alive(self, s):
+        """Any message of a started session will do."""
+        sort = self.random.random()
+        if sort < 0.6:
+            self.send(s, message(9999, self.pick(REVISIONS), self.twelve(), self.rest()))
+        elif sort < 0.7:
+            self.send(s, message(self.pick(OTHERS), self.pick(REVISIONS), self.twelve()))
+        elif sort < 0.8:
+            self.subscribe(s, self.pick((51, 60)))
+        elif sort < 0.9:
+            self.send(s, message(1, self.pick(REVISIONS), data=b"x" * self.between(0, 2)))
+        else:
+            self.send(s, message(self.pick((53, 62)), data=b"x" * self.between(1, 3)))
+
+    def any_message(self, s):
+        """A message with every part near an edge."""
+        mid = self.pick(KNOWN) if self.chance(0.85) else self.pick(OTHERS)
+        revision = self.pick(GOOD_REVISIONS) if self.chance(0.6) else self.pick(REVISIONS)
+        usual = self.between(1, 25) if mid == 50 else 0
+        if self.chance(0.3):
+            usual = self.pick((0, 1, 2, 24, 25, 26, 27, 80))
+        data = self.data(usual)
+        self.send(s, message(mid, revision, self.twelve(), self.rest(), data))
+        if mid == 1 and self.sessions[s].up and not usual:
+            self.sessions[s].started = True
+        elif mid == 3 and not usual:
+            self.sessions[s].started = False
+
+    def data(self, size):
+        data = (self.text() * 4)[:size]
+        return self.odd_byte(data) if data and self.chance(0.25) else data
+
+    def odd_byte(self, data):
+        """The same with one byte at or past an end of the range of texts."""
+        where = self.between(0, len(data) - 1)
+        byte = self.pick((0x1F, 0x20, 0x7E, 0x7F, 0x7F, 0x80, 0xFF, 1, 10))
+        return data[:where] + bytes([byte]) + data[where + 1:]
+
+    def near_miss(self, s):
+        """A run that fails one part of the header rule, or only just does not."""
+        good = bytearray(message(self.pick(KNOWN), self.pick(GOOD_REVISIONS), self.twelve()))
+        sort = self.between(0, 8)
+        if sort == 0:  # the length lies
+            lie = self.pick((19, 21, 0, 20, 120, 2000, 22))
+            good[0:4] = b"%04d" % lie
+        elif sort == 1:  # no digit in length or MID
+            good[self.between(0, 7)] = self.pick((0x20, 0x2F, 0x3A, 0x2B, 0x2D, 0x41, 0xB0, 0x1F))
+        elif sort == 2:
+            good[8:11] = self.pick(BAD_REVISIONS)
+        elif sort == 3:
+            good[11] = self.pick((0x2F, 0x32, 0x33, 0x39, 0x21, 0x1F, 0x41, 0xB0, 0x20, 0x30, 0x31))
+        elif sort == 4:  # short runs that tell their length truly
+            size = self.between(0, 19)
+            good = bytearray((b"%04d" % size + bytes(good[4:]))[:size] + b"\0")
+        elif sort == 5:  # one byte too many or too few
+            good = good[:-2] + b"\0" if self.chance(0.5) else good[:-1] + b" \0"
+        elif sort == 6:  # empty runs
+            good = bytearray(b"\0" * self.between(1, 4))
+        elif sort == 7:  # the NUL counted in the length
+            good[0:4] = b"0021"
+        else:  # a NUL in the middle
+            good[self.between(0, 19)] = 0
+        self.send(s, bytes(good))
+
+    # ---- bad records
+
+    def bad_tightening(self):
+        """One field out of its range by one, or a wrong byte in a text or a time."""
+        fields = self.tightening_fields()
+        limits = {1: 100, 2: 1000, 3: 10000, 4: 10000, 5: 2, 6: 3, 7: 3, 18: 3}
+        limits.update({place: 1000000 for place in range(8, 12)})
+        limits.update({place: 100000 for place in range(12, 16)})
+        place = self.between(0, 18)
+        if place in limits:
+            top = 255 if place in (1, 5, 6, 7, 18) else 65535 if place in (2, 3, 4) else GREATEST_NUMBER
+            fields[place] = self.pick((limits[place], limits[place], top))
+        else:
+            text = bytearray(fields[place])
+            where = self.between(0, len(text) - 1)
+            if place == 0:
+                text[where] = self.pick((0x1F, 0x7F, 0, 0x80, 0xFF))
+            else:
+                text[where] = self.pick((0x2F, 0x3A, 0x2D, 0x30, 0x20, 0x39, 0x2C, 0x2E))
+            fields[place] = bytes(text)
+        return self.tightening_payload(fields)
+
+    def bad_settings(self):
+        payload = bytearray(self.settings())
+        sort = self.between(0, 4)
+        if sort == 0:
+            payload[0:2] = struct.pack("<H", self.pick((10000, 65535, 10001)))
+        elif sort == 1:
+            payload[2] = self.pick((100, 255))
+        elif sort == 2:
+            payload[3] = self.pick((2, 255, 0x30, 0x31))
+        elif sort == 3:
+            payload[4 + self.between(0, 24)] = self.pick((0x1F, 0x7F, 0, 0x80))
+        else:
+            payload = self.wrong_size(payload)
+        return bytes(payload)
+
+    def wrong_size(self, payload):
+        return bytes(payload[:-1]) if self.chance(0.5) else bytes(payload) + b" "
+
+    def bad_record(self):
+        sort = self.between(0, 9)
+        if sort <= 3:
+            self.put(TIGHTENING, self.bad_tightening())
+        elif sort == 4:
+            self.put(SETTINGS, self.bad_settings())
+        elif sort == 5:
+            text = bytearray(self.text())
+            text[self.between(0, 24)] = self.pick((0x1F, 0x7F, 0, 0x80, 0xFF))
+            self.put(SCANNED, bytes(text))
+        elif sort == 6:
+            payload = self.tightening_payload(self.tightening_fields())
+            self.put(self.pick((TIGHTENING, SCANNED, SETTINGS)),
+                     self.wrong_size(self.pick((payload, self.text(), self.settings()))))
+        elif sort == 7:  # a kind that no call takes, with a good payload of another
+            kind = self.pick((0, 4, 5, 15, 65, 80, 255, 256, 257, 512, 769, 65535, 258, 259))
+            self.put(kind, self.pick((b"", self.text(), self.settings(),
+                                      self.tightening_payload(self.tightening_fields()))))
+        elif sort == 8:  # a good payload under another kind's number
+            self.put(TIGHTENING, self.text())
+            self.put(SCANNED, self.tightening_payload(self.tightening_fields()))
+        else:  # sessions that there are not
+            s = self.between(4, 15)
+            self.put(self.pick((OPEN, HANG_UP, BYTES)) + s, self.pick((b"", b"00200001")))
+
+    # ---- stretches
+
+    def bring_up(self, s, free=None, kinds=(51, 60)):
+        """Opens, starts and subscribes as far as the session is believed not to be."""
+        session = self.sessions[s]
+        if not session.up:
+            self.open(s)
+        if not self.sessions[s].started:
+            self.begin(s)
+            for mid in kinds:
+                if self.chance(0.85):
+                    self.subscribe(s, mid, free)
+        self.flush(s)
+
+    def bring_up_some(self, free=None):
+        chosen = self.some_sessions()
+        for s in chosen:
+            self.bring_up(s, free)
+        return chosen
+
+    def patience(self):
+        return self.between(7, 14) if not self.chance(0.02) else 15
+
+    def watch(self, ticks, acknowledging=0.0, events=0.0):
+        """Ticks, with keep-alives that let the notices live."""
+        patience = [self.patience() for _ in range(4)]
+        for _ in range(ticks):
+            if self.full():
+                return
+            for s in self.started_sessions():
+                if self.sessions[s].silent >= patience[s]:
+                    self.keep_alive(s)
+                    patience[s] = self.patience()
+                if acknowledging and self.chance(acknowledging):
+                    self.acknowledge(s)
+            if events and self.chance(events):
+                self.event()
+            self.tick()
+
+    def long_watch(self):
+        """Notices grow old: past 20, 40, .. 120 and into the next one."""
+        self.manner = "whole"
+        chosen = self.bring_up_some(False if self.chance(0.8) else None)
+        for other in self.started_sessions():  # too many cost too many keep-alives
+            if other not in chosen and self.chance(0.5):
+                self.hang_up(other)
+        for _ in range(self.between(1, 4)):
+            self.event()
+        self.watch(self.pick((19, 20, 21, 40, 61, 99, 101, 119, 120, 121, 125, 141, 150)),
+                   acknowledging=self.pick((0, 0, 0, 0.01)), events=self.pick((0, 0, 0.02)))
+        if self.chance(0.5):
+            self.acknowledge(self.pick(chosen))
+
+    def steady(self):
+        """A line at work: events, acknowledges mostly in time, some doubled."""
+        self.manner = self.pick(("whole", "whole", "joined", "cut"))
+        self.bring_up_some()
+        for _ in range(self.between(10, 40)):
+            if self.full():
+                return
+            sort = self.random.random()
+            live = self.started_sessions()
+            if sort < 0.35:
+                self.event()
+            elif sort < 0.8 and live:
+                s = self.pick(live)
+                for _ in range(2 if self.chance(0.15) else 1):
+                    self.acknowledge(s)
+            elif sort < 0.9 and live:
+                self.keep_alive(self.pick(live))
+            else:
+                self.tick()
+
+    def flood(self):
+        """Queues past eight, then drained, sometimes with the identifier changed between."""
+        self.manner = self.pick(("whole", "whole", "cut"))
+        chosen = self.bring_up_some(False if self.chance(0.8) else None)
+        for _ in range(self.between(6, 12)):
+            self.tightening()
+            if self.chance(0.2):
+                self.scan()
+        self.watch(self.pick((0, 1, 5, 21)))
+        for _ in range(self.between(0, 12)):
+            self.acknowledge(self.pick(chosen), 62)
+            if self.chance(0.15):
+                self.event()
+            if self.chance(0.1):
+                self.tick()
+
+    def identifiers(self):
+        """Identifiers that come while one is open, so that the waiting one is replaced."""
+        self.manner = self.pick(("whole", "joined", "cut"))
+        chosen = self.bring_up_some()
+        for _ in range(self.between(4, 14)):
+            sort = self.random.random()
+            if sort < 0.35:
+                self.scan()
+            elif sort < 0.65:
+                self.download(self.pick(chosen))
+            elif sort < 0.85:
+                self.acknowledge(self.pick(chosen), 53)
+            elif sort < 0.92:
+                self.tightening()
+            else:
+                self.tick()
+
+    def chatter(self):
+        """All sorts of messages, many of them refused or dropped."""
+        self.manner = self.pick(("whole", "joined", "joined", "cut", "cut"))
+        if self.chance(0.7):
+            self.bring_up(self.between(0, 3))
+        for _ in range(self.between(8, 30)):
+            if self.full():
+                return
+            s = self.a_session()
+            sort = self.random.random()
+            if sort < 0.55:
+                self.any_message(s)
+            elif sort < 0.85:
+                self.near_miss(s)
+            elif sort < 0.92:
+                self.event()
+            elif sort < 0.95:
+                self.open(s)
+            else:
+                self.tick()
+
+    def ladder(self):
+        """One message through its lengths and revisions."""
+        self.manner = self.pick(("whole", "joined"))
+        s = self.between(0, 3)
+        if self.chance(0.8):
+            self.bring_up(s)
+        elif not self.sessions[s].up:
+            self.open(s)
+        mid = self.pick((1, 3, 50, 50, 51, 53, 54, 60, 62, 63, 9999))
+        for _ in range(self.between(3, 9)):
+            size = self.pick((0, 0, 1, 2, 24, 25, 26))
+            self.send(s, message(mid, self.pick(REVISIONS), self.twelve(), data=self.data(size)))
+        self.flush(s)
+        self.sessions[s].started = self.sessions[s].started and mid != 3
+        self.event()
+
+    def bad_records(self):
+        self.manner = "whole"
+        for _ in range(self.between(3, 12)):
+            self.bad_record()
+            if self.chance(0.1):
+                self.event()
+
+    def lifecycle(self):
+        """Links lost and made again with notices open, runs cut off by it."""
+        self.manner = self.pick(("whole", "cut"))
+        s = self.between(0, 3)
+        self.bring_up(s, False if self.chance(0.8) else None)
+        for _ in range(self.between(1, 4)):
+            self.event()
+        self.watch(self.pick((0, 1, 5, 12)))
+        self.flush(s)
+        if self.chance(0.5):  # half a message is under way when the link drops
+            half = message(self.pick(KNOWN), self.pick(GOOD_REVISIONS))
+            self.put(BYTES + s, half[:self.pick((1, 4, 10, 12, 19, 20))])
+        sort = self.random.random()
+        if sort < 0.55:
+            self.hang_up(s)
+            if self.chance(0.2):
+                self.hang_up(s)
+                self.put(BYTES + s, message(9999))
+        elif sort < 0.75:
+            self.put(BYTES + s, b"\0" + message(3, self.pick(REVISIONS)))
+            self.sessions[s].started = False
+        else:
+            for _ in range(15):
+                self.tick()
+        self.watch(self.pick((0, 0, 2, 20)))
+        if self.chance(0.5):
+            self.event()
+        if self.chance(0.2):
+            self.open(s)
+        self.bring_up(s)
+        if self.chance(0.2):
+            self.acknowledge(s)
+        self.event()
+        self.watch(self.pick((0, 3, 16, 22)))
+        self.event()
+
+    def resubscribe(self):
+        """Unsubscribed with notices open, subscribed again, perhaps asking otherwise."""
+        self.manner = "whole"
+        s = self.between(0, 3)
+        self.bring_up(s)
+        for _ in range(self.between(1, 4)):
+            self.event()
+        self.watch(self.pick((0, 0, 3, 12)))
+        for on, off in ((51, 54), (60, 63)):
+            if self.chance(0.6):
+                self.send(s, message(off, self.pick(REVISIONS), self.twelve()))
+                if self.chance(0.3):
+                    self.send(s, message(off, self.pick(REVISIONS)))
+                if self.chance(0.3):
+                    self.event()
+                if self.chance(0.85):
+                    self.subscribe(s, on)
+        self.event()
+        self.watch(self.pick((0, 4, 18, 21)))
+        self.event()
+
+    def long_run(self):
+        """Runs at and over 9,999 bytes, some over 65,536, that begin and end like messages."""
+        s = self.between(0, 3)
+        self.bring_up(s)
+        body = message(self.pick((9999, 60, 1234)))[:-1]
+        total = self.pick((9999, 9999, 9998, 10000, 10001, 10020, 10020, 16404, 20020, 65536, 65556,
+                           65556, 65556, 75576))
+        if total <= 9999 and self.chance(0.8):
+            body = b"%04d" % total + body[4:]
+        elif total == 10000:
+            body = self.pick((b"0000", b"1000", b"9999")) + body[4:]
+        filler = total - 2 * len(body)
+        run = body + b"x" * filler + body
+        if self.chance(0.3):
+            run = (body * (total // len(body) + 1))[:total]
+        self.send_long(s, run + b"\0" + message(9999))
+
+    def send_long(self, s, data):
+        at = 0
+        while at < len(data):
+            size = self.pick((GREATEST_PAYLOAD, GREATEST_PAYLOAD, 8191, 8000))
+            self.put(BYTES + s, data[at:at + size])
+            at += size
+
+    def idle_edge(self):
+        """14 ticks of silence, then something that counts as a message or does not."""
+        self.manner = "whole"
+        s = self.between(0, 3)
+        if self.chance(0.6):
+            self.bring_up(s)
+        elif not self.sessions[s].up:
+            self.open(s)
+        for other in range(4):
+            if other != s and self.sessions[other].up and self.chance(0.5):
+                self.hang_up(other)
+        for _ in range(self.pick((12, 13, 14, 14, 14)) - min(self.sessions[s].silent, 12)):
+            self.tick()
+        sort = self.between(0, 7)
+        if sort == 0:
+            self.near_miss(s)
+        elif sort == 1:  # a part of a run, ended only afterwards
+            self.put(BYTES + s, message(9999)[:self.between(1, 20)])
+        elif sort == 2:
+            self.send(s, message(1, self.pick((b"002", b"003")), data=b"x" * self.between(0, 1)))
+        elif sort == 3:
+            self.acknowledge(s)
+        elif sort == 4:
+            self.send(s, message(3))
+            self.sessions[s].started = False
+        elif sort == 5:
+            self.keep_alive(s)
+        elif sort == 6:
+            self.any_message(s)
+        for _ in range(self.pick((1, 2, 14, 15))):
+            self.tick()
+        self.event()
+
+    def time_out_in_step(self):
+        """A silence that ends on the very tick on which a copy would be due."""
+        self.manner = "whole"
+        s = self.between(0, 3)
+        self.hang_up(s)
+        self.bring_up(s, False)
+        for _ in range(self.between(1, 3)):
+            self.pick((self.tightening, self.scan))()
+        due = self.pick((20, 20, 20, 40, 60, 120))
+        for _ in range(due - 15):
+            if self.sessions[s].silent >= 10:
+                self.send(s, message(9999))
+            for other in self.started_sessions():
+                if other != s and self.sessions[other].silent >= 10:
+                    self.keep_alive(other)
+            self.tick()
+        self.send(s, message(9999))
+        for _ in range(15):
+            self.tick()
+        self.bring_up(s)
+        self.event()
+
+    def unstarted(self):
+        """An opened session that talks but does not start."""
+        self.manner = self.pick(("whole", "cut"))
+        s = self.between(0, 3)
+        self.hang_up(s)
+        self.open(s)
+        for _ in range(self.between(3, 18)):
+            sort = self.random.random()
+            if sort < 0.5:
+                self.tick()
+            elif sort < 0.65:
+                self.send(s, message(1, self.pick((b"002", b"003", b"999")),
+                                     data=b"x" * self.between(0, 1)))
+            elif sort < 0.8:
+                self.near_miss(s)
+            elif sort < 0.95:
+                self.send(s, message(self.pick((9999, 60, 51, 3, 62, 1234))))
+            else:
+                self.event()
+        self.flush(s)
+
+    def second_start(self):
+        """A start in the middle of it all, or one that is refused."""
+        self.scan()
+        if self.chance(0.3):
+            self.put(SETTINGS, self.bad_settings())
+            return
+        self.start()
+        if self.chance(0.5):
+            self.bring_up(self.between(0, 3))
+            self.tightening()
+
+    def numbers_end(self):
+        """The last number runs up to its end; bad records then too."""
+        self.start(last=GREATEST_NUMBER - self.between(0, 4))
+        self.bring_up_some()
+        for _ in range(self.between(4, 10)):
+            sort = self.random.random()
+            if sort < 0.6:
+                self.tightening()
+            elif sort < 0.75:
+                self.put(TIGHTENING, self.bad_tightening())
+            elif sort < 0.85:
+                self.put(TIGHTENING, self.wrong_size(self.tightening_payload(self.tightening_fields())))
+            elif sort < 0.95:
+                self.event()
+            else:
+                self.acknowledge(self.between(0, 3))
+        if self.chance(0.7):
+            self.start()
+
+    def before_start(self):
+        """Calls on a table of zeros."""
+        for _ in range(self.between(1, 6)):
+            self.pick((self.bad_record, self.event, self.tick,
+                       lambda: self.put(self.pick((OPEN, HANG_UP, BYTES)) + self.between(0, 15))))()
+
+    STRETCHES = (
+        (10, "long_watch"), (10, "steady"), (6, "flood"), (6, "identifiers"), (9, "chatter"),
+        (6, "ladder"), (4, "bad_records"), (10, "lifecycle"), (7, "resubscribe"), (1.5, "long_run"),
+        (7, "idle_edge"), (4, "time_out_in_step"), (4, "unstarted"), (1.5, "second_start"),
+        (1, "numbers_end"),
+    )
+
+    def make(self):
+        if self.chance(0.08):
+            self.before_start()
+        self.start()
+        weights = [weight for weight, _ in self.STRETCHES]
+        names = [name for _, name in self.STRETCHES]
+        while not self.full():
+            getattr(self, self.random.choices(names, weights)[0])()
+            if self.chance(0.5):
+                self.flush_all()
+        del self.records[self.count:]
+        ending = self.random.random()
+        if ending < 0.03:  # a cut record, or a payload over 8,192 bytes, ends the run
+            self.records[-1] = self.records[-1][:-1]
+        elif ending < 0.06:
+            self.records[-1] = struct.pack("<HH", GREATEST_PAYLOAD + 1, BYTES) + b"x" * 8193 + TICK_RECORD
+        return b"".join(self.records)
+
+
+def generate(seed, count=500):
+    return History(seed, count).make()
+
+
+def main():
+    parser = argparse.ArgumentParser(description=__doc__.splitlines()[0])
+    parser.add_argument("seed", type=int)
+    parser.add_argument("--records", type=int, default=500)
+    arguments = parser.parse_args()
+    sys.stdout.buffer.write(generate(arguments.seed, arguments.records))
+
+
+if __name__ == "__main__":
+    main()

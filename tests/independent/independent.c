@@ -1,0 +1,1453 @@
+#include "independent.h"
+#include "faults.h"
+
+#include <assert.h>
+#include <stdbool.h>
+#include <string.h>
+
+/* ---------------------------------------------------------------- limits */
+
+enum {
+    SESSIONS = 4,
+    IDLE_LIMIT = FAULT == IDLE_CLOSES_AT_14 ? 14 : 15, /* ticks without a message until the close */
+    REPEAT_TICKS = 20,                                 /* between the copies of an open notice */
+    GIVE_UP_TICKS = 120,                               /* an open notice is given up */
+    TIGHTENINGS_HELD =                                 /* a session, the open one included */
+        FAULT == NINTH_TAKEN ? 9 : FAULT == SEVEN_NOT_EIGHT ? 7 : 8,
+    IDENTIFIERS_HELD = 2,                              /* one open, one waiting */
+
+    HEADER_BYTES = 20,
+    TEXT_BYTES = 25,       /* identifiers and the controller's name */
+    TIME_BYTES = 19,
+    RESULT_BYTES = 211,    /* the data field of 0061 revision 1 */
+    DOWNLOAD_GREATEST = FAULT == DOWNLOAD_OF_46 ? 46 : 45, /* length of an 0050 */
+    RUN_KEPT = DOWNLOAD_GREATEST,                          /* bytes of a run that anyone reads */
+    RUN_GREATEST = 9999,
+    RUN_COUNTED =                                          /* longer runs count as this long */
+        FAULT == RUN_LENGTH_16_BITS ? 65535 : RUN_GREATEST + 1,
+    FRAME_GREATEST = HEADER_BYTES + RESULT_BYTES + 1
+};
+
+#define LAST_NUMBER_GREATEST UINT32_C(4294967295)
+
+/* The numbers that a call answers. */
+enum {
+    DONE = 0,
+    TABLE_SHORT = 1,
+    TABLE_NOT_WELL_FORMED = 2,
+    OUTPUT_SHORT = 3,
+    SESSION_ABOVE_3 = 4,
+    SESSION_CLOSED = 5,
+    SESSION_NOT_CLOSED = 6,
+    RECORD_BAD = 7,
+    NUMBERS_USED_UP = 8,
+    SETTINGS_BAD = 9,
+    ANSWER_SHORT = 10
+};
+
+/* The error codes of 0004. */
+enum {
+    NO_ERROR = 0,
+    INVALID_DATA = 1,
+    IDENTIFIER_SUBSCRIBED = 6,
+    IDENTIFIER_NOT_SUBSCRIBED = 7,
+    NOT_GRANTED = 8,
+    TIGHTENING_SUBSCRIBED = 9,
+    TIGHTENING_NOT_SUBSCRIBED = 10,
+    ALREADY_STARTED = 96,
+    REVISION_UNSUPPORTED = 97,
+    UNKNOWN_MESSAGE = 99
+};
+
+/* ---------------------------------------------------------------- state */
+
+enum phase { CLOSED = 0, OPENED = 1, STARTED = 2 };
+
+/* The two kinds of notice, in the order in which a tick serves them. */
+enum kind { IDENTIFIER = 0, TIGHTENING = 1, KINDS = 2 };
+
+/* A subscription and the notices that it holds; notice 0 is the open one. */
+struct subscription {
+    bool subscribed;
+    bool free;         /* no acknowledge asked */
+    unsigned revision; /* 1 or 2 while subscribed, else 0 */
+    unsigned count;    /* notices held */
+    unsigned clock;    /* ticks that the open notice has stood */
+};
+
+struct session {
+    enum phase phase;
+    unsigned idle;
+    unsigned run_length; /* bytes since the last NUL, at most RUN_COUNTED */
+    uint8_t run[RUN_KEPT];
+    struct subscription subscription[KINDS];
+    uint8_t identifier[IDENTIFIERS_HELD][TEXT_BYTES];
+    uint8_t result[TIGHTENINGS_HELD][RESULT_BYTES];
+};
+
+struct settings {
+    unsigned cell;
+    unsigned channel;
+    bool granted;
+    uint8_t name[TEXT_BYTES];
+    uint32_t last; /* the last tightening number */
+};
+
+struct state {
+    struct settings settings;
+    uint8_t in_force[TEXT_BYTES];
+    struct session session[SESSIONS];
+};
+
+/* ---------------------------------------------------------------- bytes and numbers */
+
+static bool is_digit(uint8_t byte)
+{
+    return byte >= '0' && byte <= '9';
+}
+
+static bool all_digits(const uint8_t *bytes, size_t count)
+{
+    for (size_t i = 0; i < count; i++)
+        if (!is_digit(bytes[i]))
+            return false;
+    return true;
+}
+
+static bool all_spaces(const uint8_t *bytes, size_t count)
+{
+    for (size_t i = 0; i < count; i++)
+        if (bytes[i] != ' ')
+            return false;
+    return true;
+}
+
+static bool is_text(const uint8_t *bytes, size_t count)
+{
+    for (size_t i = 0; i < count; i++)
+        if (bytes[i] < 0x20 || bytes[i] > 0x7e)
+            return false;
+    return true;
+}
+
+/* Digits with '-' at places 5 and 8 and ':' at 11, 14 and 17. */
+static bool is_time(const uint8_t *bytes)
+{
+    for (size_t place = 1; place <= TIME_BYTES; place++) {
+        uint8_t byte = bytes[place - 1];
+        bool right;
+        if (place == 5 || place == 8)
+            right = byte == '-';
+        else if (place == 11 || place == 14 || place == 17)
+            right = byte == ':';
+        else
+            right = is_digit(byte);
+        if (!right)
+            return false;
+    }
+    return true;
+}
+
+static unsigned decimal(const uint8_t *digits, size_t count)
+{
+    unsigned value = 0;
+    for (size_t i = 0; i < count; i++)
+        value = value * 10 + (unsigned)(digits[i] - '0');
+    return value;
+}
+
+static uint32_t little_endian(const uint8_t *bytes, size_t count)
+{
+    uint32_t value = 0;
+    for (size_t i = count; i > 0; i--)
+        value = value << 8 | bytes[i - 1];
+    return value;
+}
+
+static void put_little_endian(uint8_t *bytes, size_t count, uint64_t value)
+{
+    for (size_t i = 0; i < count; i++) {
+        bytes[i] = (uint8_t)(value & 0xff);
+        value >>= 8;
+    }
+}
+
+/* Walks through bytes that hold one field after the other. */
+struct reader {
+    const uint8_t *at;
+};
+
+static uint32_t take_number(struct reader *reader, size_t count)
+{
+    uint32_t value = little_endian(reader->at, count);
+    reader->at += count;
+    return value;
+}
+
+static const uint8_t *take_bytes(struct reader *reader, size_t count)
+{
+    const uint8_t *bytes = reader->at;
+    reader->at += count;
+    return bytes;
+}
+
+struct writer {
+    uint8_t *at;
+};
+
+static void put_number(struct writer *writer, size_t count, uint32_t value)
+{
+    put_little_endian(writer->at, count, value);
+    writer->at += count;
+}
+
+static void put_bytes(struct writer *writer, const uint8_t *bytes, size_t count)
+{
+    memcpy(writer->at, bytes, count);
+    writer->at += count;
+}
+
+/* ---------------------------------------------------------------- house records */
+
+enum {
+    RECORD_HEADER_BYTES = 4,
+    KIND_TIGHTENING = 1,
+    KIND_SCANNED = 2,
+    KIND_SETTINGS = 3,
+    KIND_FRAME = 256,
+    KIND_CLOSE = 512,
+    SETTINGS_BYTES = 33,
+    TIGHTENING_BYTES = 106
+};
+
+/* A tightening as the tool reports it. */
+struct tightening {
+    const uint8_t *identifier;
+    uint32_t job, set, batch_size, batch_counter;
+    uint32_t status, torque_status, angle_status;
+    uint32_t torque[4]; /* min, max, target, torque */
+    uint32_t angle[4];  /* min, max, target, angle */
+    const uint8_t *time;
+    const uint8_t *change_time;
+    uint32_t batch_status;
+};
+
+/* Is the slice exactly one record of this kind with a payload of this size? */
+static bool is_record(const uint8_t *slice, size_t length, uint32_t kind, size_t payload)
+{
+    return length == RECORD_HEADER_BYTES + payload
+        && little_endian(slice, 2) == payload
+        && little_endian(slice + 2, 2) == kind;
+}
+
+static bool read_settings(const uint8_t *payload, struct settings *settings)
+{
+    struct reader reader = { payload };
+    settings->cell = take_number(&reader, 2);
+    settings->channel = take_number(&reader, 1);
+    uint32_t granted = take_number(&reader, 1);
+    settings->granted = granted == 1;
+    memcpy(settings->name, take_bytes(&reader, TEXT_BYTES), TEXT_BYTES);
+    settings->last = take_number(&reader, 4);
+    return settings->cell <= 9999 && settings->channel <= 99 && granted <= 1
+        && is_text(settings->name, TEXT_BYTES);
+}
+
+static void write_settings(struct writer *writer, const struct settings *settings)
+{
+    put_number(writer, 2, settings->cell);
+    put_number(writer, 1, settings->channel);
+    put_number(writer, 1, settings->granted);
+    put_bytes(writer, settings->name, TEXT_BYTES);
+    put_number(writer, 4, settings->last);
+}
+
+static bool all_at_most(const uint32_t *values, size_t count, uint32_t greatest)
+{
+    for (size_t i = 0; i < count; i++)
+        if (values[i] > greatest)
+            return false;
+    return true;
+}
+
+static bool read_tightening(const uint8_t *payload, struct tightening *result)
+{
+    struct reader reader = { payload };
+    result->identifier = take_bytes(&reader, TEXT_BYTES);
+    result->job = take_number(&reader, 1);
+    result->set = take_number(&reader, 2);
+    result->batch_size = take_number(&reader, 2);
+    result->batch_counter = take_number(&reader, 2);
+    result->status = take_number(&reader, 1);
+    result->torque_status = take_number(&reader, 1);
+    result->angle_status = take_number(&reader, 1);
+    for (size_t i = 0; i < 4; i++)
+        result->torque[i] = take_number(&reader, 4);
+    for (size_t i = 0; i < 4; i++)
+        result->angle[i] = take_number(&reader, 4);
+    result->time = take_bytes(&reader, TIME_BYTES);
+    result->change_time = take_bytes(&reader, TIME_BYTES);
+    result->batch_status = take_number(&reader, 1);
+    return is_text(result->identifier, TEXT_BYTES)
+        && result->job <= 99 && result->set <= 999
+        && result->batch_size <= 9999 && result->batch_counter <= 9999
+        && result->status <= 1 && result->torque_status <= 2 && result->angle_status <= 2
+        && all_at_most(result->torque, 4, 999999) && all_at_most(result->angle, 4, 99999)
+        && is_time(result->time) && is_time(result->change_time)
+        && result->batch_status <= 2;
+}
+
+/* ---------------------------------------------------------------- the table */
+
+/* Layout: a mark, the settings as in their record, the identifier in force, then
+   the sessions one after the other, each with room for all that it can hold.
+   Of the notices only those held are written; the places behind them mean nothing. */
+static const uint8_t MARK[8] = { 'o', 'p', '-', 'i', 'n', 'd', 'e', 'p' };
+
+enum {
+    SUBSCRIPTION_TABLE_BYTES = 5,
+    SESSION_TABLE_BYTES = 4 + RUN_KEPT + KINDS * SUBSCRIPTION_TABLE_BYTES
+        + IDENTIFIERS_HELD * TEXT_BYTES + TIGHTENINGS_HELD * RESULT_BYTES,
+    SESSIONS_AT = sizeof MARK + SETTINGS_BYTES + TEXT_BYTES
+};
+
+static_assert(SESSIONS_AT + SESSIONS * SESSION_TABLE_BYTES <= INDEPENDENT_TABLE_BYTES,
+              "the state fits the table");
+
+static unsigned held_at_most(enum kind kind)
+{
+    return kind == IDENTIFIER ? IDENTIFIERS_HELD : TIGHTENINGS_HELD;
+}
+
+static unsigned revision_at_most(enum kind kind)
+{
+    if (kind == TIGHTENING)
+        return 1;
+    return FAULT == IDENTIFIER_REVISION_3 ? 3 : 2;
+}
+
+static unsigned run_kept(const struct session *session)
+{
+    return session->run_length < RUN_KEPT ? session->run_length : RUN_KEPT;
+}
+
+static bool read_flag(struct reader *reader, bool *flag)
+{
+    uint32_t value = take_number(reader, 1);
+    *flag = value == 1;
+    return value <= 1;
+}
+
+/* What every subscription of a correct program keeps to: nothing is held where
+   nothing is subscribed or no acknowledge is asked, and only an open notice has
+   a clock. The faulty programs break it; they are not to be caught here. */
+static bool subscription_consistent(const struct subscription *part, enum phase phase)
+{
+    if (FAULT != NO_FAULT)
+        return true;
+    if (!part->subscribed)
+        return !part->free && part->revision == 0 && part->count == 0 && part->clock == 0;
+    return phase == STARTED && part->revision >= 1
+        && !(part->free && part->count > 0)
+        && !(part->count == 0 && part->clock > 0);
+}
+
+static bool load_subscription(struct reader *reader, struct subscription *part,
+                              enum kind kind, enum phase phase)
+{
+    bool flags = read_flag(reader, &part->subscribed);
+    flags = read_flag(reader, &part->free) && flags;
+    part->revision = take_number(reader, 1);
+    part->count = take_number(reader, 1);
+    part->clock = take_number(reader, 1);
+    return flags && part->revision <= revision_at_most(kind)
+        && part->count <= held_at_most(kind) && part->clock < GIVE_UP_TICKS
+        && subscription_consistent(part, phase);
+}
+
+static bool load_run(struct reader *reader, struct session *session)
+{
+    session->run_length = take_number(reader, 2);
+    memcpy(session->run, take_bytes(reader, RUN_KEPT), RUN_KEPT);
+    if (session->run_length > RUN_COUNTED)
+        return false;
+    return memchr(session->run, 0, run_kept(session)) == NULL;
+}
+
+/* Of the notices' places only the first `count` are read; the counts are tested before. */
+static bool load_notices(struct reader *reader, struct session *session)
+{
+    bool texts = true;
+    for (unsigned i = 0; i < session->subscription[IDENTIFIER].count; i++) {
+        memcpy(session->identifier[i], reader->at + i * TEXT_BYTES, TEXT_BYTES);
+        texts = texts && is_text(session->identifier[i], TEXT_BYTES);
+    }
+    reader->at += IDENTIFIERS_HELD * TEXT_BYTES;
+    for (unsigned i = 0; i < session->subscription[TIGHTENING].count; i++) {
+        memcpy(session->result[i], reader->at + i * RESULT_BYTES, RESULT_BYTES);
+        texts = texts && is_text(session->result[i], RESULT_BYTES);
+    }
+    return texts;
+}
+
+static bool load_session(const uint8_t *bytes, struct session *session)
+{
+    struct reader reader = { bytes };
+    uint32_t phase = take_number(&reader, 1);
+    session->idle = take_number(&reader, 1);
+    if (phase > STARTED || session->idle >= IDLE_LIMIT)
+        return false;
+    session->phase = (enum phase)phase;
+    if (!load_run(&reader, session))
+        return false;
+    if (FAULT == NO_FAULT && phase == CLOSED && (session->idle > 0 || session->run_length > 0))
+        return false;
+    for (unsigned kind = 0; kind < KINDS; kind++)
+        if (!load_subscription(&reader, &session->subscription[kind], (enum kind)kind,
+                               session->phase))
+            return false;
+    return load_notices(&reader, session);
+}
+
+/* Reads the table; false where it is not well formed. */
+static bool load(const uint8_t *table, struct state *state)
+{
+    struct reader reader = { table };
+    if (memcmp(take_bytes(&reader, sizeof MARK), MARK, sizeof MARK) != 0)
+        return false;
+    if (!read_settings(take_bytes(&reader, SETTINGS_BYTES), &state->settings))
+        return false;
+    memcpy(state->in_force, take_bytes(&reader, TEXT_BYTES), TEXT_BYTES);
+    if (!is_text(state->in_force, TEXT_BYTES))
+        return false;
+    for (unsigned s = 0; s < SESSIONS; s++)
+        if (!load_session(table + SESSIONS_AT + s * SESSION_TABLE_BYTES, &state->session[s]))
+            return false;
+    return true;
+}
+
+static void save_session(uint8_t *bytes, const struct session *session)
+{
+    struct writer writer = { bytes };
+    put_number(&writer, 1, session->phase);
+    put_number(&writer, 1, session->idle);
+    put_number(&writer, 2, session->run_length);
+    put_bytes(&writer, session->run, RUN_KEPT);
+    for (unsigned kind = 0; kind < KINDS; kind++) {
+        const struct subscription *part = &session->subscription[kind];
+        put_number(&writer, 1, part->subscribed);
+        put_number(&writer, 1, part->free);
+        put_number(&writer, 1, part->revision);
+        put_number(&writer, 1, part->count);
+        put_number(&writer, 1, part->clock);
+    }
+    for (unsigned i = 0; i < session->subscription[IDENTIFIER].count; i++)
+        memcpy(writer.at + i * TEXT_BYTES, session->identifier[i], TEXT_BYTES);
+    writer.at += IDENTIFIERS_HELD * TEXT_BYTES;
+    for (unsigned i = 0; i < session->subscription[TIGHTENING].count; i++)
+        memcpy(writer.at + i * RESULT_BYTES, session->result[i], RESULT_BYTES);
+}
+
+static void save(uint8_t *table, const struct state *state)
+{
+    struct writer writer = { table };
+    put_bytes(&writer, MARK, sizeof MARK);
+    write_settings(&writer, &state->settings);
+    put_bytes(&writer, state->in_force, TEXT_BYTES);
+    for (unsigned s = 0; s < SESSIONS; s++)
+        save_session(table + SESSIONS_AT + s * SESSION_TABLE_BYTES, &state->session[s]);
+}
+
+/* ---------------------------------------------------------------- output and frames */
+
+/* The records that a call puts out, gathered here and lent on when it is done. */
+struct output {
+    uint8_t bytes[INDEPENDENT_OUTPUT_BYTES];
+    size_t written;
+};
+
+/* By the rules a call writes at most 4 x (133 + 236) bytes; what would not fit is
+   left out rather than written past the end. */
+static void put_record(struct output *output, unsigned kind, const uint8_t *payload, size_t length)
+{
+    if (RECORD_HEADER_BYTES + length > sizeof output->bytes - output->written)
+        return;
+    struct writer writer = { output->bytes + output->written };
+    put_number(&writer, 2, (uint32_t)length);
+    put_number(&writer, 2, kind);
+    if (length > 0)
+        put_bytes(&writer, payload, length);
+    output->written += RECORD_HEADER_BYTES + length;
+}
+
+struct frame {
+    uint8_t bytes[FRAME_GREATEST];
+    size_t length;
+};
+
+static void add_bytes(struct frame *frame, const uint8_t *bytes, size_t count)
+{
+    memcpy(frame->bytes + frame->length, bytes, count);
+    frame->length += count;
+}
+
+static void add_filling(struct frame *frame, char byte, size_t count)
+{
+    memset(frame->bytes + frame->length, byte, count);
+    frame->length += count;
+}
+
+static void write_digits(uint8_t *bytes, size_t width, uint32_t value)
+{
+    for (size_t i = width; i > 0; i--) {
+        bytes[i - 1] = (uint8_t)('0' + value % 10);
+        value /= 10;
+    }
+}
+
+static void add_digits(struct frame *frame, size_t width, uint32_t value)
+{
+    write_digits(frame->bytes + frame->length, width, value);
+    frame->length += width;
+}
+
+/* A field with its two-digit number before it. */
+static void add_number_field(struct frame *frame, unsigned field, size_t width, uint32_t value)
+{
+    add_digits(frame, 2, field);
+    add_digits(frame, width, value);
+}
+
+static void add_text_field(struct frame *frame, unsigned field, const uint8_t *text, size_t count)
+{
+    add_digits(frame, 2, field);
+    add_bytes(frame, text, count);
+}
+
+/* Begins with the header; the length is put in when the frame is sent. */
+static struct frame begin_frame(unsigned mid, unsigned revision, char acknowledge)
+{
+    struct frame frame = { .length = 0 };
+    add_digits(&frame, 4, 0);
+    add_digits(&frame, 4, mid);
+    add_digits(&frame, 3, revision);
+    add_filling(&frame, acknowledge, 1);
+    add_filling(&frame, ' ', 8);
+    return frame;
+}
+
+static void send_frame(struct output *output, unsigned s, struct frame *frame)
+{
+    write_digits(frame->bytes, 4, (uint32_t)frame->length);
+    add_filling(frame, 0, 1);
+    put_record(output, KIND_FRAME + s, frame->bytes, frame->length);
+}
+
+static void send_accepted(struct output *output, unsigned s, unsigned mid)
+{
+    struct frame frame = begin_frame(5, 1, ' ');
+    add_digits(&frame, 4, mid);
+    send_frame(output, s, &frame);
+}
+
+static void send_error(struct output *output, unsigned s, unsigned mid, unsigned error)
+{
+    struct frame frame = begin_frame(4, 1, ' ');
+    add_digits(&frame, 4, mid);
+    add_digits(&frame, 2, error);
+    send_frame(output, s, &frame);
+}
+
+/* Fields 01 to 03, with which 0002 and 0061 begin. */
+static void add_controller(struct frame *frame, const struct settings *settings)
+{
+    add_number_field(frame, 1, 4, settings->cell);
+    add_number_field(frame, 2, 2, settings->channel);
+    add_text_field(frame, 3, settings->name, TEXT_BYTES);
+}
+
+static void send_started(struct output *output, unsigned s, const struct settings *settings)
+{
+    struct frame frame = begin_frame(2, 1, ' ');
+    add_controller(&frame, settings);
+    send_frame(output, s, &frame);
+}
+
+/* The keep-alive goes back as it came. */
+static void send_mirrored(struct output *output, unsigned s, const uint8_t *message)
+{
+    struct frame frame = { .length = 0 };
+    add_bytes(&frame, message, HEADER_BYTES);
+    add_filling(&frame, 0, 1);
+    put_record(output, KIND_FRAME + s, frame.bytes, frame.length);
+}
+
+static struct frame begin_notice(const struct subscription *part, unsigned mid)
+{
+    return begin_frame(mid, part->revision, part->free ? '1' : '0');
+}
+
+static void send_identifier(struct output *output, unsigned s, const struct subscription *part,
+                            const uint8_t *identifier)
+{
+    struct frame frame = begin_notice(part, 52);
+    add_text_field(&frame, 1, identifier, TEXT_BYTES);
+    if (part->revision >= 2)
+        for (unsigned field = 2; field <= 4; field++) {
+            add_digits(&frame, 2, field);
+            add_filling(&frame, FAULT == PARTS_ZERO_FILLED ? '0' : ' ', TEXT_BYTES);
+        }
+    send_frame(output, s, &frame);
+}
+
+static void send_result(struct output *output, unsigned s, const struct subscription *part,
+                        const uint8_t *result)
+{
+    struct frame frame = begin_notice(part, 61);
+    add_bytes(&frame, result, RESULT_BYTES);
+    send_frame(output, s, &frame);
+}
+
+/* The data field of 0061 revision 1, made once when the tightening comes. */
+static void make_result(uint8_t *result, const struct settings *settings,
+                        const struct tightening *tightening, const uint8_t *identifier)
+{
+    struct frame frame = begin_frame(61, 1, ' ');
+    add_controller(&frame, settings);
+    add_text_field(&frame, 4, identifier, TEXT_BYTES);
+    add_number_field(&frame, 5, 2, tightening->job);
+    add_number_field(&frame, 6, 3, tightening->set);
+    add_number_field(&frame, 7, 4, tightening->batch_size);
+    add_number_field(&frame, 8, 4, tightening->batch_counter);
+    add_number_field(&frame, 9, 1, tightening->status);
+    add_number_field(&frame, 10, 1, tightening->torque_status);
+    add_number_field(&frame, 11, 1, tightening->angle_status);
+    for (unsigned i = 0; i < 4; i++)
+        add_number_field(&frame, 12 + i, 6, tightening->torque[i]);
+    for (unsigned i = 0; i < 4; i++)
+        add_number_field(&frame, 16 + i, 5, tightening->angle[i]);
+    add_text_field(&frame, 20, tightening->time, TIME_BYTES);
+    add_text_field(&frame, 21, tightening->change_time, TIME_BYTES);
+    add_number_field(&frame, 22, 1, tightening->batch_status);
+    add_number_field(&frame, 23, 10, settings->last);
+    assert(frame.length == HEADER_BYTES + RESULT_BYTES);
+    memcpy(result, frame.bytes + HEADER_BYTES, RESULT_BYTES);
+}
+
+/* ---------------------------------------------------------------- notices */
+
+static unsigned in_turn(unsigned i)
+{
+    return FAULT == SESSIONS_REVERSED ? SESSIONS - 1 - i : i;
+}
+
+static bool gets(const struct session *session, enum kind kind)
+{
+    return session->phase == STARTED && session->subscription[kind].subscribed;
+}
+
+/* Planted: a result with a blank identifier is stamped only now. */
+static void stamp_late(const struct state *state, uint8_t *result)
+{
+    enum { IDENTIFIER_AT = 39 };
+    if (all_spaces(result + IDENTIFIER_AT, TEXT_BYTES))
+        memcpy(result + IDENTIFIER_AT, state->in_force, TEXT_BYTES);
+}
+
+/* Puts out a copy of the open notice. */
+static void send_open(struct state *state, unsigned s, enum kind kind, struct output *output)
+{
+    struct session *session = &state->session[s];
+    const struct subscription *part = &session->subscription[kind];
+    if (FAULT == STAMPED_WHEN_SENT && kind == TIGHTENING)
+        stamp_late(state, session->result[0]);
+    if (kind == IDENTIFIER)
+        send_identifier(output, s, part, session->identifier[0]);
+    else
+        send_result(output, s, part, session->result[0]);
+}
+
+static void drop_open(struct session *session, enum kind kind)
+{
+    struct subscription *part = &session->subscription[kind];
+    part->count -= 1;
+    if (FAULT != CLOCK_NOT_RESET || part->count == 0)
+        part->clock = 0;
+    if (kind == IDENTIFIER)
+        memmove(session->identifier, session->identifier + 1, part->count * TEXT_BYTES);
+    else
+        memmove(session->result, session->result + 1, part->count * RESULT_BYTES);
+}
+
+/* Ends the open notice and sends the one behind it, if there is one. */
+static void next_notice(struct state *state, unsigned s, enum kind kind, struct output *output)
+{
+    struct session *session = &state->session[s];
+    drop_open(session, kind);
+    if (session->subscription[kind].count > 0)
+        send_open(state, s, kind, output);
+}
+
+static void acknowledge(struct state *state, unsigned s, enum kind kind, struct output *output)
+{
+    struct session *session = &state->session[s];
+    struct subscription *part = &session->subscription[kind];
+    if (part->count == 0)
+        return;
+    if (FAULT == NEXT_WAITS_FOR_REPEAT) {
+        drop_open(session, kind);
+        return;
+    }
+    if (FAULT == ACKNOWLEDGE_CLOSES_TWO && part->count > 1)
+        drop_open(session, kind);
+    next_notice(state, s, kind, output);
+}
+
+/* Puts the newest notice at its place in the queue; it goes out at once if it is alone. */
+static void hold(struct state *state, unsigned s, enum kind kind, const uint8_t *content,
+                 struct output *output)
+{
+    struct session *session = &state->session[s];
+    struct subscription *part = &session->subscription[kind];
+    if (kind == IDENTIFIER)
+        memcpy(session->identifier[part->count], content, TEXT_BYTES);
+    else
+        memcpy(session->result[part->count], content, RESULT_BYTES);
+    part->count += 1;
+    if (FAULT == ARRIVAL_RESETS_CLOCK)
+        part->clock = 0;
+    if (part->count == 1) {
+        part->clock = 0;
+        send_open(state, s, kind, output);
+    }
+}
+
+/* An identifier, scanned or downloaded, for one session; always taken. */
+static void offer_identifier(struct state *state, unsigned s, const uint8_t *identifier,
+                             struct output *output)
+{
+    struct session *session = &state->session[s];
+    struct subscription *part = &session->subscription[IDENTIFIER];
+    if (part->free && part->count == 0) {
+        send_identifier(output, s, part, identifier);
+        return;
+    }
+    if (part->count == IDENTIFIERS_HELD) {
+        if (FAULT == WAITING_NOT_REPLACED)
+            return;
+        part->count -= 1;
+    }
+    hold(state, s, IDENTIFIER, identifier, output);
+}
+
+/* A result for one session; is it taken? */
+static bool offer_result(struct state *state, unsigned s, const uint8_t *result,
+                         struct output *output)
+{
+    struct session *session = &state->session[s];
+    struct subscription *part = &session->subscription[TIGHTENING];
+    if (part->free && part->count == 0) {
+        send_result(output, s, part, result);
+        return FAULT != FREE_SESSION_NOT_TAKEN;
+    }
+    if (part->count == TIGHTENINGS_HELD)
+        return false;
+    hold(state, s, TIGHTENING, result, output);
+    return true;
+}
+
+/* Makes the identifier the one in force and hands it to all who asked; answers who took it. */
+static uint64_t identifier_event(struct state *state, const uint8_t *identifier,
+                                 unsigned left_out, struct output *output)
+{
+    uint64_t taken = 0;
+    memcpy(state->in_force, identifier, TEXT_BYTES);
+    for (unsigned i = 0; i < SESSIONS; i++) {
+        unsigned s = in_turn(i);
+        if (s == left_out || !gets(&state->session[s], IDENTIFIER))
+            continue;
+        offer_identifier(state, s, identifier, output);
+        if (FAULT != FREE_SESSION_NOT_TAKEN || !state->session[s].subscription[IDENTIFIER].free)
+            taken |= UINT64_C(1) << s;
+    }
+    return taken;
+}
+
+/* The tool's own identifier, or where that is all spaces, the one in force. */
+static const uint8_t *meant_identifier(const uint8_t *own, const uint8_t *in_force)
+{
+    return all_spaces(own, TEXT_BYTES) ? in_force : own;
+}
+
+static uint64_t tightening_event(struct state *state, const struct tightening *tightening,
+                                 struct output *output)
+{
+    uint64_t taken = 0;
+    uint8_t result[RESULT_BYTES];
+    const uint8_t *identifier = meant_identifier(tightening->identifier, state->in_force);
+    if (FAULT == STAMPED_WHEN_SENT)
+        identifier = tightening->identifier;
+    state->settings.last += 1;
+    make_result(result, &state->settings, tightening, identifier);
+    for (unsigned i = 0; i < SESSIONS; i++) {
+        unsigned s = in_turn(i);
+        if (!gets(&state->session[s], TIGHTENING))
+            continue;
+        if (FAULT == STAMPED_WHEN_SENT && state->session[s].subscription[TIGHTENING].free)
+            stamp_late(state, result);
+        if (offer_result(state, s, result, output))
+            taken |= UINT64_C(1) << s;
+    }
+    if (FAULT == NUMBER_ONLY_WHEN_TAKEN && taken == 0)
+        state->settings.last -= 1;
+    return taken;
+}
+
+/* ---------------------------------------------------------------- sessions */
+
+/* Ends what a session had. Nothing lives on: no subscription, no notice, open or
+   waiting, no part of a run. `keeping` is the planted fault that keeps the notices here. */
+static void clear_session(struct session *session, enum phase next, enum fault keeping)
+{
+    struct session before = *session;
+    memset(session, 0, sizeof *session);
+    session->phase = next;
+    if (FAULT == NO_FAULT)
+        return;
+    if (FAULT == (int)keeping) {
+        memcpy(session->identifier, before.identifier, sizeof before.identifier);
+        memcpy(session->result, before.result, sizeof before.result);
+        for (unsigned kind = 0; kind < KINDS; kind++) {
+            session->subscription[kind].count = before.subscription[kind].count;
+            session->subscription[kind].clock = before.subscription[kind].clock;
+            session->subscription[kind].revision = before.subscription[kind].revision;
+        }
+    }
+    if (FAULT == CLOSE_CLEARS_NOTHING && next == CLOSED) {
+        *session = before;
+        session->phase = CLOSED;
+        session->idle = 0;
+    }
+    if (FAULT == RUN_KEPT_THROUGH_HANG_UP && next == CLOSED) {
+        session->run_length = before.run_length;
+        memcpy(session->run, before.run, sizeof before.run);
+    }
+}
+
+/* One tick of the open notice of a kind. */
+static void tick_notice(struct state *state, unsigned s, enum kind kind, struct output *output)
+{
+    struct subscription *part = &state->session[s].subscription[kind];
+    if (part->count == 0)
+        return;
+    part->clock += 1;
+    if (part->clock >= GIVE_UP_TICKS) {
+        if (FAULT == COPY_AT_120)
+            send_open(state, s, kind, output);
+        if (FAULT == CLOCK_NOT_RESET)
+            part->clock = 0;
+        next_notice(state, s, kind, output);
+    } else if (part->clock % REPEAT_TICKS == 0) {
+        if (FAULT == FOUR_REPEATS && part->clock == 100)
+            return;
+        send_open(state, s, kind, output);
+    }
+}
+
+static void tick_session(struct state *state, unsigned s, struct output *output)
+{
+    struct session *session = &state->session[s];
+    if (session->phase == CLOSED)
+        return;
+    session->idle += 1;
+    bool over = session->idle == IDLE_LIMIT;
+    if (!over || FAULT == RESENT_ON_TIME_OUT)
+        for (unsigned kind = 0; kind < KINDS; kind++)
+            tick_notice(state, s, (enum kind)kind, output);
+    if (over) {
+        put_record(output, KIND_CLOSE + s, NULL, 0);
+        clear_session(session, CLOSED, KEPT_THROUGH_TIME_OUT);
+    }
+}
+
+/* ---------------------------------------------------------------- messages */
+
+enum {
+    MID_START = 1,
+    MID_STOP = 3,
+    MID_DOWNLOAD = 50,
+    MID_SUBSCRIBE_IDENTIFIER = 51,
+    MID_ACKNOWLEDGE_IDENTIFIER = 53,
+    MID_UNSUBSCRIBE_IDENTIFIER = 54,
+    MID_SUBSCRIBE_TIGHTENING = 60,
+    MID_ACKNOWLEDGE_TIGHTENING = 62,
+    MID_UNSUBSCRIBE_TIGHTENING = 63,
+    MID_KEEP_ALIVE = 9999
+};
+
+enum { REVISION_NOT_READ = 999 };
+
+/* The lengths and the greatest revision of each message; the least revision is 1. */
+struct rule {
+    unsigned mid;
+    unsigned least_length;
+    unsigned greatest_length;
+    unsigned greatest_revision;
+};
+
+static const struct rule RULES[] = {
+    { MID_START, 20, 20, 1 },
+    { MID_STOP, 20, 20, REVISION_NOT_READ },
+    { MID_DOWNLOAD, 21, DOWNLOAD_GREATEST, 1 },
+    { MID_SUBSCRIBE_IDENTIFIER, 20, 20, FAULT == IDENTIFIER_REVISION_3 ? 3 : 2 },
+    { MID_ACKNOWLEDGE_IDENTIFIER, 20, 20, REVISION_NOT_READ },
+    { MID_UNSUBSCRIBE_IDENTIFIER, 20, 20, REVISION_NOT_READ },
+    { MID_SUBSCRIBE_TIGHTENING, 20, 20, 1 },
+    { MID_ACKNOWLEDGE_TIGHTENING, 20, 20, REVISION_NOT_READ },
+    { MID_UNSUBSCRIBE_TIGHTENING, 20, 20, REVISION_NOT_READ },
+    { MID_KEEP_ALIVE, 20, 20, REVISION_NOT_READ },
+};
+
+static const struct rule *find_rule(unsigned mid)
+{
+    for (size_t i = 0; i < sizeof RULES / sizeof RULES[0]; i++)
+        if (RULES[i].mid == mid)
+            return &RULES[i];
+    return NULL;
+}
+
+/* A run that passed the header rule. */
+struct message {
+    const uint8_t *bytes; /* the kept bytes: all of it up to the 45th */
+    unsigned length;
+    unsigned mid;
+    unsigned revision;
+    bool free; /* byte 12 is '1' */
+};
+
+static bool read_revision(const uint8_t *bytes, unsigned *revision)
+{
+    bool spaces = all_spaces(bytes, 3);
+    if (FAULT == MIXED_REVISION) {
+        uint8_t filled[3];
+        for (unsigned i = 0; i < 3; i++)
+            filled[i] = bytes[i] == ' ' ? '0' : bytes[i];
+        if (!all_digits(filled, 3))
+            return false;
+        *revision = decimal(filled, 3) == 0 ? 1 : decimal(filled, 3);
+        return true;
+    }
+    if (!spaces && !all_digits(bytes, 3))
+        return false;
+    *revision = spaces ? 1 : decimal(bytes, 3);
+    if (*revision == 0 && FAULT != REVISION_000_REFUSED)
+        *revision = 1;
+    return true;
+}
+
+/* Is the run a message? Bytes 13 to 20 are not read. */
+static bool read_header(const uint8_t *run, unsigned length, struct message *message)
+{
+    if (FAULT == RUN_LENGTH_BY_DIGITS && length > RUN_GREATEST)
+        length = decimal(run, 4); /* trusts the digits once the count is past them */
+    if (length < HEADER_BYTES || length > RUN_GREATEST)
+        return false;
+    if (!all_digits(run, 8))
+        return false;
+    if (decimal(run, 4) != (FAULT == NUL_COUNTED ? length + 1 : length))
+        return false;
+    if (!read_revision(run + 8, &message->revision))
+        return false;
+    uint8_t byte_12 = run[11];
+    if (byte_12 != '0' && byte_12 != '1' && byte_12 != ' ' && FAULT != BYTE_12_NOT_READ)
+        return false;
+    message->bytes = run;
+    message->length = length;
+    message->mid = decimal(run + 4, 4);
+    message->free = byte_12 == '1';
+    return true;
+}
+
+static bool length_wrong(const struct rule *rule, const struct message *message)
+{
+    return message->length < rule->least_length || message->length > rule->greatest_length;
+}
+
+static bool revision_wrong(const struct rule *rule, const struct message *message)
+{
+    if (rule->greatest_revision == REVISION_NOT_READ)
+        return false;
+    return message->revision < 1 || message->revision > rule->greatest_revision;
+}
+
+/* The tests of length and revision, which every message meets in this order. */
+static unsigned test_form(const struct rule *rule, const struct message *message)
+{
+    if (FAULT == REVISION_BEFORE_LENGTH && revision_wrong(rule, message))
+        return REVISION_UNSUPPORTED;
+    if (length_wrong(rule, message))
+        return INVALID_DATA;
+    if (revision_wrong(rule, message))
+        return REVISION_UNSUPPORTED;
+    return NO_ERROR;
+}
+
+static bool data_good(const uint8_t *data, size_t count)
+{
+    for (size_t i = 0; i < count; i++)
+        if (data[i] < 0x20 || data[i] > (FAULT == DATA_7F ? 0x7f : 0x7e))
+            return false;
+    return true;
+}
+
+static void download(struct state *state, unsigned s, const struct message *message,
+                     struct output *output)
+{
+    const uint8_t *data = message->bytes + HEADER_BYTES;
+    size_t count = message->length - HEADER_BYTES;
+    if (FAULT == GRANT_BEFORE_DATA && !state->settings.granted) {
+        send_error(output, s, MID_DOWNLOAD, NOT_GRANTED);
+        return;
+    }
+    if (!data_good(data, count)) {
+        send_error(output, s, MID_DOWNLOAD, INVALID_DATA);
+        return;
+    }
+    if (!state->settings.granted) {
+        send_error(output, s, MID_DOWNLOAD, NOT_GRANTED);
+        return;
+    }
+    uint8_t identifier[TEXT_BYTES];
+    memset(identifier, ' ', sizeof identifier);
+    if (FAULT == IDENTIFIER_NOT_PADDED)
+        memcpy(identifier, state->in_force, sizeof identifier);
+    memcpy(identifier, data, count < TEXT_BYTES ? count : TEXT_BYTES);
+    if (FAULT != REPLY_AFTER_NOTICES)
+        send_accepted(output, s, MID_DOWNLOAD);
+    identifier_event(state, identifier, FAULT == SENDER_LEFT_OUT ? s : SESSIONS, output);
+    if (FAULT == REPLY_AFTER_NOTICES)
+        send_accepted(output, s, MID_DOWNLOAD);
+}
+
+static void subscribe(struct session *session, unsigned s, enum kind kind,
+                      const struct message *message, struct output *output)
+{
+    struct subscription *part = &session->subscription[kind];
+    if (part->subscribed) {
+        send_error(output, s, message->mid,
+                   kind == IDENTIFIER ? IDENTIFIER_SUBSCRIBED : TIGHTENING_SUBSCRIBED);
+        return;
+    }
+    part->subscribed = true;
+    part->revision = message->revision;
+    part->free = message->free || (FAULT == FREE_FLAG_STICKS && part->free);
+    send_accepted(output, s, message->mid);
+}
+
+static void forget(struct subscription *part)
+{
+    struct subscription before = *part;
+    memset(part, 0, sizeof *part);
+    if (FAULT == KEPT_THROUGH_UNSUBSCRIBE) {
+        *part = before;
+        part->subscribed = false;
+        part->free = false;
+    }
+    if (FAULT == FREE_FLAG_STICKS)
+        part->free = before.free;
+}
+
+static void unsubscribe(struct session *session, unsigned s, enum kind kind,
+                        const struct message *message, struct output *output)
+{
+    unsigned error = kind == IDENTIFIER ? IDENTIFIER_NOT_SUBSCRIBED : TIGHTENING_NOT_SUBSCRIBED;
+    if (FAULT == CODES_07_10_SWAPPED)
+        error = kind == IDENTIFIER ? TIGHTENING_NOT_SUBSCRIBED : IDENTIFIER_NOT_SUBSCRIBED;
+    if (!session->subscription[kind].subscribed) {
+        send_error(output, s, message->mid, error);
+        return;
+    }
+    forget(&session->subscription[kind]);
+    if (FAULT == UNSUBSCRIBE_CLEARS_BOTH)
+        forget(&session->subscription[kind == IDENTIFIER ? TIGHTENING : IDENTIFIER]);
+    send_accepted(output, s, message->mid);
+}
+
+static void stop(struct state *state, unsigned s, struct output *output)
+{
+    clear_session(&state->session[s], OPENED, KEPT_THROUGH_STOP);
+    if (FAULT == STOP_FORGETS_IDENTIFIER)
+        memset(state->in_force, ' ', TEXT_BYTES);
+    send_accepted(output, s, MID_STOP);
+}
+
+/* What a message does that has passed the tests of length and revision. */
+static void perform(struct state *state, unsigned s, const struct message *message,
+                    struct output *output)
+{
+    struct session *session = &state->session[s];
+    switch (message->mid) {
+    case MID_STOP:
+        stop(state, s, output);
+        break;
+    case MID_DOWNLOAD:
+        download(state, s, message, output);
+        break;
+    case MID_SUBSCRIBE_IDENTIFIER:
+        subscribe(session, s, IDENTIFIER, message, output);
+        break;
+    case MID_UNSUBSCRIBE_IDENTIFIER:
+        unsubscribe(session, s, IDENTIFIER, message, output);
+        break;
+    case MID_SUBSCRIBE_TIGHTENING:
+        subscribe(session, s, TIGHTENING, message, output);
+        break;
+    case MID_UNSUBSCRIBE_TIGHTENING:
+        unsubscribe(session, s, TIGHTENING, message, output);
+        break;
+    case MID_KEEP_ALIVE:
+        send_mirrored(output, s, message->bytes);
+        break;
+    default:
+        break;
+    }
+}
+
+/* 0053 and 0062: never a reply, and nothing at all where the length is wrong. */
+static void perform_acknowledge(struct state *state, unsigned s, const struct rule *rule,
+                                const struct message *message, struct output *output)
+{
+    enum kind kind = message->mid == MID_ACKNOWLEDGE_IDENTIFIER ? IDENTIFIER : TIGHTENING;
+    if (length_wrong(rule, message) && FAULT != LONG_ACKNOWLEDGE_TAKEN)
+        return;
+    acknowledge(state, s, kind, output);
+}
+
+static bool is_acknowledge(unsigned mid)
+{
+    return mid == MID_ACKNOWLEDGE_IDENTIFIER || mid == MID_ACKNOWLEDGE_TIGHTENING;
+}
+
+/* Planted: an acknowledge that finds nothing open is taken for no sign of life. */
+static bool overlooked(const struct session *session, unsigned mid)
+{
+    enum kind kind = mid == MID_ACKNOWLEDGE_IDENTIFIER ? IDENTIFIER : TIGHTENING;
+    return FAULT == EMPTY_ACKNOWLEDGE_KEEPS_IDLE && is_acknowledge(mid)
+        && session->subscription[kind].count == 0;
+}
+
+/* 96 for a second 0001, which comes before the test of its length. */
+static unsigned second_start(const struct rule *rule, const struct message *message)
+{
+    if (FAULT == LENGTH_BEFORE_96 && length_wrong(rule, message))
+        return INVALID_DATA;
+    return ALREADY_STARTED;
+}
+
+static void message_when_started(struct state *state, unsigned s, const struct message *message,
+                                 struct output *output)
+{
+    struct session *session = &state->session[s];
+    const struct rule *rule = find_rule(message->mid);
+    if (!overlooked(session, message->mid))
+        session->idle = 0;
+    if (rule == NULL) {
+        send_error(output, s, message->mid, UNKNOWN_MESSAGE);
+        return;
+    }
+    if (message->mid == MID_START) {
+        send_error(output, s, MID_START, second_start(rule, message));
+        return;
+    }
+    if (is_acknowledge(message->mid)) {
+        perform_acknowledge(state, s, rule, message, output);
+        return;
+    }
+    unsigned error = test_form(rule, message);
+    if (error != NO_ERROR) {
+        send_error(output, s, message->mid, error);
+        return;
+    }
+    perform(state, s, message, output);
+}
+
+/* Before the start only 0001 counts. */
+static void message_when_opened(struct state *state, unsigned s, const struct message *message,
+                                struct output *output)
+{
+    struct session *session = &state->session[s];
+    if (FAULT == UNSTARTED_CHATTER_RESETS_IDLE)
+        session->idle = 0;
+    if (message->mid != MID_START)
+        return;
+    unsigned error = test_form(find_rule(MID_START), message);
+    if (error != NO_ERROR) {
+        if (FAULT == REFUSED_START_RESETS_IDLE)
+            session->idle = 0;
+        send_error(output, s, MID_START, error);
+        return;
+    }
+    session->phase = STARTED;
+    session->idle = 0;
+    send_started(output, s, &state->settings);
+}
+
+/* ---------------------------------------------------------------- runs */
+
+static void extend_run(struct session *session, const uint8_t *bytes, size_t count)
+{
+    size_t kept = run_kept(session);
+    size_t more = count < RUN_KEPT - kept ? count : RUN_KEPT - kept;
+    if (FAULT == PARTIAL_RUN_RESETS_IDLE && session->phase == STARTED && count > 0)
+        session->idle = 0;
+    if (more > 0)
+        memcpy(session->run + kept, bytes, more);
+    if (FAULT == RUN_LENGTH_16_BITS)
+        session->run_length = (session->run_length + count) & 0xffff;
+    else if (count > RUN_COUNTED - session->run_length)
+        session->run_length = RUN_COUNTED;
+    else
+        session->run_length += (unsigned)count;
+}
+
+static void end_run(struct state *state, unsigned s, struct output *output)
+{
+    struct session *session = &state->session[s];
+    struct message message;
+    uint8_t run[RUN_KEPT];
+    unsigned length = session->run_length;
+    memcpy(run, session->run, sizeof run);
+    session->run_length = 0;
+    memset(session->run, 0, sizeof session->run);
+    if (!read_header(run, length, &message)) {
+        if (FAULT == DROPPED_RUN_RESETS_IDLE && session->phase == STARTED)
+            session->idle = 0;
+        return;
+    }
+    if (session->phase == STARTED)
+        message_when_started(state, s, &message, output);
+    else
+        message_when_opened(state, s, &message, output);
+}
+
+/* Reads through the first NUL, or everything if there is none; answers how much that was. */
+static size_t consume(struct state *state, unsigned s, const uint8_t *bytes, size_t count,
+                      struct output *output)
+{
+    const uint8_t *nul = count > 0 ? memchr(bytes, 0, count) : NULL;
+    size_t before = nul != NULL ? (size_t)(nul - bytes) : count;
+    extend_run(&state->session[s], bytes, before);
+    if (nul == NULL)
+        return before;
+    end_run(state, s, output);
+    return FAULT == NUL_NOT_CONSUMED ? before : before + 1;
+}
+
+/* ---------------------------------------------------------------- the calls */
+
+static uint64_t reply(uint8_t *answer, uint64_t number, uint64_t consumed, uint64_t written,
+                      uint64_t taken)
+{
+    put_little_endian(answer, 8, number);
+    put_little_endian(answer + 8, 8, consumed);
+    put_little_endian(answer + 16, 8, written);
+    put_little_endian(answer + 24, 8, taken);
+    return number;
+}
+
+static uint64_t refuse(uint8_t *answer, uint64_t number)
+{
+    return reply(answer, number, 0, 0, 0);
+}
+
+/* The end of a call that is done: only now are the table and the output written. */
+static uint64_t finish(uint8_t *table, const struct state *state,
+                       uint8_t *lent, const struct output *output,
+                       uint8_t *answer, uint64_t consumed, uint64_t taken)
+{
+    save(table, state);
+    if (FAULT == WHOLE_OUTPUT_WRITTEN)
+        memcpy(lent, output->bytes, sizeof output->bytes);
+    if (output->written > 0)
+        memcpy(lent, output->bytes, output->written);
+    return reply(answer, DONE, consumed, output->written, taken);
+}
+
+/* Numbers 1 to 3, which all calls but start have in common. */
+static uint64_t enter(const uint8_t *table, size_t table_len, size_t output_len,
+                      struct state *state)
+{
+    if (table_len < INDEPENDENT_TABLE_BYTES)
+        return TABLE_SHORT;
+    if (!load(table, state))
+        return TABLE_NOT_WELL_FORMED;
+    if (output_len < INDEPENDENT_OUTPUT_BYTES)
+        return OUTPUT_SHORT;
+    return DONE;
+}
+
+/* Numbers 1 to 4, for the calls that name a session. */
+static uint64_t enter_session(const uint8_t *table, size_t table_len, size_t output_len,
+                              uint64_t session, struct state *state)
+{
+    uint64_t number = enter(table, table_len, output_len, state);
+    if (FAULT == SESSION_BEFORE_OUTPUT && number == OUTPUT_SHORT && session >= SESSIONS)
+        return SESSION_ABOVE_3;
+    if (number != DONE)
+        return number;
+    if (FAULT == SESSION_CUT_TO_32_BITS)
+        session = (uint32_t)session;
+    return session >= SESSIONS ? SESSION_ABOVE_3 : DONE;
+}
+
+uint64_t independent_start(uint8_t *table, size_t table_len,
+                           const uint8_t *settings, size_t settings_len,
+                           uint8_t *answer, size_t answer_len)
+{
+    struct state state = { 0 };
+    if (answer_len < INDEPENDENT_ANSWER_BYTES)
+        return ANSWER_SHORT;
+    if (table_len < INDEPENDENT_TABLE_BYTES)
+        return refuse(answer, TABLE_SHORT);
+    if (!is_record(settings, settings_len, KIND_SETTINGS, SETTINGS_BYTES)
+        || !read_settings(settings + RECORD_HEADER_BYTES, &state.settings))
+        return refuse(answer, SETTINGS_BAD);
+    if (FAULT == FULL_SETTINGS_REFUSED && state.settings.last == LAST_NUMBER_GREATEST)
+        return refuse(answer, SETTINGS_BAD);
+    memset(state.in_force, ' ', TEXT_BYTES);
+    if (FAULT == START_KEEPS_IDENTIFIER) {
+        static struct state before;
+        if (load(table, &before))
+            memcpy(state.in_force, before.in_force, TEXT_BYTES);
+    }
+    save(table, &state);
+    return reply(answer, DONE, 0, 0, 0);
+}
+
+uint64_t independent_open(uint8_t *table, size_t table_len,
+                          uint8_t *output, size_t output_len,
+                          uint64_t session,
+                          uint8_t *answer, size_t answer_len)
+{
+    struct state state = { 0 };
+    struct output gathered = { .written = 0 };
+    if (answer_len < INDEPENDENT_ANSWER_BYTES)
+        return ANSWER_SHORT;
+    if (FAULT == OPEN_NEEDS_NO_OUTPUT)
+        output_len = INDEPENDENT_OUTPUT_BYTES;
+    uint64_t number = enter_session(table, table_len, output_len, session, &state);
+    if (number != DONE)
+        return refuse(answer, number);
+    unsigned s = (unsigned)session;
+    if (state.session[s].phase != CLOSED)
+        return refuse(answer, SESSION_NOT_CLOSED);
+    state.session[s].phase = OPENED; /* a closed session is clear already */
+    return finish(table, &state, output, &gathered, answer, 0, 0);
+}
+
+uint64_t independent_hang_up(uint8_t *table, size_t table_len,
+                             uint8_t *output, size_t output_len,
+                             uint64_t session,
+                             uint8_t *answer, size_t answer_len)
+{
+    struct state state = { 0 };
+    struct output gathered = { .written = 0 };
+    if (answer_len < INDEPENDENT_ANSWER_BYTES)
+        return ANSWER_SHORT;
+    if (FAULT == OPEN_NEEDS_NO_OUTPUT)
+        output_len = INDEPENDENT_OUTPUT_BYTES;
+    uint64_t number = enter_session(table, table_len, output_len, session, &state);
+    if (number != DONE)
+        return refuse(answer, number);
+    unsigned s = (unsigned)session;
+    if (state.session[s].phase == CLOSED)
+        return refuse(answer, SESSION_CLOSED);
+    clear_session(&state.session[s], CLOSED, KEPT_THROUGH_HANG_UP);
+    return finish(table, &state, output, &gathered, answer, 0, 0);
+}
+
+uint64_t independent_bytes(uint8_t *table, size_t table_len,
+                           uint8_t *output, size_t output_len,
+                           uint64_t session,
+                           const uint8_t *bytes, size_t bytes_len,
+                           uint8_t *answer, size_t answer_len)
+{
+    struct state state = { 0 };
+    struct output gathered = { .written = 0 };
+    if (answer_len < INDEPENDENT_ANSWER_BYTES)
+        return ANSWER_SHORT;
+    uint64_t number = enter_session(table, table_len, output_len, session, &state);
+    if (number != DONE)
+        return refuse(answer, number);
+    unsigned s = (unsigned)session;
+    if (state.session[s].phase == CLOSED)
+        return refuse(answer, SESSION_CLOSED);
+    size_t consumed = consume(&state, s, bytes, bytes_len, &gathered);
+    return finish(table, &state, output, &gathered, answer, consumed, 0);
+}
+
+uint64_t independent_tick(uint8_t *table, size_t table_len,
+                          uint8_t *output, size_t output_len,
+                          uint8_t *answer, size_t answer_len)
+{
+    struct state state = { 0 };
+    struct output gathered = { .written = 0 };
+    if (FAULT == SHORT_ANSWER_BUT_DONE && answer_len < INDEPENDENT_ANSWER_BYTES) {
+        uint8_t spare[INDEPENDENT_ANSWER_BYTES];
+        independent_tick(table, table_len, output, output_len, spare, sizeof spare);
+        return ANSWER_SHORT;
+    }
+    if (answer_len < INDEPENDENT_ANSWER_BYTES)
+        return ANSWER_SHORT;
+    uint64_t number = enter(table, table_len, output_len, &state);
+    if (number != DONE)
+        return refuse(answer, number);
+    for (unsigned i = 0; i < SESSIONS; i++)
+        tick_session(&state, in_turn(i), &gathered);
+    return finish(table, &state, output, &gathered, answer, 0, 0);
+}
+
+/* Numbers 7 and 8 for a tightening record; fills in what it reports. */
+static uint64_t judge_tightening(const struct state *state, const uint8_t *record, size_t length,
+                                 struct tightening *tightening)
+{
+    bool used_up = state->settings.last == LAST_NUMBER_GREATEST;
+    if (!is_record(record, length, KIND_TIGHTENING, TIGHTENING_BYTES))
+        return RECORD_BAD;
+    if (FAULT == EIGHT_BEFORE_SEVEN && used_up)
+        return NUMBERS_USED_UP;
+    if (!read_tightening(record + RECORD_HEADER_BYTES, tightening))
+        return RECORD_BAD;
+    return used_up ? NUMBERS_USED_UP : DONE;
+}
+
+static bool is_scanned(const uint8_t *record, size_t length)
+{
+    return is_record(record, length, KIND_SCANNED, TEXT_BYTES)
+        && is_text(record + RECORD_HEADER_BYTES, TEXT_BYTES);
+}
+
+uint64_t independent_record(uint8_t *table, size_t table_len,
+                            uint8_t *output, size_t output_len,
+                            const uint8_t *record, size_t record_len,
+                            uint8_t *answer, size_t answer_len)
+{
+    struct state state = { 0 };
+    struct output gathered = { .written = 0 };
+    struct tightening tightening;
+    uint64_t taken;
+    if (answer_len < INDEPENDENT_ANSWER_BYTES)
+        return ANSWER_SHORT;
+    uint64_t number = enter(table, table_len, output_len, &state);
+    if (number != DONE)
+        return refuse(answer, number);
+    if (is_scanned(record, record_len)) {
+        taken = identifier_event(&state, record + RECORD_HEADER_BYTES, SESSIONS, &gathered);
+    } else {
+        number = judge_tightening(&state, record, record_len, &tightening);
+        if (number != DONE)
+            return refuse(answer, number);
+        taken = tightening_event(&state, &tightening, &gathered);
+    }
+    return finish(table, &state, output, &gathered, answer, 0, taken);
+}
