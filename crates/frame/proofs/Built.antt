@@ -1,5 +1,5 @@
 -- A frame that was put together in a scratch array is the frame that the model says. Assumes nothing.
-use mathlib.Core.Path.{_≡_, refl, sym, ap, _∙_}
+use mathlib.Core.Path.{_≡_, refl, sym, ap, ap₂, _∙_}
 use Prim.Native.Nat.{ℕ, suc, _+_}
 use native.Mathlib.Nat.{add-zero, add-suc, suc-add}
 use native.Mathlib.Omega.{arith}
@@ -13,8 +13,9 @@ use Rattle.model.specs.Records.{settings-of, tightening-of}
 use Rattle.model.specs.Frames.{header, frame, Field, value, fields-from, controller-fields, result-fields, frame-0002, frame-0004, frame-0005, frame-0052, frame-0061}
 use Rattle.text.specs.Put.{Put}
 use Rattle.text.proofs.Numbers.{digits-length}
-use Rattle.text.proofs.Puts.{scratch}
-use Rattle.frame.specs.Layout.{laid-out, served, result-of}
+use Rattle.text.proofs.Puts.{put-then, scratch}
+use Rattle.frame.specs.Layout.{laid-out, layout-length, served, result-of}
+use Rattle.frame.proofs.Frames.{laid-out-length}
 
 header-length : (size mid revision byte-12 : ℕ) → length (header size mid revision byte-12) ≡ 20
 unfolding header
@@ -109,3 +110,43 @@ module _ (no-acknowledge : Bool) where
   is-0061 revision bs rs =
       ap (frame 61 revision flag)
       (sym (fields-append 1 (controller-fields (settings-of bs)) (result-fields (result-of rs) (tightening-of rs))))
+
+-- ==== the frames, of the writes that put them together
+
+module _ {o o₁ o₂ : List ℕ} {r₁ r₂ : ℕ} where
+  pub built-0002 : (bs : List ℕ) → length bs ≡ 33 → length o ≡ 57
+      → Put o 0 (header 57 2 1 space) r₁ o₁ → Put o₁ r₁ (laid-out 1 controller bs) r₂ o₂ → o₂ ≡ frame-0002 (settings-of bs)
+  unfolding layout-length
+  built-0002 bs n l p q =
+      let m = laid-out-length bs controller 1 (serves controller 33 bs n refl) in
+      built 57 2 1 space (laid-out 1 controller bs) (ap (λ (k : ℕ). 20 + k) m) l (put-then p q) ∙ is-0002 bs
+
+  module _ (no-acknowledge : Bool) (b : ℕ) (eb : b ≡ cond no-acknowledge digit-1 digit-0) (x : List ℕ) (n : length x ≡ 25) where
+    pub built-0052-1 : length o ≡ 47 → Put o 0 (header 47 52 1 b) r₁ o₁ → Put o₁ r₁ (laid-out 1 identifier-1 x) r₂ o₂
+        → o₂ ≡ frame-0052 1 no-acknowledge x
+    unfolding layout-length
+    built-0052-1 l p q =
+        let m = laid-out-length x identifier-1 1 (serves identifier-1 25 x n refl) in
+        built 47 52 1 b (laid-out 1 identifier-1 x) (ap (λ (k : ℕ). 20 + k) m) l (put-then p q)
+        ∙ ap (λ (k : ℕ). frame 52 1 k (laid-out 1 identifier-1 x)) eb ∙ is-0052-1 no-acknowledge x n
+
+    pub built-0052-2 : (revision : ℕ) → (revision ≡ 1 → ⊥) → length o ≡ 128 → Put o 0 (header 128 52 revision b) r₁ o₁
+        → Put o₁ r₁ (laid-out 1 identifier-2 x) r₂ o₂ → o₂ ≡ frame-0052 revision no-acknowledge x
+    unfolding layout-length
+    built-0052-2 revision h l p q =
+        let m = laid-out-length x identifier-2 1 (serves identifier-2 25 x n refl) in
+        built 128 52 revision b (laid-out 1 identifier-2 x) (ap (λ (k : ℕ). 20 + k) m) l (put-then p q)
+        ∙ ap (λ (k : ℕ). frame 52 revision k (laid-out 1 identifier-2 x)) eb ∙ is-0052-2 no-acknowledge revision x h n
+
+  module _ {o₃ : List ℕ} {r₃ : ℕ} (no-acknowledge : Bool) (b : ℕ) (eb : b ≡ cond no-acknowledge digit-1 digit-0) where
+    pub built-0061 : (revision : ℕ) (bs rs : List ℕ) → length bs ≡ 33 → length rs ≡ 110 → length o ≡ 231
+        → Put o 0 (header 231 61 revision b) r₁ o₁ → Put o₁ r₁ (laid-out 1 controller bs) r₂ o₂ → Put o₂ r₂ (laid-out 4 result rs) r₃ o₃
+        → o₃ ≡ frame-0061 (settings-of bs) revision no-acknowledge (result-of rs)
+    unfolding layout-length
+    built-0061 revision bs rs nb nr l p q w =
+        let mb = laid-out-length bs controller 1 (serves controller 33 bs nb refl) in
+        let mr = laid-out-length rs result 4 (serves result 110 rs nr refl) in
+        let m : 20 + length (laid-out 1 controller bs ++ laid-out 4 result rs) ≡ 231 =
+        ap (λ (k : ℕ). 20 + k) (length-append (laid-out 1 controller bs) (laid-out 4 result rs) ∙ ap₂ _+_ mb mr) in
+        built 231 61 revision b (laid-out 1 controller bs ++ laid-out 4 result rs) m l (put-then p (put-then q w))
+        ∙ ap (λ (k : ℕ). frame 61 revision k (laid-out 1 controller bs ++ laid-out 4 result rs)) eb ∙ is-0061 no-acknowledge revision bs rs

@@ -1,13 +1,11 @@
 -- `frame::put_0002` meets its contract: what the scratch array holds is the frame, which is then copied. Assumes nothing.
 use borrow.Author.Needs.{needs}
-use mathlib.Core.Path.{refl, ap, _∙_}
-use Prim.Native.Nat.{ℕ, _+_}
+use mathlib.Core.Path.{refl, ap}
 use native.Mathlib.Omega.{arith}
 use Rattle.model.specs.Frames.{frame-record}
-use Rattle.text.proofs.Puts.{put-then, put-as}
+use Rattle.text.proofs.Puts.{put-as}
 use Rattle.frame.specs.Layout.{layout-length}
-use Rattle.frame.proofs.Frames.{laid-out-length}
-use Rattle.frame.proofs.Built.{built, controller, serves, is-0002}
+use Rattle.frame.proofs.Built.{controller, serves, built-0002}
 use Rattle.frame.proofs.put_0002.Statement.{statement}
 use Rattle.frame.proofs.put_0002.Tie as tie
 
@@ -18,16 +16,13 @@ put-fields-requires c κs =
     (serves controller 33 (s .args .settings .now) (s .pre .2) refl, omega (arith, c .before .before .before .put-header .ensures .0), omega arith)
 
 returns : tie.Need-returns
-unfolding layout-length
 returns c =
     let r = c .before .before in
     let g = r .before .before .before .before in
     let h = g .before .before .before .before in
     let s = h .before .before .before .before in
-    let bs = s .args .settings .now in
-    let n = laid-out-length bs controller 1 (serves controller 33 bs (s .pre .2) refl) in
-    let f = built 57 2 1 32 _ (ap (λ (k : ℕ). 20 + k) n) refl (put-then (h .put-header .ensures .1) (g .put-fields .ensures .1)) in
-    (search needs, put-as (ap (frame-record (s .args .s)) (f ∙ is-0002 bs)) (r .put-frame .ensures .1))
+    let f = built-0002 (s .args .settings .now) (s .pre .2) refl (h .put-header .ensures .1) (g .put-fields .ensures .1) in
+    (search needs, put-as (ap (frame-record (s .args .s)) f) (r .put-frame .ensures .1))
 
 pub put-0002-spec : {M : Type 1} → statement M
 put-0002-spec =

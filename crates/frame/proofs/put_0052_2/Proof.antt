@@ -1,13 +1,11 @@
 -- `frame::put_0052_2` meets its contract: what the scratch array holds is the frame, which is then copied. Assumes nothing.
 use borrow.Author.Needs.{needs}
-use mathlib.Core.Path.{refl, ap, _∙_}
-use Prim.Native.Nat.{ℕ, _+_}
+use mathlib.Core.Path.{refl, ap}
 use native.Mathlib.Omega.{arith}
 use Rattle.model.specs.Frames.{frame-record}
-use Rattle.text.proofs.Puts.{put-then, put-as}
+use Rattle.text.proofs.Puts.{put-as}
 use Rattle.frame.specs.Layout.{layout-length}
-use Rattle.frame.proofs.Frames.{laid-out-length}
-use Rattle.frame.proofs.Built.{built, identifier-2, serves, is-0052-2}
+use Rattle.frame.proofs.Built.{identifier-2, serves, built-0052-2}
 use Rattle.frame.proofs.put_0052_2.Statement.{statement}
 use Rattle.frame.proofs.put_0052_2.Tie as tie
 
@@ -18,16 +16,15 @@ put-fields-requires c κs =
     (serves identifier-2 25 (s .args .identifier .now) (s .pre .0 .2) refl, omega (arith, c .before .before .before .put-header .ensures .0), omega arith)
 
 returns : tie.Need-returns
-unfolding layout-length
 returns c =
     let r = c .before .before in
     let g = r .before .before .before .before in
     let h = g .before .before .before .before in
-    let s = h .before .before .before .before .before in
+    let b = h .before in
+    let s = b .before .before .before .before in
     let a = s .args in
-    let n = laid-out-length (a .identifier .now) identifier-2 1 (serves identifier-2 25 (a .identifier .now) (s .pre .0 .2) refl) in
-    let f = built 128 52 (a .revision) _ _ (ap (λ (k : ℕ). 20 + k) n) refl (put-then (rw (h .before .byte-12 .ensures) at (h .put-header .ensures .1)) (g .put-fields .ensures .1)) in
-    (search needs, put-as (ap (frame-record (a .s)) (f ∙ is-0052-2 (a .no-acknowledge) (a .revision) (a .identifier .now) (s .pre .1) (s .pre .0 .2))) (r .put-frame .ensures .1))
+    let f = built-0052-2 (a .no-acknowledge) (b .byte-12 .result) (b .byte-12 .ensures) (a .identifier .now) (s .pre .0 .2) (a .revision) (s .pre .1) refl (h .put-header .ensures .1) (g .put-fields .ensures .1) in
+    (search needs, put-as (ap (frame-record (a .s)) f) (r .put-frame .ensures .1))
 
 pub put-0052-2-spec : {M : Type 1} → statement M
 put-0052-2-spec =
