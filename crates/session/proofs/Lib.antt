@@ -1,0 +1,3 @@
+pub mod Tests
+pub mod Notices
+pub mod Sessions
