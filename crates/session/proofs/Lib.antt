@@ -1,3 +1,4 @@
 pub mod Tests
 pub mod Notices
 pub mod Sessions
+pub mod Hearing
