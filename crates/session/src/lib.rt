@@ -42,10 +42,10 @@ ghost use Rattle.session.specs.Decisions.{
 };
 use frame::Header;
 use message::Effect;
-use message::Standing;
-use message::Verdict;
 use message::IDENTIFIERS;
+use message::Standing;
 use message::TIGHTENINGS;
+use message::Verdict;
 
 // ---- a session
 
