@@ -3,10 +3,11 @@ use mathlib.Core.Path.{_≡_, refl, sym, _∙_, ap}
 use mathlib.Core.Bool.{Bool, true, false, cond}
 use mathlib.Core.List.{List, [], _∷_}
 use mathlib.Core.Option.{Option, none, some}
-use Prim.Native.Nat.{ℕ, zero, suc}
+use Prim.Native.Nat.{ℕ, zero, suc, _≤_}
+use native.Mathlib.Omega.{arith}
 use native.Mathlib.Omega.{arith}
 use lib.Dec.{eqb}
-use lib.ListN.{getD, take, drop}
+use lib.ListN.{length, getD, take, drop}
 use borrow.Author.Tests.{eqb-true}
 use Rattle.model.specs.Limits.{header-length}
 use Rattle.model.specs.Records.{Settings}
@@ -26,6 +27,7 @@ use Rattle.message.specs.declared.Standing.{Standing}
 use Rattle.frame.specs.Header.{shown, header-of}
 use Rattle.frame.specs.declared.Header.{Header}
 use Rattle.frame.specs.declared.Header.the-variants.{Message}
+use Rattle.frame.proofs.Headers.{sound}
 use Rattle.session.specs.Meaning.{subscription-as, subscriptions-in, session-in}
 use Rattle.session.specs.Control.{session}
 use Rattle.session.specs.Decisions.{is-subscribed, standing, no-error, accepted, decided-started, decided-opened, decided, decision}
@@ -37,7 +39,7 @@ use Rattle.session.specs.declared.Phase.the-variants.{Closed, Opened, St
 use Rattle.session.specs.declared.Subscription.{Subscription}
 use Rattle.session.specs.declared.Session.{Session}
 use Rattle.session.specs.declared.Decision.{Decision}
-use Rattle.session.specs.declared.Decision.the-variants.{Nothing, Heard, Error, Start}
+use Rattle.session.specs.declared.Decision.the-variants.{Nothing, Heard, Error, Start, Mirror}
 
 -- ==== a decision from its parts
 
@@ -262,3 +264,20 @@ module _ (st : Settings) (run : Run) (is ts : List Notice) (piece : Piece) (more
       → (step st (receives piece) (session-in x run is ts) ≡ (session-in x (longer run (piece .bytes)) is ts, []))
       × (announces st piece (session-in x run is ts) ≡ none)
   run-goes-on x = goes-on (x .phase) (x .idle) (x .identifiers) (x .tightenings)
+
+-- ==== what does something is a message, whose header is kept whole
+
+module _ (st : Settings) (x : Session) (r : Run) where
+  whole-if : (b : Bool) → is-message r ≡ b → (decision x (st .granted) (shown (cond b (some (message-of r)) none)) (drop 20 (r .kept)) ≡ Nothing → ⊥)
+      → header-length ≤ length (r .kept)
+  unfolding decision
+  whole-if false e ne = absurd (ne refl)
+  whole-if true e ne = sound (r .kept) (r .count) e .whole
+
+  pub header-whole : (decision-on st x r ≡ Nothing → ⊥) → header-length ≤ length (r .kept)
+  unfolding header-of read-run
+  header-whole ne = whole-if (is-message r) refl ne
+
+  -- so that there are 20 bytes to send back
+  pub mirror-whole : decision-on st x r ≡ Mirror → header-length ≤ length (r .kept)
+  mirror-whole e = header-whole (λ q. let z : _≡_ {A = ℕ} 0 1 = cc in omega arith)
