@@ -1,3 +1,6 @@
 pub mod Tests
 pub mod Notices
+pub mod Dealing
 pub mod Sessions
+pub mod Hearing
+pub mod Afterwards

@@ -1,26 +1,25 @@
 -- What is done to a subscription by value is what the model does to it, whatever notices it holds. Assumes nothing.
-use mathlib.Core.Path.{_≡_, refl, sym, _∙_, ap, subst⁻¹}
+use mathlib.Core.Path.{_≡_, refl}
 use mathlib.Core.Bool.{Bool, true, false, cond}
 use mathlib.Core.List.{List, [], _∷_, _++_}
-use Prim.Native.Nat.{ℕ, zero, suc, _+_, _%_, _≤_, _<_, zero-le}
+use Prim.Native.Nat.{ℕ, suc, _+_, _%_, _≤_, _<_, zero-le}
 use native.Mathlib.Numerals.{add-one}
 use native.Mathlib.Omega.{arith}
 use lib.Dec.{leb, eqb, eqb·suc-zero}
 use lib.ListN.{length, take, length-append}
 use lib.Seq.{take-length}
-use borrow.Author.Tests.{leb-true, leb-false, eq-eqb, ne-eqb, lt-ltb, le-ltb, le-leb, lt-leb}
+use borrow.Author.Tests.{leb-true, leb-false, eq-eqb, ne-eqb, lt-ltb, le-ltb}
 use Rattle.model.specs.Limits.{copy-every, given-up-at}
 use Rattle.model.specs.Events.{Notice}
 use Rattle.model.specs.Notices.{Room, the-newest, up-to, acked, busy, beats, news, asks, drops, acks, next-one, clock-at, has-room, takes, act}
 use Rattle.model.specs.Notices as model
-use Rattle.session.specs.Meaning.{subscription-in, most-held, Holds, Stepped, shifted, Took, Becomes, held-asked}
-use Rattle.session.specs.Control.{subscription, unsubscribed, subscribed, beat-at, still, next-goes-out, by-beat, ticked, acknowledged, taken-busy, taken}
+use Rattle.session.specs.Meaning.{subscription-in, most-held, Holds, Stepped, Took, Becomes, held-asked}
+use Rattle.session.specs.Control.{subscription, unsubscribed, subscribed, beat-at, next-goes-out, by-beat, ticked, acknowledged, taken-busy, taken}
 use Rattle.session.specs.declared.Form.{Form}
 use Rattle.session.specs.declared.Form.the-variants.{Not, Plain, Acknowledged}
 use Rattle.session.specs.declared.Subscription.{Subscription}
 use Rattle.session.specs.declared.Take.the-variants as take
 use Rattle.session.specs.declared.Taken.{Taken}
-use Rattle.session.specs.declared.Beat.{Beat}
 use Rattle.session.specs.declared.Beat.the-variants.{Runs, Copy, GivenUp}
 
 -- ==== the clock

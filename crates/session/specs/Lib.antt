@@ -1,2 +1,4 @@
 pub mod Meaning
 pub mod Control
+pub mod Decisions
+pub mod Effects

@@ -3,15 +3,16 @@
 use Prim.Native.Nat.{ℕ, _+_, _≤_, _<_}
 use mathlib.Core.Path.{_≡_}
 use mathlib.Core.Bool.{Bool, true, false}
-use mathlib.Core.List.{List, [], _∷_, _++_}
+use mathlib.Core.List.{List, [], _∷_, _++_, map}
 use lib.ListN.{length, take}
 use Rattle.model.specs.Limits.{idle-limit, given-up-at}
 use Rattle.model.specs.Records.{Settings}
 use Rattle.model.specs.Runs.{Run}
 use Rattle.model.specs.Events.{Notice, identifiers, tightenings}
-use Rattle.model.specs.Notices.{Room, the-newest, up-to, room-of, Queue, empty, busy, unsubscribed, plain, acked, beats}
+use Rattle.model.specs.Notices.{Room, the-newest, up-to, room-of, Queue, empty, busy, unsubscribed, plain, acked}
 use Rattle.model.specs.Notices as model
-use Rattle.model.specs.Session.{closed, opened, started, Emission, close, dealt}
+use Rattle.model.specs.Session.{closed, opened, started, Emission, copy, copies-to}
+use Rattle.model.specs.Row.{tag}
 use Rattle.model.specs.Session as model-session
 use Rattle.session.specs.declared.Form.{Form}
 use Rattle.session.specs.declared.Form.the-variants as form
@@ -23,8 +24,6 @@ use Rattle.session.specs.declared.Step.{Step}
 use Rattle.session.specs.declared.Take.{Take}
 use Rattle.session.specs.declared.Take.the-variants.{Not, Once, Opens, Waits}
 use Rattle.session.specs.declared.Taken.{Taken}
-use Rattle.session.specs.declared.Idling.{Idling}
-use Rattle.session.specs.declared.Idling.the-variants.{Stays, TimesOut}
 
 -- ==== 01, "Notices and the clock": a subscription, and what it holds
 
@@ -137,20 +136,21 @@ subscriptions-in x is ts = subscription-in (x .identifiers) is ∷ subscription-
 abbrev pub session-in : Session → Run → List Notice → List Notice → model-session.Session
 session-in x run is ts = session-as (x .phase) (x .idle) run (subscriptions-in x is ts)
 
+-- one that is not started is subscribed to nothing
+abbrev pub SubscribedIn : Phase → Subscription → Subscription → Type 0
+SubscribedIn Closed i t = (i .form ≡ form.Not) × (t .form ≡ form.Not)
+SubscribedIn Opened i t = (i .form ≡ form.Not) × (t .form ≡ form.Not)
+SubscribedIn Started i t = Unit {0}
+
 -- what is true of one that holds those identifiers and those tightenings
 pub record Sound (x : Session) (is ts : List Notice) : Type 0 where
   pub idle : x .idle < idle-limit
+  pub subscribed : SubscribedIn (x .phase) (x .identifiers) (x .tightenings)
   pub of-identifiers : Holds (room-of identifiers) (x .identifiers) is
   pub of-tightenings : Holds (room-of tightenings) (x .tightenings) ts
 
--- ==== 01, "Notices and the clock": what is said of a tick to a session
+-- ==== 01, "Notices and the clock": what goes out to a session
 
--- one that stays: what the tick does besides, by its phase
-abbrev pub tick-goes-on : Settings → Run → List Notice → List Notice → Phase → Session → model-session.Session × List Emission
-tick-goes-on st run is ts Closed x = (closed, [])
-tick-goes-on st run is ts Opened x = (opened (x .idle) run, [])
-tick-goes-on st run is ts Started x = dealt st (x .idle) run (λ kind. beats) (subscriptions-in x is ts)
-
-abbrev pub ticked-so : Settings → Run → List Notice → List Notice → Idling → model-session.Session × List Emission
-ticked-so st run is ts (Stays x) = tick-goes-on st run is ts (x .phase) x
-ticked-so st run is ts TimesOut = (closed, close ∷ [])
+-- copies of notices of a kind, to one that is subscribed to it so
+abbrev pub copies : Settings → ℕ → Subscription → List Notice → List Emission
+copies st kind x ns = map copy (tag kind (copies-to st (subscription-in x []) ns))

@@ -2,8 +2,10 @@
 // kept elsewhere: the answers here say which place is written, whether the places shift down, and whether the first one is sent.
 ghost use mathlib.Core.Path.{_≡_};
 ghost use mathlib.Core.Bool.{cond};
+ghost use Rattle.model.specs.Messages.{entry-of};
 ghost use Rattle.model.specs.Notices.{room-of};
 ghost use Rattle.model.specs.Events.{identifiers, tightenings};
+ghost use Rattle.message.specs.Meaning.{effect-in, effect-listed, error-in};
 ghost use Rattle.session.specs.Control.{
   fresh as fresh-session,
   cleared as cleared-session,
@@ -22,6 +24,28 @@ ghost use Rattle.session.specs.Control.{
   idled-open as idled-open-to,
   idled as idled-to,
 };
+ghost use Rattle.session.specs.Decisions.{
+  subscription-of as subscription-at,
+  with-subscription as with-subscription-at,
+  is-subscribed as is-subscribed-so,
+  is-started as is-started-so,
+  standing,
+  no-error,
+  refused as refused-with,
+  accepted as accepted-as,
+  decided-started,
+  decided-opened,
+  decision,
+  heard as heard-so,
+  begun as begun-so,
+  after as after-so,
+};
+use frame::Header;
+use message::Effect;
+use message::IDENTIFIERS;
+use message::Standing;
+use message::TIGHTENINGS;
+use message::Verdict;
 
 // ---- a session
 
@@ -362,5 +386,278 @@ pub fn idled(x: Session) -> Idling
         Phase::Closed => Idling::Stays(x),
         Phase::Opened => idled_open(x),
         Phase::Started => idled_open(x),
+    }
+}
+
+// ---- the subscriptions of a session, by kind
+
+pub fn subscription_of(x: Session, kind: usize) -> Subscription
+    ensures { λ r. ⌜ r ≡ subscription-at x kind ⌝ }
+{
+    match kind {
+        IDENTIFIERS => x.identifiers,
+        TIGHTENINGS => x.tightenings,
+        _ => unsubscribed(),
+    }
+}
+
+// The same session, with that subscription of the kind.
+pub fn with_subscription(x: Session, kind: usize, s: Subscription) -> Session
+    ensures { λ r. ⌜ r ≡ with-subscription-at x kind s ⌝ }
+{
+    let phase = x.phase;
+    match kind {
+        IDENTIFIERS => {
+            let tightenings = x.tightenings;
+            Session {
+                phase,
+                idle: x.idle,
+                identifiers: s,
+                tightenings,
+            }
+        }
+        TIGHTENINGS => {
+            let identifiers = x.identifiers;
+            Session {
+                phase,
+                idle: x.idle,
+                identifiers,
+                tightenings: s,
+            }
+        }
+        _ => x,
+    }
+}
+
+// ---- a message, to a session
+
+// What a run does. Nothing: it is no message, or none that counts before the start. Heard: the message has no other effect than
+// that a message came. The MID is the one that the reply names, the code that of the error.
+pub enum Decision {
+    Nothing,
+    Heard,
+    Error {
+        mid: u64,
+        code: u64,
+    },
+    Start,
+    Stop {
+        mid: u64,
+    },
+    Identify {
+        mid: u64,
+    },
+    Subscribe {
+        kind: usize,
+        mid: u64,
+        revision: u64,
+        no_acknowledge: bool,
+    },
+    Unsubscribe {
+        kind: usize,
+        mid: u64,
+    },
+    Acknowledge {
+        kind: usize,
+    },
+    Mirror,
+}
+
+fn is_subscribed(x: Subscription) -> bool
+    ensures { λ r. ⌜ r ≡ is-subscribed-so (x .form) ⌝ }
+{
+    let form = x.form;
+    match form {
+        Form::Not => false,
+        Form::Plain => true,
+        Form::Acknowledged => true,
+    }
+}
+
+// Whether the tests found no error.
+fn is_fine(v: Verdict) -> bool
+    ensures { λ r. ⌜ r ≡ no-error (error-in v) ⌝ }
+{
+    match v {
+        Verdict::Fine => true,
+        Verdict::Unknown => false,
+        Verdict::AlreadyStarted => false,
+        Verdict::Length => false,
+        Verdict::Revision => false,
+        Verdict::Data => false,
+        Verdict::Own(_) => false,
+    }
+}
+
+// A message with an error, to a session that is started.
+fn refused(mid: u64, e: Effect, v: Verdict) -> Decision
+    ensures { λ r. ⌜ r ≡ refused-with mid (effect-in e) (error-in v) ⌝ }
+{
+    if message::gets_reply(e) {
+        return Decision::Error {
+            mid,
+            code: message::error_code(v),
+        };
+    }
+    Decision::Heard
+}
+
+// A message with no error, to a session that is started.
+fn accepted(mid: u64, revision: u64, no_acknowledge: bool, e: Effect) -> Decision
+    ensures { λ r. ⌜ r ≡ accepted-as mid revision «no_acknowledge» (effect-in e) ⌝ }
+{
+    match e {
+        Effect::Unknown => Decision::Heard,
+        Effect::Starts => Decision::Heard,
+        Effect::Stops => Decision::Stop { mid },
+        Effect::Identifies { error: _ } => Decision::Identify { mid },
+        Effect::Subscribes { kind, error: _ } => Decision::Subscribe {
+            kind,
+            mid,
+            revision,
+            no_acknowledge,
+        },
+        Effect::Unsubscribes { kind, error: _ } => Decision::Unsubscribe { kind, mid },
+        Effect::Acknowledges { kind } => Decision::Acknowledge { kind },
+        Effect::Mirrors => Decision::Mirror,
+    }
+}
+
+fn decide_started(mid: u64, revision: u64, no_acknowledge: bool, v: Verdict) -> Decision
+    ensures { λ r. ⌜ r ≡ decided-started mid revision «no_acknowledge» (effect-listed (entry-of mid)) (error-in v) ⌝ }
+{
+    let e = message::effect_of(mid);
+    if is_fine(v) {
+        return accepted(mid, revision, no_acknowledge, e);
+    }
+    refused(mid, e, v)
+}
+
+// 0001 alone counts.
+fn decide_opened(mid: u64, v: Verdict) -> Decision
+    ensures { λ r. ⌜ r ≡ decided-opened mid (error-in v) ⌝ }
+{
+    match mid {
+        1 => {
+            if is_fine(v) {
+                return Decision::Start;
+            }
+            Decision::Error {
+                mid,
+                code: message::error_code(v),
+            }
+        }
+        _ => Decision::Nothing,
+    }
+}
+
+// What the tests look at, of a session that is started and of one that is not.
+fn standing_of(x: Session, granted: bool) -> Standing
+    ensures { λ r. ⌜ r ≡ standing x granted ⌝ }
+{
+    let phase = x.phase;
+    let identifiers = is_subscribed(x.identifiers);
+    let tightenings = is_subscribed(x.tightenings);
+    Standing {
+        started: is_started(phase),
+        granted,
+        identifiers,
+        tightenings,
+    }
+}
+
+fn is_started(phase: Phase) -> bool
+    ensures { λ r. ⌜ r ≡ is-started-so phase ⌝ }
+{
+    match phase {
+        Phase::Closed => false,
+        Phase::Opened => false,
+        Phase::Started => true,
+    }
+}
+
+// What a run does whose header is h.
+pub fn decide(x: Session, granted: bool, h: Header, data_field: &[u8]) -> Decision
+    ensures { λ r. ⌜ r ≡ decision x granted h (now (data_field .entry)) ⌝ }
+{
+    let Header::Message {
+        size,
+        mid,
+        revision,
+        no_acknowledge,
+    } = h
+    else {
+        return Decision::Nothing;
+    };
+    let v = message::judge(standing_of(x, granted), mid, size, revision, data_field);
+    let phase = x.phase;
+    match phase {
+        Phase::Closed => Decision::Nothing,
+        Phase::Opened => decide_opened(mid, v),
+        Phase::Started => decide_started(mid, revision, no_acknowledge, v),
+    }
+}
+
+// ---- the session after a decision
+
+// A message came: one that is started is not idle.
+fn heard(x: Session) -> Session
+    ensures { λ r. ⌜ r ≡ heard-so x ⌝ }
+{
+    let phase = x.phase;
+    match phase {
+        Phase::Closed => x,
+        Phase::Opened => x,
+        Phase::Started => with_idle(x, 0),
+    }
+}
+
+// It is started, and holds nothing.
+fn begun() -> Session
+    ensures { λ r. ⌜ r ≡ begun-so ⌝ }
+{
+    Session {
+        phase: Phase::Started,
+        idle: 0,
+        identifiers: unsubscribed(),
+        tightenings: unsubscribed(),
+    }
+}
+
+fn after_subscribe(x: Session, kind: usize, revision: u64, no_acknowledge: bool) -> Session
+    ensures { λ r. ⌜ r ≡ with-subscription-at (heard-so x) kind (subscribed-to (subscription-at x kind) revision «no_acknowledge») ⌝ }
+{
+    let s = subscribed(subscription_of(x, kind), revision, no_acknowledge);
+    with_subscription(heard(x), kind, s)
+}
+
+fn after_acknowledge(x: Session, kind: usize) -> Session
+    ensures { λ r. ⌜ r ≡ with-subscription-at (heard-so x) kind ((acknowledged-to (subscription-at x kind)) .next) ⌝ }
+{
+    let s = acknowledged(subscription_of(x, kind));
+    let next = s.next;
+    with_subscription(heard(x), kind, next)
+}
+
+// Of an acknowledge `acknowledged` says besides what becomes of the notices.
+pub fn after(x: Session, d: Decision) -> Session
+    ensures { λ r. ⌜ r ≡ after-so x d ⌝ }
+{
+    match d {
+        Decision::Nothing => x,
+        Decision::Heard => heard(x),
+        Decision::Error { mid: _, code: _ } => heard(x),
+        Decision::Start => begun(),
+        Decision::Stop { mid: _ } => Session::fresh(),
+        Decision::Identify { mid: _ } => heard(x),
+        Decision::Subscribe {
+            kind,
+            mid: _,
+            revision,
+            no_acknowledge,
+        } => after_subscribe(x, kind, revision, no_acknowledge),
+        Decision::Unsubscribe { kind, mid: _ } => with_subscription(heard(x), kind, unsubscribed()),
+        Decision::Acknowledge { kind } => after_acknowledge(x, kind),
+        Decision::Mirror => heard(x),
     }
 }

@@ -1,6 +1,5 @@
 -- `session::take_or` meets its contract. Assumes nothing.
 use borrow.Author.Needs.{needs}
-use mathlib.Core.Path.{_∙_}
 use borrow.Author.Tests.{eq-eqb, ne-eqb}
 use Rattle.session.proofs.take_or.Statement.{statement}
 use Rattle.session.proofs.take_or.Tie as tie
