@@ -1,11 +1,12 @@
 -- A tick to a session in its region is the model's. Assumes nothing.
 use mathlib.Core.Path.{_≡_, refl, sym, ap, ap₂, subst, _∙_}
-use Prim.Native.Nat.{ℕ, _+_, _≤_, _<_}
+use Prim.Native.Nat.{ℕ, suc, _+_, _≤_, _<_}
+use native.Mathlib.Numerals.{add-one}
 use native.Mathlib.Omega.{arith}
 use mathlib.Core.Bool.{Bool, true, false, cond}
 use mathlib.Core.List.{List, [], _∷_, _++_, append-nil}
 use lib.Dec.{leb}
-use borrow.Author.Tests.{leb-false}
+use borrow.Author.Tests.{leb-true, leb-false, eq-eqb, ne-eqb}
 use Rattle.model.specs.Limits.{idle-limit}
 use Rattle.model.specs.Records.{Settings}
 use Rattle.model.specs.Runs.{Run, empty-run}
@@ -14,12 +15,11 @@ use Rattle.model.specs.Frames.{close-record}
 use Rattle.model.specs.Session.{closed, opened, started, is-closed, Emission, close}
 use Rattle.model.specs.Session as model
 use Rattle.model.specs.Notices as notice
-use Rattle.model.specs.Steps.{step, tick}
+use Rattle.model.specs.Steps.{tick-at, step, tick}
 use Rattle.text.specs.Put.{Put}
 use Rattle.text.proofs.Puts.{put-nothing, put-as}
-use Rattle.session.specs.Meaning.{session-as, session-in, tick-goes-on, ticked-so}
+use Rattle.session.specs.Meaning.{session-as, session-in}
 use Rattle.session.specs.Control.{session, with-idle, idled, idled-from, idled-open, fresh, cleared}
-use Rattle.session.proofs.Sessions.{idle-right}
 use Rattle.session.specs.declared.Phase.{Phase}
 use Rattle.session.specs.declared.Phase.the-variants.{Closed, Opened, Started}
 use Rattle.session.specs.declared.Session.{Session}
@@ -29,9 +29,34 @@ use Rattle.session.specs.declared.Idling.the-variants.{Stays, TimesOut}
 use Rattle.run.specs.Area.{run-of}
 use Rattle.head.specs.Head.{head-of, Storable}
 use Rattle.notices.specs.Places.{notices-in}
-use Rattle.region.specs.Region.{head-area, run-area, identifiers-area, tightenings-area, meaning, session-of, Good, Stands, out-bytes, Steps}
+use Rattle.region.specs.Region.{head-area, run-area, identifiers-area, tightenings-area, meaning, session-of, Good, Stands, out-bytes, Steps, tick-goes-on, by-idling}
 
--- what stands in a region is what it means
+-- ==== the idle count
+
+module _ (st : Settings) (run : Run) (is ts : List Notice) (idle : ℕ) (h : idle < idle-limit) where
+  -- it comes to idle + 1, and `otherwise` is what the tick does where that is no time-out
+  comes-to : (otherwise : model.Session × List Emission) (y : Session) (over : Bool) → leb idle-limit (idle + 1) ≡ over
+      → otherwise ≡ by-idling st run is ts (Stays y) → tick-at (suc idle) otherwise ≡ by-idling st run is ts (cond over TimesOut (Stays y))
+  comes-to otherwise y true p e =
+      let l = leb-true idle-limit (idle + 1) p in
+      rw (eq-eqb (suc idle) idle-limit (omega arith))
+  comes-to otherwise y false p e =
+      let l = leb-false idle-limit (idle + 1) p in
+      rw (ne-eqb (suc idle) idle-limit (λ q. omega arith)) e
+
+  idles : (i t : Subscription) (p : Phase)
+      → let x = session p idle i t in step st tick (session-in x run is ts) ≡ by-idling st run is ts (idled x)
+  unfolding idled
+  idles i t Closed = refl
+  idles i t Opened = comes-to _ (session Opened (idle + 1) i t) (leb idle-limit (idle + 1)) refl (rw (add-one idle))
+  idles i t Started = comes-to _ (session Started (idle + 1) i t) (leb idle-limit (idle + 1)) refl (rw (add-one idle))
+
+-- `session::idled` is what the model's tick does to the idle count
+pub idle-right : (st : Settings) (x : Session) (run : Run) (is ts : List Notice) → x .idle < idle-limit
+    → step st tick (session-in x run is ts) ≡ by-idling st run is ts (idled x)
+idle-right st x run is ts h = idles st run is ts (x .idle) h (x .identifiers) (x .tightenings) (x .phase)
+
+-- ==== what stands in a region is what it means
 pub means : (r : List ℕ) (x : Session) (run : Run) (is ts : List ℕ) → Stands r x run is ts → session-of r ≡ meaning x run is ts
 unfolding session-of
 means r x run is ts s = rw (s .head, s .run, s .identifiers, s .tightenings)
@@ -121,7 +146,7 @@ module _ (s : ℕ) (st : Settings) (r : List ℕ) (x : Session) (ex : x ≡ head
   run-here = run-of (run-area r)
 
   -- the model's tick to what the region means
-  right : step st tick (session-of r) ≡ ticked-so st run-here (notices-i (x .identifiers)) (notices-t (x .tightenings)) (idled x)
+  right : step st tick (session-of r) ≡ by-idling st run-here (notices-i (x .identifiers)) (notices-t (x .tightenings)) (idled x)
   unfolding session-of
   right =
       ap (λ (z : Session). step st tick (meaning z run-here (identifiers-area r) (tightenings-area r))) (sym ex)
@@ -133,7 +158,7 @@ module _ (s : ℕ) (st : Settings) (r : List ℕ) (x : Session) (ex : x ≡ head
   tick-stays-so {r′} {o} {o′} {at} {next} y e w =
       let same = stays-storable x y e k .0 in
       let q : step st tick (session-of r) ≡ goes-on s st y run-here (identifiers-area r) (tightenings-area r) (y .phase) =
-      right ∙ ap (ticked-so st run-here (notices-i (x .identifiers)) (notices-t (x .tightenings))) e
+      right ∙ ap (by-idling st run-here (notices-i (x .identifiers)) (notices-t (x .tightenings))) e
       ∙ ap₂ (λ (i t : Subscription). tick-goes-on st run-here (notices-i i) (notices-t t) (y .phase) y) (sym (same .0)) (sym (same .1)) in
       subst (λ (z : model.Session × List Emission). Steps s z r′ o at next o′) (sym q) w
 
@@ -141,7 +166,7 @@ module _ (s : ℕ) (st : Settings) (r : List ℕ) (x : Session) (ex : x ≡ head
       → Put o at (close-record s) next o′ → Steps s (step st tick (session-of r)) r′ o at next o′
   times-out {r′} {o} {o′} {at} {next} run is ts e w p =
       let q : step st tick (session-of r) ≡ (closed, close ∷ []) =
-      right ∙ ap (ticked-so st run-here (notices-i (x .identifiers)) (notices-t (x .tightenings))) e in
+      right ∙ ap (by-idling st run-here (notices-i (x .identifiers)) (notices-t (x .tightenings))) e in
       record {
         good = w .good;
         session = means r′ cleared run is ts w ∙ sym (ap (λ (z : model.Session × List Emission). z .0) q);

@@ -8,16 +8,20 @@ use lib.Dec.{eqb}
 use lib.ListN.{length, take, drop}
 use Rattle.model.specs.Records.{Settings}
 use Rattle.model.specs.Runs.{Run}
-use Rattle.model.specs.Events.{identifiers, tightenings}
-use Rattle.model.specs.Session.{Emission}
+use Rattle.model.specs.Events.{identifiers, tightenings, Notice}
+use Rattle.model.specs.Session.{closed, opened, dealt, Emission, close}
 use Rattle.model.specs.Session as model
 use Rattle.model.specs.Row.{tag}
 use Rattle.model.specs.Calls.{output}
-use Rattle.session.specs.Meaning.{session-in}
+use Rattle.session.specs.Meaning.{subscriptions-in, session-in}
 use Rattle.session.specs.declared.Session.{Session}
+use Rattle.session.specs.declared.Phase.{Phase}
+use Rattle.session.specs.declared.Phase.the-variants.{Closed, Opened, Started}
+use Rattle.session.specs.declared.Idling.{Idling}
+use Rattle.session.specs.declared.Idling.the-variants.{Stays, TimesOut}
 use Rattle.run.specs.Area.{run-of, run-formed}
 use Rattle.head.specs.Head.{head-of, head-formed}
-use Rattle.model.specs.Notices.{Subscription}
+use Rattle.model.specs.Notices.{Subscription, beats}
 use Rattle.text.specs.Put.{Put}
 use Rattle.notices.specs.Places.{notices-in, subscription-of}
 
@@ -93,3 +97,14 @@ pub record Steps (s : ℕ) (step : model.Session × List Emission) (r o : List �
   pub good : Good r
   pub session : session-of r ≡ step .0
   pub bytes : Put o at (out-bytes s (step .1)) next o′
+
+-- ==== 01, "Notices and the clock": a tick to one that stays, by its phase, and by what the idle count says
+
+abbrev pub tick-goes-on : Settings → Run → List Notice → List Notice → Phase → Session → model.Session × List Emission
+tick-goes-on st run is ts Closed x = (closed, [])
+tick-goes-on st run is ts Opened x = (opened (x .idle) run, [])
+tick-goes-on st run is ts Started x = dealt st (x .idle) run (λ kind. beats) (subscriptions-in x is ts)
+
+abbrev pub by-idling : Settings → Run → List Notice → List Notice → Idling → model.Session × List Emission
+by-idling st run is ts (Stays x) = tick-goes-on st run is ts (x .phase) x
+by-idling st run is ts TimesOut = (closed, close ∷ [])
