@@ -2,11 +2,12 @@
 SHELL := /bin/bash
 .SHELLFLAGS := -euo pipefail -c
 .DEFAULT_GOAL := help
-.PHONY: help run test format tools clean
+.PHONY: help run test wrong format tools clean
 
 help:
 	@echo "make run    proves the library and shows what is proved"
 	@echo "make test   everything that the gate runs: layout, proofs, must-fail edits, programs"
+	@echo "make wrong  the wrong programs that the gate leaves out for its time: the prover must refuse each"
 	@echo "make format lays the sources out"
 	@echo "make clean  removes what was built"
 
@@ -26,6 +27,20 @@ run: tools
 test: tools
 	@rt fmt --check
 	@rt ci
+
+# The further must-fail edits of tests/wrong, each in its crate, in a copy of the tree.
+wrong: tools
+	@rm -rf target/wrong && mkdir -p target/wrong
+	@cp -r crates crates.txt target/wrong/
+	@for crate in tests/wrong/*/; do \
+	  name=$$(basename $$crate); \
+	  rm -rf target/wrong/crates/$$name/must-fail; \
+	  cp -r $$crate target/wrong/crates/$$name/must-fail; \
+	done
+	@for crate in target/wrong/crates/*/; do \
+	  test -d tests/wrong/$$(basename $$crate) || rm -rf $$crate/must-fail; \
+	done
+	@cd target/wrong && rt must-fail
 
 format: tools
 	@rt fmt
