@@ -6,26 +6,28 @@ SHELL := /bin/bash
 
 help:
 	@echo "make run    proves the library and shows what is proved"
-	@echo "make test   everything that the gate runs: layout, proofs, must-fail edits, programs"
+	@echo "make test   everything that the gate runs: layout, the guide's frames, proofs, must-fail edits"
 	@echo "make wrong  the wrong programs that the gate leaves out for its time: the prover must refuse each"
 	@echo "make format lays the sources out"
 	@echo "make clean  removes what was built"
 
 # What the commands need besides the toolchain, from Debian's packages.
 tools:
-	@for tool in git; do \
-	  command -v $$tool > /dev/null || { apt-get update -qq && apt-get install -y -qq $$tool; }; \
+	@for tool in git gcc python3; do \
+	  command -v $$tool > /dev/null || { apt-get update -qq && apt-get install -y -qq git gcc libc6-dev python3; }; \
 	done
 	@command -v rt > /dev/null || { echo "the Rattle toolchain's command rt is not on the PATH" >&2; exit 1; }
 
 run: tools
 	@rt check | grep '^rt:'
 	@echo "each of these public functions is proved to answer what its ensures says:"
-	@grep -oE '^pub fn [a-z0-9_]+' crates/*/src/*.rt | sed -E 's#crates/([a-z]+)/.*:pub fn (.*)#  \1::\2#'
+	@grep -oE '^ *pub fn [a-z0-9_]+' crates/*/src/*.rt | sed -E 's#crates/([a-z]+)/.*: *pub fn (.*)#  \1::\2#'
 
+# The layout, then the guide's frames and the stories through the implementation in C, then every proof and the must-fail edits.
 # rt ci comes last: its own last line is the gate's.
 test: tools
 	@rt fmt --check
+	@$(MAKE) --silent --no-print-directory -C tests vectors
 	@rt ci
 
 # The further must-fail edits of tests/wrong, each in its crate, in a copy of the tree.
