@@ -1,22 +1,24 @@
 -- A session's control in its 32 bytes. Assumes nothing.
-use mathlib.Core.Path.{_≡_, refl, sym, ap, ap₂, _∙_}
+use mathlib.Core.Path.{_≡_, refl, sym, ap, ap₂, subst, _∙_}
 use Prim.Native.Nat.{ℕ, zero, suc, _+_, _≤_, _<_, _^_}
 use native.Mathlib.Omega.{arith}
 use mathlib.Core.Bool.{Bool, true, false, _&&_, and-eq-true-iff}
 use mathlib.Core.List.{List, [], _∷_}
-use lib.Dec.{leb, lit<, lit≤}
+use lib.Dec.{leb, eqb, lit<, lit≤}
 use lib.ListN.{length, getD, take, drop}
 use lib.Seq.{sets, length-sets, getD-take}
-use borrow.Author.Tests.{le-leb, leb-true}
+use borrow.Author.Tests.{le-leb, lt-leb, leb-true, eqb-true}
 use Rattle.model.specs.Bytes.{little, in-bytes}
 use Rattle.text.proofs.Numbers.{in-bytes-length}
 use Rattle.text.proofs.Cells.{stored-same, stored-before}
+use Rattle.session.specs.Meaning.{SubscribedIn}
 use Rattle.session.specs.declared.Form.{Form}
-use Rattle.session.specs.declared.Form.the-variants.{Acknowledged}
+use Rattle.session.specs.declared.Form.the-variants.{Not, Acknowledged}
 use Rattle.session.specs.declared.Phase.{Phase}
 use Rattle.session.specs.declared.Phase.the-variants.{Started}
+use Rattle.session.specs.declared.Subscription.{Subscription}
 use Rattle.session.specs.declared.Session.{Session}
-use Rattle.head.specs.Head.{phase-of, form-of, control, head-of, control-formed, head-formed, Storable, Area}
+use Rattle.head.specs.Head.{phase-of, form-of, control, head-of, forms-fit, control-formed, head-formed, Storable, Area}
 
 -- ==== the closing arms
 
@@ -29,6 +31,32 @@ pub form-else : (b : ℕ) → (b ≡ 0 → ⊥) → (b ≡ 1 → ⊥) → Acknow
 form-else zero h g = absurd (h refl)
 form-else (suc zero) h g = absurd (g refl)
 form-else (suc (suc b)) h g = refl
+
+-- ==== the forms fit the phase where one that is not started is subscribed to nothing
+
+not-byte : (f : ℕ) → form-of f ≡ Not → f ≡ 0
+not-byte zero e = refl
+not-byte (suc zero) e = absurd (let w : _≡_ {A = ℕ} 0 1 = cc in omega arith)
+not-byte (suc (suc f)) e = absurd (let w : _≡_ {A = ℕ} 0 1 = cc in omega arith)
+
+module _ (f g : ℕ) (i t : Subscription) (ef : form-of f ≡ i .form) (eg : form-of g ≡ t .form) where
+  none : (i .form ≡ Not) × (t .form ≡ Not) → eqb f 0 && eqb g 0 ≡ true
+  none n = rw (not-byte f (ef ∙ n .0), not-byte g (eg ∙ n .1))
+
+  pub fits : (p : ℕ) → SubscribedIn (phase-of p) i t → forms-fit p f g ≡ true
+  fits zero n = none n
+  fits (suc zero) n = none n
+  fits (suc (suc p)) n = rw (lt-leb (suc (suc p)) 1 (omega arith))
+
+  only-none : eqb f 0 && eqb g 0 ≡ true → (i .form ≡ Not) × (t .form ≡ Not)
+  only-none e =
+      let b = and-eq-true-iff (eqb f 0) (eqb g 0) .0 e in
+      (sym ef ∙ ap form-of (eqb-true f 0 (b .0)), sym eg ∙ ap form-of (eqb-true g 0 (b .1)))
+
+  pub fitting : (p : ℕ) → forms-fit p f g ≡ true → SubscribedIn (phase-of p) i t
+  fitting zero e = only-none e
+  fitting (suc zero) e = only-none e
+  fitting (suc (suc p)) e = tt
 
 -- ==== a number of eight bytes, written and read
 
@@ -131,6 +159,8 @@ module _ (h : List ℕ) (x : Session) (p f g : ℕ) (size : length h ≡ 32) (k 
         le-leb g 2 lg,
         le-leb (x .tightenings .clock) 119 (k .t-clock),
         le-leb (x .tightenings .held) 8 (k .t-held),
+        fits f g (x .identifiers) (x .tightenings) ef eg p
+            (subst (λ (q : Phase). SubscribedIn q (x .identifiers) (x .tightenings)) (sym ep) (k .subscribed)),
       )
 
   pub stores : (head-of (stored h bytes (x .identifiers .revision) (x .tightenings .revision) size refl fr fq) ≡ x)

@@ -1,11 +1,12 @@
 -- A session's control as the table holds it, in 32 bytes. docs/TABLE.md has the map. Assumes nothing: these are definitions.
 use mathlib.Core.Path.{_≡_}
 use Prim.Native.Nat.{ℕ, zero, suc, _≤_, _<_}
-use mathlib.Core.Bool.{Bool, true, _&&_}
+use mathlib.Core.Bool.{Bool, true, cond, _&&_}
 use mathlib.Core.List.{List}
-use lib.Dec.{leb}
+use lib.Dec.{leb, eqb}
 use lib.ListN.{length, getD, take, drop}
 use Rattle.model.specs.Bytes.{little}
+use Rattle.session.specs.Meaning.{SubscribedIn}
 use Rattle.session.specs.declared.Form.{Form}
 use Rattle.session.specs.declared.Form.the-variants.{Not, Plain, Acknowledged}
 use Rattle.session.specs.declared.Phase.{Phase}
@@ -36,7 +37,11 @@ control bs i-revision t-revision = record {
 unfoldable pub head-of : List ℕ → Session
 head-of h = control h (little (take 8 (drop 8 h))) (little (take 8 (drop 16 h)))
 
--- well formed: every number is one that a session can have
+-- 01, "What the product holds": one that is not started is subscribed to nothing
+abbrev pub forms-fit : ℕ → ℕ → ℕ → Bool
+forms-fit phase i-form t-form = cond (leb phase 1) (eqb i-form 0 && eqb t-form 0) true
+
+-- well formed: every number is one that a session can have, and the forms fit the phase
 abbrev pub control-formed : List ℕ → Bool
 control-formed bs =
     leb (getD bs 0 0) 2
@@ -47,13 +52,15 @@ control-formed bs =
     && leb (getD bs 5 0) 2
     && leb (getD bs 6 0) 119
     && leb (getD bs 7 0) 8
+    && forms-fit (getD bs 0 0) (getD bs 2 0) (getD bs 5 0)
 
 unfoldable pub head-formed : List ℕ → Bool
 head-formed h = control-formed h
 
--- the numbers of a session that can be stored
+-- a session that can be stored
 pub record Storable (x : Session) : Type 0 where
   pub idle : x .idle ≤ 14
+  pub subscribed : SubscribedIn (x .phase) (x .identifiers) (x .tightenings)
   pub i-clock : x .identifiers .clock ≤ 119
   pub i-held : x .identifiers .held ≤ 2
   pub t-clock : x .tightenings .clock ≤ 119

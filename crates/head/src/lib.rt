@@ -3,7 +3,7 @@ ghost use mathlib.Core.Path.{_≡_};
 ghost use mathlib.Core.Bool.{true};
 ghost use Prim.Native.Nat.{_≤_};
 ghost use lib.ListN.{length, take, getD};
-ghost use Rattle.head.specs.Head.{phase-of, form-of, head-of, head-formed, Storable, Area};
+ghost use Rattle.head.specs.Head.{phase-of, form-of, forms-fit, head-of, head-formed, Storable, Area};
 use session::Form;
 use session::Phase;
 use session::Session;
@@ -55,6 +55,19 @@ fn form_byte(f: Form) -> u8
     }
 }
 
+// One that is not started is subscribed to nothing.
+fn forms_fit(phase: u8, identifiers: u8, tightenings: u8) -> bool
+    ensures { λ r. ⌜ r ≡ forms-fit phase identifiers tightenings ⌝ }
+{
+    if phase > 1 {
+        return true;
+    }
+    if identifiers != 0 {
+        return false;
+    }
+    tightenings == 0
+}
+
 pub fn is_formed(head: &[u8]) -> bool
     requires { ⌜ length (now head) ≡ 32 ⌝ }
     ensures { λ r. ⌜ r ≡ head-formed (now (head .entry)) ⌝ }
@@ -80,7 +93,10 @@ pub fn is_formed(head: &[u8]) -> bool
     if head[6] > 119 {
         return false;
     }
-    head[7] <= 8
+    if head[7] > 8 {
+        return false;
+    }
+    forms_fit(head[0], head[2], head[5])
 }
 
 pub fn load(head: &[u8]) -> Session

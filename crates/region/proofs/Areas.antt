@@ -18,8 +18,9 @@ use Rattle.text.proofs.Cells.{area-same, area-before, area-after}
 use Rattle.session.specs.declared.Session.{Session}
 use Rattle.run.specs.Area.{run-of, run-formed}
 use Rattle.run.specs.Area as run
-use Rattle.head.specs.Head.{head-of, control-formed, head-formed, Storable}
+use Rattle.head.specs.Head.{head-of, forms-fit, control-formed, head-formed, Storable}
 use Rattle.head.specs.Head as head
+use Rattle.head.proofs.Areas.{fitting}
 use Rattle.region.specs.Region.{head-area, run-area, identifiers-area, tightenings-area, session-of, region-formed, Good, Stands, places-of, Moved}
 
 -- ==== what is known of each
@@ -38,11 +39,12 @@ parts r g =
       run = record { size = mid-len 32 80 r (omega arith); formed = e .1 };
     }
 
--- the numbers of a control that is well formed
+-- what is known of a control that is well formed
 pub storable : (h : List ℕ) → head-formed h ≡ true → Storable (head-of h)
 unfolding head-of head-formed
 storable h e =
-    let p7 = and-eq-true-iff _ (leb (getD h 7 0) 8) .0 e in
+    let p8 = and-eq-true-iff _ (forms-fit (getD h 0 0) (getD h 2 0) (getD h 5 0)) .0 e in
+    let p7 = and-eq-true-iff _ (leb (getD h 7 0) 8) .0 (p8 .0) in
     let p6 = and-eq-true-iff _ (leb (getD h 6 0) 119) .0 (p7 .0) in
     let p5 = and-eq-true-iff _ (leb (getD h 5 0) 2) .0 (p6 .0) in
     let p4 = and-eq-true-iff _ (leb (getD h 4 0) 2) .0 (p5 .0) in
@@ -51,6 +53,7 @@ storable h e =
     let p1 = and-eq-true-iff (leb (getD h 0 0) 2) (leb (getD h 1 0) 14) .0 (p2 .0) in
     record {
       idle = leb-true _ 14 (p1 .1);
+      subscribed = fitting (getD h 2 0) (getD h 5 0) _ _ refl refl (getD h 0 0) (p8 .1);
       i-clock = leb-true _ 119 (p3 .1);
       i-held = leb-true _ 2 (p4 .1);
       t-clock = leb-true _ 119 (p6 .1);

@@ -52,8 +52,9 @@ module _ (r : List ℕ) (x : Session) (g : Good r) (k : Storable x) where
         holds = record { held = sym n; clock = omega arith; fits = omega arith };
       }
 
-module _ (p : Phase) (idle : ℕ) (i t : Subscription) (is ts : List ℕ) where
-  pub storable-kept : idle ≤ 14 → Kept 0 i is → Kept 1 t ts → Storable (record { phase = p; idle = idle; identifiers = i; tightenings = t })
+-- one that is started may be subscribed to anything
+module _ (idle : ℕ) (i t : Subscription) (is ts : List ℕ) where
+  pub storable-kept : idle ≤ 14 → Kept 0 i is → Kept 1 t ts → Storable (record { phase = Started; idle = idle; identifiers = i; tightenings = t })
   storable-kept l ki kt =
       let hi = ki .holds in
       let ht = kt .holds in
@@ -63,13 +64,13 @@ module _ (p : Phase) (idle : ℕ) (i t : Subscription) (is ts : List ℕ) where
       let et = ht .held in
       let fi = hi .fits in
       let ft = ht .fits in
-      record { idle = l; i-clock = omega arith; i-held = omega arith; t-clock = omega arith; t-held = omega arith }
+      record { idle = l; subscribed = tt; i-clock = omega arith; i-held = omega arith; t-clock = omega arith; t-held = omega arith }
 
 pub cleared-storable : Storable cleared
-cleared-storable = record { idle = omega arith; i-clock = omega arith; i-held = omega arith; t-clock = omega arith; t-held = omega arith }
+cleared-storable = record { idle = omega arith; subscribed = (refl, refl); i-clock = omega arith; i-held = omega arith; t-clock = omega arith; t-held = omega arith }
 
 pub fresh-storable : Storable fresh
-fresh-storable = record { idle = omega arith; i-clock = omega arith; i-held = omega arith; t-clock = omega arith; t-held = omega arith }
+fresh-storable = record { idle = omega arith; subscribed = (refl, refl); i-clock = omega arith; i-held = omega arith; t-clock = omega arith; t-held = omega arith }
 
 -- ==== both kinds
 

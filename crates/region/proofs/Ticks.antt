@@ -79,7 +79,7 @@ module _ (x : Session) where
   never y e = let w : _≡_ {A = ℕ} 0 1 = cc in omega arith
 
   abbrev Same : Session → Type 0
-  Same y = (y .identifiers ≡ x .identifiers) × (y .tightenings ≡ x .tightenings)
+  Same y = (y .identifiers ≡ x .identifiers) × (y .tightenings ≡ x .tightenings) × (y .phase ≡ x .phase)
 
   from-path : (y z : Session) → z ≡ y → Same z → Same y
   from-path y z e s = subst Same e s
@@ -98,6 +98,7 @@ module _ (x : Session) where
       few s l =
           record {
             idle = l;
+            subscribed = rw (s .0, s .1, s .2) (k .subscribed);
             i-clock = rw (s .0) (k .i-clock);
             i-held = rw (s .0) (k .i-held);
             t-clock = rw (s .1) (k .t-clock);
@@ -106,7 +107,7 @@ module _ (x : Session) where
 
       kept : (over : Bool) → cond over TimesOut (Stays (with-idle x (x .idle + 1))) ≡ Stays y → Same y
       kept true e = absurd (never y e)
-      kept false e = from-path y (with-idle x (x .idle + 1)) (injected (with-idle x (x .idle + 1)) y e) (refl, refl)
+      kept false e = from-path y (with-idle x (x .idle + 1)) (injected (with-idle x (x .idle + 1)) y e) (refl, refl, refl)
 
       open-so : idled-open x ≡ Stays y → Same y × Storable y
       open-so e =
@@ -114,7 +115,7 @@ module _ (x : Session) where
           (s, few s (idle-few y (leb idle-limit (x .idle + 1)) refl e))
 
       by-phase : (p : Phase) → idled-from p x ≡ Stays y → Same y × Storable y
-      by-phase Closed e = subst (λ (z : Session). Same z × Storable z) (injected x y e) ((refl, refl), k)
+      by-phase Closed e = subst (λ (z : Session). Same z × Storable z) (injected x y e) ((refl, refl, refl), k)
       by-phase Opened e = open-so e
       by-phase Started e = open-so e
 

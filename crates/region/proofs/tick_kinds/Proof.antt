@@ -42,7 +42,7 @@ store-requires c κs =
     let t = c .before .before .before .before .before .before .before in
     let i = t .before .before .before .before .before .before .before .before in
     let s = i .before .before .before .before .before .before .before in
-    (t .tick-kind2 .ensures .1 .good, storable-kept _ (s .args .x .idle) _ _ _ _ (s .pre .4 .idle) (i .tick-kind .ensures .2 .kept) (t .tick-kind2 .ensures .2 .kept))
+    (t .tick-kind2 .ensures .1 .good, storable-kept (s .args .x .idle) _ _ _ _ (s .pre .4 .idle) (i .tick-kind .ensures .2 .kept) (t .tick-kind2 .ensures .2 .kept))
 
 returns : tie.Need-returns
 returns c =

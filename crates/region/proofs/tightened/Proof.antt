@@ -27,7 +27,7 @@ store-requires c κs =
     let y = c .before .before .before .before .before .before .before in
     let s = y .before .before .before .before .before .before .before .before in
     let g = y .take-kind .ensures .1 .good in
-    (g, storable-kept _ (s .args .x .idle) _ _ _ _ (s .pre .4 .idle) (kept-identifiers (y .take-kind .last .0) (s .args .x) g (s .pre .4)) (y .take-kind .ensures .2 .kept))
+    (g, storable-kept (s .args .x .idle) _ _ _ _ (s .pre .4 .idle) (kept-identifiers (y .take-kind .last .0) (s .args .x) g (s .pre .4)) (y .take-kind .ensures .2 .kept))
 
 returns : tie.Need-returns
 returns c =
