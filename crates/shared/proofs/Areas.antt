@@ -13,31 +13,40 @@ use Rattle.text.proofs.Numbers.{in-bytes-length}
 use Rattle.text.proofs.Cells.{stored-same, stored-before, stored-after}
 use Rattle.shared.specs.Shared.{settings-part, in-force-of, last-of, mark, shared-formed, Area, Holds}
 
+-- ==== numbers, written and read
+
 four : (v : ℕ) → v < 4_294_967_296 → little (in-bytes 4 v) ≡ v
 unfolding in-bytes
 four v h = omega arith
 
-eight : little (in-bytes 8 0x44414C4649524553) ≡ little mark
+-- the mark as the code names it, and in its bytes
+abbrev mark-number : ℕ
+mark-number = 0x44414C4649524553
+
+abbrev marks : List ℕ
+marks = in-bytes 8 mark-number
+
+eight : little marks ≡ little mark
 unfolding in-bytes
 eight = refl
+
+-- ==== what is well formed, and stays so
 
 -- an area is well formed by its mark
 marked : (a : List ℕ) → little (take 8 a) ≡ little mark → shared-formed a ≡ true
 unfolding shared-formed
 marked a e = ap (λ (n : ℕ). eqb n (little mark)) e
 
-module _ (a : List ℕ) (size : length a ≡ 1_024) where
-  room : (at k : ℕ) → at + k ≤ 1_024 → at + k ≤ length a
-  room at k h = omega arith
-
-  -- the mark stands in front of all the rest
-  formed-still : (at k : ℕ) (ys : List ℕ) → length ys ≡ k → at + k ≤ 1_024 → 8 ≤ at → shared-formed (sets a at ys) ≡ shared-formed a
-  unfolding shared-formed
-  formed-still at k ys e h g =
-      ap (λ (l : List ℕ). eqb (little l) (little mark)) (stored-before at k a ys e (room at k h) 0 8 g)
-
-  still-long : (at : ℕ) (ys : List ℕ) → length (sets a at ys) ≡ 1_024
-  still-long at ys = length-sets a at ys ∙ size
+-- a write behind the mark
+area-still : (a : List ℕ) (at k : ℕ) (ys : List ℕ) → Area a → length ys ≡ k → at + k ≤ 1_024 → 8 ≤ at → Area (sets a at ys)
+unfolding shared-formed
+area-still a at k ys h e f g =
+    let s = h .size in
+    let room : at + k ≤ length a = omega arith in
+    record {
+      size = length-sets a at ys ∙ s;
+      formed = ap (λ (l : List ℕ). eqb (little l) (little mark)) (stored-before at k a ys e room 0 8 g) ∙ h .formed;
+    }
 
 -- ==== an identifier comes in force
 
@@ -47,7 +56,7 @@ force-put a x h e =
     let s = h .size in
     let r : 56 + 25 ≤ length a = omega arith in
     record {
-      area = record { size = still-long a s 56 x; formed = formed-still a s 56 25 x e (lit≤ tt) (lit≤ tt) ∙ h .formed };
+      area = area-still a 56 25 x h e (lit≤ tt) (lit≤ tt);
       settings = stored-before 56 25 a x e r 16 33 (lit≤ tt);
       in-force = stored-same 56 25 a x e r;
       last = ap little (stored-before 56 25 a x e r 8 4 (lit≤ tt));
@@ -62,7 +71,7 @@ last-put a n h f =
     let r : 8 + 4 ≤ length a = omega arith in
     let e = in-bytes-length 4 n in
     record {
-      area = record { size = still-long a s 8 (in-bytes 4 n); formed = formed-still a s 8 4 (in-bytes 4 n) e (lit≤ tt) (lit≤ tt) ∙ h .formed };
+      area = area-still a 8 4 (in-bytes 4 n) h e (lit≤ tt) (lit≤ tt);
       settings = stored-after 8 4 a (in-bytes 4 n) e r 16 33 (lit≤ tt);
       in-force = stored-after 8 4 a (in-bytes 4 n) e r 56 25 (lit≤ tt);
       last = ap little (stored-same 8 4 a (in-bytes 4 n) e r) ∙ four n f;
@@ -71,13 +80,11 @@ last-put a n h f =
 -- ==== a start
 
 -- the mark, written
-mark-put : (a : List ℕ) → length a ≡ 1_024 → Area (sets a 0 (in-bytes 8 0x44414C4649524553))
-mark-put a s =
-    let m = in-bytes 8 0x44414C4649524553 in
-    record {
-      size = length-sets a 0 m ∙ s;
-      formed = marked (sets a 0 m) (ap little (stored-same 0 8 a m (in-bytes-length 8 _) (omega arith)) ∙ eight);
-    }
+mark-put : (a : List ℕ) → length a ≡ 1_024 → Area (sets a 0 marks)
+mark-put a s = record {
+  size = length-sets a 0 marks ∙ s;
+  formed = marked (sets a 0 marks) (ap little (stored-same 0 8 a marks (in-bytes-length 8 mark-number) (omega arith)) ∙ eight);
+}
 
 -- the settings, written
 settings-put : (a p : List ℕ) → Area a → length p ≡ 33 → Holds p (in-force-of a) (last-of a) (sets a 16 p)
@@ -86,17 +93,17 @@ settings-put a p h e =
     let s = h .size in
     let r : 16 + 33 ≤ length a = omega arith in
     record {
-      area = record { size = still-long a s 16 p; formed = formed-still a s 16 33 p e (lit≤ tt) (lit≤ tt) ∙ h .formed };
+      area = area-still a 16 33 p h e (lit≤ tt) (lit≤ tt);
       settings = stored-same 16 33 a p e r;
       in-force = stored-after 16 33 a p e r 56 25 (lit≤ tt);
       last = ap little (stored-before 16 33 a p e r 8 4 (lit≤ tt));
     }
 
 pub started : (a p : List ℕ) (n : ℕ) → length a ≡ 1_024 → length p ≡ 33 → n ≡ little (take 4 (drop 29 p)) → n < 4_294_967_296
-    → Holds p (spaces 25) (settings-of p .last) (sets (sets (sets (sets a 0 (in-bytes 8 0x44414C4649524553)) 8 (in-bytes 4 n)) 16 p) 56 (replicate 25 0x20))
+    → Holds p (spaces 25) (settings-of p .last) (sets (sets (sets (sets a 0 marks) 8 (in-bytes 4 n)) 16 p) 56 (replicate 25 0x20))
 unfolding settings-of
 started a p n s e en f =
-    let a₁ = sets a 0 (in-bytes 8 0x44414C4649524553) in
+    let a₁ = sets a 0 marks in
     let a₂ = sets a₁ 8 (in-bytes 4 n) in
     let a₃ = sets a₂ 16 p in
     let h₂ = last-put a₁ n (mark-put a s) f in

@@ -18,11 +18,12 @@ settings-part a = take (payload-length settings-items) (drop 16 a)
 unfoldable pub in-force-of : List ℕ → List ℕ
 in-force-of a = take identifier-length (drop 56 a)
 
--- 01, "What the product holds": the last tightening number. The settings have the one at the start, this is the one now
+-- 01, "Frames we write": the last tightening number, after the tightenings since the start. The settings keep the one at the start
 unfoldable pub last-of : List ℕ → ℕ
 last-of a = little (take 4 (drop 8 a))
 
--- the mark at the front, by which a table that a start has made is told from zeros: SERIFLAD
+-- 01, "What the product holds": a rule of the team's for what is well formed. The mark at the front is the text SERIFLAD; by it
+-- a table that a start has made is told from zeros
 abbrev pub mark : List ℕ
 mark = 0x53 ∷ 0x45 ∷ 0x52 ∷ 0x49 ∷ 0x46 ∷ 0x4C ∷ 0x41 ∷ 0x44 ∷ []
 
@@ -31,11 +32,12 @@ mark = 0x53 ∷ 0x45 ∷ 0x52 ∷ 0x49 ∷ 0x46 ∷ 0x4C ∷ 0x41 ∷ 0x44 ∷ [
 unfoldable pub shared-formed : List ℕ → Bool
 shared-formed a = eqb (little (take 8 a)) (little mark)
 
+-- 01, "What the product holds": all of it, well formed
 pub record Area (a : List ℕ) : Type 0 where
   pub size : length a ≡ 1_024
   pub formed : shared-formed a ≡ true
 
--- a well formed area with these settings, this identifier in force and this last number
+-- 01, "What the product holds": well formed, with these settings, this identifier in force and this last number
 pub record Holds (payload x : List ℕ) (n : ℕ) (a : List ℕ) : Type 0 where
   pub area : Area a
   pub settings : settings-part a ≡ payload
