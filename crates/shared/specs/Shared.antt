@@ -22,7 +22,7 @@ in-force-of a = take identifier-length (drop 56 a)
 unfoldable pub last-of : List ℕ → ℕ
 last-of a = little (take 4 (drop 8 a))
 
--- 01, "What the product holds": a rule of the team's for what is well formed. The mark at the front is the text SERIFLAD; by it
+-- 01, "What the product holds": a rule of ours for what is well formed. The mark at the front is the text SERIFLAD; by it
 -- a table that a start has made is told from zeros
 abbrev pub mark : List ℕ
 mark = 0x53 ∷ 0x45 ∷ 0x52 ∷ 0x49 ∷ 0x46 ∷ 0x4C ∷ 0x41 ∷ 0x44 ∷ []
