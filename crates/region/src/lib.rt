@@ -353,7 +353,8 @@ pub fn event(
 
 // ---- a message
 
-// The reply to session s, if the decision has one. The run is the one that was decided on: 9999 goes back as it came.
+// 01, "What a message does": the reply to session s, if the decision has one. The run is the one that was decided on: the header of a
+// 9999 goes back as it came.
 fn reply(out: &mut [u8], at: usize, s: u64, settings: &[u8], run: &[u8], d: Decision) -> usize
     requires { ⌜ (at + 62 ≤ length (now out)) × (s < 256) × (length (now settings) ≡ 33) × (d ≡ Decision.Mirror → 20 ≤ length (now run)) ⌝ }
     ensures { λ r. ⌜ (r ≤ at + 62) × Put (now (out .entry)) at (out-bytes s (replies (settings-of (now (settings .entry))) (take 20 (now (run .entry))) d)) r (now (out .exit)) ⌝ }
