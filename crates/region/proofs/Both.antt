@@ -14,7 +14,7 @@ use Rattle.model.specs.Session.{started, dealt}
 use Rattle.model.specs.Session as model
 use Rattle.text.specs.Put.{Put}
 use Rattle.text.proofs.Puts.{put-as}
-use Rattle.session.specs.Meaning.{Holds, session-as}
+use Rattle.session.specs.Meaning.{Holds, Sound, session-as}
 use Rattle.session.specs.Control.{fresh, cleared}
 use Rattle.session.specs.declared.Phase.{Phase}
 use Rattle.session.specs.declared.Phase.the-variants.{Started}
@@ -51,6 +51,24 @@ module _ (r : List ℕ) (x : Session) (g : Good r) (k : Storable x) where
         size = mid-len 136 1016 r (omega arith);
         holds = record { held = sym n; clock = omega arith; fits = omega arith };
       }
+
+  -- so that what is said of a sound session is said of it
+  pub sound-control : Sound x (notices-in 0 (x .identifiers .held) (identifiers-area r)) (notices-in 1 (x .tightenings .held) (tightenings-area r))
+  sound-control =
+      let l = k .idle in
+      record { idle = omega arith; subscribed = k .subscribed; of-identifiers = kept-identifiers .holds; of-tightenings = kept-tightenings .holds }
+
+-- and a sound session can be stored, whatever it holds
+pub sound-storable : (x : Session) (is ts : List Notice) → Sound x is ts → Storable x
+sound-storable x is ts s =
+    let l = s .idle in
+    let ci = s .of-identifiers .clock in
+    let ct = s .of-tightenings .clock in
+    let ei = s .of-identifiers .held in
+    let et = s .of-tightenings .held in
+    let fi = s .of-identifiers .fits in
+    let ft = s .of-tightenings .fits in
+    record { idle = omega arith; subscribed = s .subscribed; i-clock = omega arith; i-held = omega arith; t-clock = omega arith; t-held = omega arith }
 
 -- one that is started may be subscribed to anything
 module _ (idle : ℕ) (i t : Subscription) (is ts : List ℕ) where

@@ -3,3 +3,4 @@ pub mod Outputs
 pub mod Both
 pub mod Ticks
 pub mod Events
+pub mod Replies

@@ -2,7 +2,7 @@
 ghost use mathlib.Core.Path.{_≡_};
 ghost use mathlib.Core.Bool.{true};
 ghost use Prim.Native.Nat.{_+_, _≤_, _<_};
-ghost use lib.ListN.{length};
+ghost use lib.ListN.{length, take};
 ghost use Rattle.model.specs.Records.{settings-of};
 ghost use Rattle.model.specs.Runs.{empty-run, longer};
 ghost use Rattle.model.specs.Notices.{room-of, beats, acks, news, takes};
@@ -10,12 +10,14 @@ ghost use Rattle.model.specs.Session.{dealt, closed, fresh, is-closed as is-clo
 ghost use Rattle.model.specs.Steps.{step, tick as one-tick, event as event-of, takes as takes-event};
 ghost use Rattle.model.specs.Events.{identifiers, tightenings};
 ghost use Rattle.text.specs.Put.{Put};
+ghost use Rattle.session.specs.Effects.{replies};
 ghost use Rattle.run.specs.Area.{run-of};
 ghost use Rattle.head.specs.Head.{head-of, Storable};
 ghost use Rattle.notices.specs.Places.{place-size, notice-in, notices-in, subscription-of, Kept, Deals, dealt-bytes};
-ghost use Rattle.region.specs.Region.{head-area, run-area, identifiers-area, tightenings-area, session-of, region-formed, Good, Stands, places-of, Moved, subscriptions-of, Steps, tick-goes-on};
+ghost use Rattle.region.specs.Region.{head-area, run-area, identifiers-area, tightenings-area, session-of, region-formed, Good, Stands, places-of, Moved, subscriptions-of, out-bytes, Steps, tick-goes-on};
 use notices::Dealt;
 use notices::Took;
+use session::Decision;
 use session::Idling;
 use session::Phase;
 use session::Session;
@@ -346,5 +348,32 @@ pub fn event(
             }
             tightened(region, out, at, s, settings, x, place)
         }
+    }
+}
+
+// ---- a message
+
+// 01, "What a message does": the reply to session s, if the decision has one. The run is the one that was decided on: the header of a
+// 9999 goes back as it came.
+fn reply(out: &mut [u8], at: usize, s: u64, settings: &[u8], run: &[u8], d: Decision) -> usize
+    requires { ⌜ (at + 62 ≤ length (now out)) × (s < 256) × (length (now settings) ≡ 33) × (d ≡ Decision.Mirror → 20 ≤ length (now run)) ⌝ }
+    ensures { λ r. ⌜ (r ≤ at + 62) × Put (now (out .entry)) at (out-bytes s (replies (settings-of (now (settings .entry))) (take 20 (now (run .entry))) d)) r (now (out .exit)) ⌝ }
+{
+    match d {
+        Decision::Nothing => at,
+        Decision::Heard => at,
+        Decision::Error { mid, code } => frame::put_0004(out, at, s, mid, code),
+        Decision::Start => frame::put_0002(out, at, s, settings),
+        Decision::Stop { mid } => frame::put_0005(out, at, s, mid),
+        Decision::Identify { mid } => frame::put_0005(out, at, s, mid),
+        Decision::Subscribe {
+            kind: _,
+            mid,
+            revision: _,
+            no_acknowledge: _,
+        } => frame::put_0005(out, at, s, mid),
+        Decision::Unsubscribe { kind: _, mid } => frame::put_0005(out, at, s, mid),
+        Decision::Acknowledge { kind: _ } => at,
+        Decision::Mirror => frame::put_9999(out, at, s, run),
     }
 }
