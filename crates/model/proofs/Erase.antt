@@ -19,7 +19,7 @@ use Rattle.model.specs.Row.{Tagged, said}
 use Rattle.model.specs.Session.{Session, closed, opened, started, is-closed, subscribed-to, Copy, Emission, reply, copy, close, frame-to, copies-to, deal, dealt, only}
 use Rattle.model.specs.Hearing.{message-error, started-standing, opened-standing, error-reply, accepted, carry-out, judged, hear, begin, hear-opened}
 use Rattle.model.specs.Steps.{end-run, end-run-opened, Local, opening, hang-up, receives, tick, event, elsewhere, tick-at, receive, receive-opened, step as session-step, takes, identifier-run, announces}
-use Rattle.model.specs.World.{World, session-at, Moment, begins, opens, hangs-up, hears, ticks, happens, local, each, sessions-after, next, emits, after, emitted}
+use Rattle.model.specs.World.{World, uncounted, session-at, Moment, begins, opens, hangs-up, hears, ticks, happens, local, each, sessions-after, next, emits, after, emitted}
 use Rattle.model.specs.Calls.{Call, start, open-session, hang-up-session, bytes, one-tick, tool, Lent, refusal, settled, told, reported, moments, output-record, output, takers, taken-by, taken-of, Answer, answered, step, run}
 use Rattle.model.proofs.RowLaws.{retag, row-map, said-map}
 
@@ -290,16 +290,6 @@ erase-world w = record {
   in-force = w .in-force;
   last = w .last;
   sessions = map erase-session (w .sessions);
-  events = 0;
-}
-
--- the count alone forgotten
-abbrev pub uncounted : World → World
-uncounted w = record {
-  settings = w .settings;
-  in-force = w .in-force;
-  last = w .last;
-  sessions = w .sessions;
   events = 0;
 }
 

@@ -26,6 +26,16 @@ pub record World : Type 0 where
   -- how many events there were: no answer and no byte shows it
   pub events : ℕ
 
+-- the count of events forgotten: the table keeps none
+abbrev pub uncounted : World → World
+uncounted w = record {
+  settings = w .settings;
+  in-force = w .in-force;
+  last = w .last;
+  sessions = w .sessions;
+  events = 0;
+}
+
 abbrev pub session-at : World → ℕ → Session
 session-at w s = getD (w .sessions) s closed
 
