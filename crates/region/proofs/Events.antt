@@ -1,6 +1,7 @@
 -- An event to a session in its region is the model's. Assumes nothing.
 use mathlib.Core.Path.{_≡_, refl, sym, ap, ap₂, subst, _∙_}
-use Prim.Native.Nat.{ℕ}
+use Prim.Native.Nat.{ℕ, zero, suc, _<_}
+use native.Mathlib.Omega.{arith}
 use mathlib.Core.Bool.{Bool, false}
 use mathlib.Core.List.{List, [], _∷_}
 use Rattle.model.specs.Records.{Settings}
@@ -13,13 +14,14 @@ use Rattle.model.specs.Session as model
 use Rattle.model.specs.Steps.{step, event, takes}
 use Rattle.text.proofs.Puts.{put-nothing, put-as}
 use Rattle.session.specs.Meaning.{session-as}
+use Rattle.session.specs.Decisions.{subscription-of as subscription-at}
 use Rattle.session.specs.declared.Phase.{Phase}
 use Rattle.session.specs.declared.Phase.the-variants.{Closed, Opened, Started}
 use Rattle.session.specs.declared.Session.{Session}
 use Rattle.run.specs.Area.{run-of}
 use Rattle.head.specs.Head.{head-of}
 use Rattle.notices.specs.Places.{notice-in, subscription-of}
-use Rattle.region.specs.Region.{head-area, run-area, identifiers-area, tightenings-area, session-of, Good, out-bytes, subscriptions-of, Steps}
+use Rattle.region.specs.Region.{head-area, run-area, identifiers-area, tightenings-area, places-of, session-of, Good, out-bytes, subscriptions-of, Steps}
 
 module _ (s kind : ℕ) (st : Settings) (r : List ℕ) (x : Session) (ex : x ≡ head-of (head-area r)) (n : Notice) where
   -- the region means a session of its control
@@ -48,23 +50,27 @@ module _ (s kind : ℕ) (st : Settings) (r : List ℕ) (x : Session) (ex : x ≡
   pub told-opened : {o : List ℕ} (at : ℕ) → Good r → x .phase ≡ Opened → Steps s (step st (event n) (session-of r)) r o at at o × (false ≡ takes kind (session-of r))
   told-opened at g e = not-told at _ g (as-phase Opened e) refl refl
 
-  -- one that is started: each kind by itself
-  pub told-started : {r′ o o′ : List ℕ} {at next : ℕ} → x .phase ≡ Started
-      → Steps s (dealt st (x .idle) (run-of (run-area r)) (only (kind-of (n .event)) (news n)) (subscriptions-of x r)) r′ o at next o′
+  -- one that is started: the event's kind takes it, or not
+  pub told-started : {r′ o o′ : List ℕ} {at next : ℕ} → x .phase ≡ Started → kind-of (n .event) ≡ kind
+      → Steps s (dealt st (x .idle) (run-of (run-area r)) (only kind (news n)) (subscriptions-of x r)) r′ o at next o′
       → Steps s (step st (event n) (session-of r)) r′ o at next o′
-  told-started {r′} {o} {o′} {at} {next} e w =
-      subst (λ (z : model.Session). Steps s (step st (event n) z) r′ o at next o′) (sym (as-phase Started e)) w
+  told-started {r′} {o} {o′} {at} {next} e ek w =
+      subst (λ (z : model.Session). Steps s (step st (event n) z) r′ o at next o′) (sym (as-phase Started e))
+      (subst (λ (k : ℕ). Steps s (dealt st (x .idle) (run-of (run-area r)) (only k (news n)) (subscriptions-of x r)) r′ o at next o′) (sym ek) w)
 
-  pub taken-identifier : {b : Bool} → x .phase ≡ Started → b ≡ notice.takes (room-of 0) (subscription-of 0 (x .identifiers) (identifiers-area r)) → b ≡ takes 0 (session-of r)
-  taken-identifier e t = t ∙ sym (ap (takes 0) (as-phase Started e))
+  -- and it takes the event as its subscription of the kind does
+  pub taken-started : {b : Bool} → kind < 2 → x .phase ≡ Started
+      → b ≡ notice.takes (room-of kind) (subscription-of kind (subscription-at x kind) (places-of kind r)) → b ≡ takes kind (session-of r)
+  taken-started {b} few e t = t ∙ by-kind kind few ∙ sym (ap (takes kind) (as-phase Started e))
+    where
+      by-kind : (kind : ℕ) → kind < 2
+          → notice.takes (room-of kind) (subscription-of kind (subscription-at x kind) (places-of kind r)) ≡ takes kind (started (x .idle) (run-of (run-area r)) (subscriptions-of x r))
+      by-kind zero few = refl
+      by-kind (suc zero) few = refl
+      by-kind (suc (suc kind)) few = absurd (omega arith)
 
-  pub taken-tightening : {b : Bool} → x .phase ≡ Started → b ≡ notice.takes (room-of 1) (subscription-of 1 (x .tightenings) (tightenings-area r)) → b ≡ takes 1 (session-of r)
-  taken-tightening e t = t ∙ sym (ap (takes 1) (as-phase Started e))
-
--- by the kind
-module _ (s : ℕ) (st : Settings) (r p : List ℕ) (r′ o o′ : List ℕ) (at next : ℕ) (b : Bool) where
-  abbrev Told : ℕ → Type 0
-  Told k = Steps s (step st (event (notice-in k p)) (session-of r)) r′ o at next o′ × (b ≡ takes k (session-of r))
-
-  pub at-kind : (kind k : ℕ) → kind ≡ k → Told k → Told kind
-  at-kind kind k e t = subst Told (sym e) t
+-- the notice in a place is of the place's kind
+pub kind-in : (kind : ℕ) → kind < 2 → (p : List ℕ) → kind-of ((notice-in kind p) .event) ≡ kind
+kind-in zero few p = refl
+kind-in (suc zero) few p = refl
+kind-in (suc (suc kind)) few p = absurd (omega arith)

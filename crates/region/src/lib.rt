@@ -10,6 +10,7 @@ ghost use Rattle.model.specs.Session.{dealt, closed, fresh, is-closed as is-clo
 ghost use Rattle.model.specs.Steps.{step, tick as one-tick, event as event-of, takes as takes-event};
 ghost use Rattle.model.specs.Events.{identifiers, tightenings};
 ghost use Rattle.text.specs.Put.{Put};
+ghost use Rattle.session.specs.Decisions.{subscription-of as subscription-at};
 ghost use Rattle.session.specs.Effects.{replies};
 ghost use Rattle.run.specs.Area.{run-of};
 ghost use Rattle.head.specs.Head.{head-of, Storable};
@@ -242,82 +243,24 @@ pub struct Told {
     pub taken: bool,
 }
 
-// An identifier, to one that is started.
-fn identified(
+// To one that is started.
+fn happened(
     region: &mut [u8],
     out: &mut [u8],
     at: usize,
     s: u64,
     settings: &[u8],
     x: Session,
+    kind: usize,
     place: &[u8],
 ) -> Told
-    requires { ⌜ (at + 236 ≤ length (now out)) × (s < 256) × (length (now settings) ≡ 33) × Good (now region) × Storable x × (length (now place) ≡ place-size 0) ⌝ }
-    ensures { λ r. ⌜ (r .at ≤ at + 236) × Steps s (dealt (settings-of (now (settings .entry))) (x .idle) (run-of (run-area (now (region .entry)))) (only 0 (news (notice-in 0 (now (place .entry))))) (subscriptions-of x (now (region .entry)))) (now (region .exit)) (now (out .entry)) at (r .at) (now (out .exit)) × (r .taken ≡ takes (room-of 0) (subscription-of 0 (x .identifiers) (identifiers-area (now (region .entry))))) ⌝ }
+    requires { ⌜ (at + 236 ≤ length (now out)) × (s < 256) × (length (now settings) ≡ 33) × Good (now region) × Storable x × (x .phase ≡ Phase.Started) × (kind < 2) × (length (now place) ≡ place-size kind) ⌝ }
+    ensures { λ r. ⌜ (r .at ≤ at + 236) × Steps s (dealt (settings-of (now (settings .entry))) (x .idle) (run-of (run-area (now (region .entry)))) (only kind (news (notice-in kind (now (place .entry))))) (subscriptions-of x (now (region .entry)))) (now (region .exit)) (now (out .entry)) at (r .at) (now (out .exit)) × (r .taken ≡ takes (room-of kind) (subscription-of kind (subscription-at x kind) (places-of kind (now (region .entry))))) ⌝ }
 {
-    let x_kind = x.identifiers;
-    let t = take_kind(
-        region,
-        out,
-        at,
-        s,
-        message::IDENTIFIERS,
-        x_kind,
-        settings,
-        place,
-    );
+    let sub = session::subscription_of(x, kind);
+    let t = take_kind(region, out, at, s, kind, sub, settings, place);
     let next = t.next;
-    let kept = x.tightenings;
-    store(
-        region,
-        Session {
-            phase: Phase::Started,
-            idle: x.idle,
-            identifiers: next,
-            tightenings: kept,
-        },
-    );
-    Told {
-        at: t.at,
-        taken: t.taken,
-    }
-}
-
-// A tightening, to one that is started.
-fn tightened(
-    region: &mut [u8],
-    out: &mut [u8],
-    at: usize,
-    s: u64,
-    settings: &[u8],
-    x: Session,
-    place: &[u8],
-) -> Told
-    requires { ⌜ (at + 236 ≤ length (now out)) × (s < 256) × (length (now settings) ≡ 33) × Good (now region) × Storable x × (length (now place) ≡ place-size 1) ⌝ }
-    ensures { λ r. ⌜ (r .at ≤ at + 236) × Steps s (dealt (settings-of (now (settings .entry))) (x .idle) (run-of (run-area (now (region .entry)))) (only 1 (news (notice-in 1 (now (place .entry))))) (subscriptions-of x (now (region .entry)))) (now (region .exit)) (now (out .entry)) at (r .at) (now (out .exit)) × (r .taken ≡ takes (room-of 1) (subscription-of 1 (x .tightenings) (tightenings-area (now (region .entry))))) ⌝ }
-{
-    let x_kind = x.tightenings;
-    let t = take_kind(
-        region,
-        out,
-        at,
-        s,
-        message::TIGHTENINGS,
-        x_kind,
-        settings,
-        place,
-    );
-    let next = t.next;
-    let kept = x.identifiers;
-    store(
-        region,
-        Session {
-            phase: Phase::Started,
-            idle: x.idle,
-            identifiers: kept,
-            tightenings: next,
-        },
-    );
+    store(region, session::with_subscription(x, kind, next));
     Told {
         at: t.at,
         taken: t.taken,
@@ -342,12 +285,7 @@ pub fn event(
     match phase {
         Phase::Closed => Told { at, taken: false },
         Phase::Opened => Told { at, taken: false },
-        Phase::Started => {
-            if kind == message::IDENTIFIERS {
-                return identified(region, out, at, s, settings, x, place);
-            }
-            tightened(region, out, at, s, settings, x, place)
-        }
+        Phase::Started => happened(region, out, at, s, settings, x, kind, place),
     }
 }
 

@@ -4,3 +4,4 @@ pub mod Dealing
 pub mod Sessions
 pub mod Hearing
 pub mod Afterwards
+pub mod Acknowledges

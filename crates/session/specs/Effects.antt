@@ -1,17 +1,17 @@
 -- What this crate's answers come to for a whole session, in the model's terms. Assumes nothing: these are definitions.
-use Prim.Native.Nat.{ℕ}
+use Prim.Native.Nat.{ℕ, _<_}
 use mathlib.Core.Path.{_≡_}
 use mathlib.Core.Bool.{Bool}
 use mathlib.Core.List.{List, [], _∷_, _++_}
 use mathlib.Core.Option.{Option, none, some}
-use lib.ListN.{getD, drop}
+use lib.ListN.{length, getD, drop}
 use Rattle.model.specs.Limits.{header-length, identifier-length}
 use Rattle.model.specs.Bytes.{padded}
 use Rattle.model.specs.Records.{Settings}
 use Rattle.model.specs.Runs.{Run, empty-run}
 use Rattle.model.specs.Events.{Notice, kind-of, identifiers, tightenings}
 use Rattle.model.specs.Frames.{frame-0002, frame-0004, frame-0005}
-use Rattle.model.specs.Notices.{Deed, asks, drops, acks}
+use Rattle.model.specs.Notices.{rooms, Deed, asks, drops, acks}
 use Rattle.model.specs.Session as model
 use Rattle.model.specs.Session.{closed, opened, started, no-subscriptions, Emission, reply, close, dealt, only}
 use Rattle.model.specs.Steps.{event, step, takes}
@@ -19,6 +19,8 @@ use Rattle.frame.specs.Header.{header-of}
 use Rattle.session.specs.Meaning.{session-in, Sound, shifted, sent, kept, told, is-taken, held-asked, copies}
 use Rattle.session.specs.Control.{session, ticked, acknowledged}
 use Rattle.session.specs.Decisions.{subscription-of, at-kind, with-subscription, decision, after}
+use Rattle.session.specs.declared.Phase.{Phase}
+use Rattle.session.specs.declared.Phase.the-variants.{Started}
 use Rattle.session.specs.declared.Subscription.{Subscription}
 use Rattle.session.specs.declared.Session.{Session}
 use Rattle.session.specs.declared.Taken.{Taken}
@@ -191,3 +193,16 @@ carried-by-value st x is ts header d = (
 abbrev pub SoundAfter : Session → List Notice → List Notice → Decision → Type 0
 SoundAfter x is ts d =
     Sound (after x d) (held-after d identifiers (x .identifiers) is) (held-after d tightenings (x .tightenings) ts)
+
+-- there is something to acknowledge for one that is started only, of one of the kinds
+abbrev pub AcknowledgedIn : Phase → Decision → Type 0
+AcknowledgedIn p Nothing = Unit {0}
+AcknowledgedIn p Heard = Unit {0}
+AcknowledgedIn p (Error mid code) = Unit {0}
+AcknowledgedIn p Start = Unit {0}
+AcknowledgedIn p (Stop mid) = Unit {0}
+AcknowledgedIn p (Identify mid) = Unit {0}
+AcknowledgedIn p (Subscribe kind mid revision no-acknowledge) = Unit {0}
+AcknowledgedIn p (Unsubscribe kind mid) = Unit {0}
+AcknowledgedIn p (Acknowledge kind) = (p ≡ Started) × (kind < length rooms)
+AcknowledgedIn p Mirror = Unit {0}

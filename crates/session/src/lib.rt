@@ -601,7 +601,7 @@ pub fn decide(x: Session, granted: bool, h: Header, data_field: &[u8]) -> Decisi
 // ---- the session after a decision
 
 // A message came: one that is started is not idle.
-fn heard(x: Session) -> Session
+pub fn heard(x: Session) -> Session
     ensures { λ r. ⌜ r ≡ heard-so x ⌝ }
 {
     let phase = x.phase;
