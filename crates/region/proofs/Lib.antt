@@ -5,3 +5,5 @@ pub mod OneKind
 pub mod Ticks
 pub mod Events
 pub mod Replies
+pub mod Carried
+pub mod Rulings

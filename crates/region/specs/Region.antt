@@ -2,12 +2,13 @@
 -- Assumes nothing: these are definitions.
 use mathlib.Core.Path.{_≡_}
 use Prim.Native.Nat.{ℕ, _≤_, _<_}
-use mathlib.Core.Bool.{Bool, true, cond, _&&_}
+use mathlib.Core.Bool.{Bool, true, false, cond, _&&_}
 use mathlib.Core.List.{List, [], _∷_}
+use mathlib.Core.Option.{Option, none, some}
 use lib.Dec.{eqb}
 use lib.ListN.{length, take, drop}
 use Rattle.model.specs.Records.{Settings}
-use Rattle.model.specs.Runs.{Run}
+use Rattle.model.specs.Runs.{Run, Piece}
 use Rattle.model.specs.Events.{identifiers, tightenings, Notice}
 use Rattle.model.specs.Session.{closed, opened, dealt, Emission, close}
 use Rattle.model.specs.Session as model
@@ -108,3 +109,21 @@ tick-goes-on st run is ts Started x = dealt st (x .idle) run (λ kind. beats) (s
 abbrev pub by-idling : Settings → Run → List Notice → List Notice → Idling → model.Session × List Emission
 by-idling st run is ts (Stays x) = tick-goes-on st run is ts (x .phase) x
 by-idling st run is ts TimesOut = (closed, close ∷ [])
+
+-- ==== 01, "Runs and headers" and "What a message does": received bytes
+
+-- bytes that end a run
+abbrev pub ending : List ℕ → Piece
+ending bs = record { bytes = bs; ends = true }
+
+-- an identifier that is made known:
+
+-- whether there is one
+abbrev pub is-known : Option (List ℕ) → Bool
+is-known none = false
+is-known (some x) = true
+
+-- it takes the place, which is else as it was
+abbrev pub known-in : Option (List ℕ) → List ℕ → List ℕ
+known-in none p = p
+known-in (some x) p = x

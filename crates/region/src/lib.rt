@@ -2,7 +2,7 @@
 ghost use mathlib.Core.Path.{_≡_};
 ghost use mathlib.Core.Bool.{true};
 ghost use Prim.Native.Nat.{_+_, _≤_, _<_};
-ghost use lib.ListN.{length, take};
+ghost use lib.ListN.{length, take, drop};
 ghost use Rattle.model.specs.Records.{settings-of};
 ghost use Rattle.model.specs.Runs.{empty-run, longer};
 ghost use Rattle.model.specs.Notices.{room-of, beats, acks, news, takes};
@@ -10,12 +10,12 @@ ghost use Rattle.model.specs.Session.{dealt, closed, fresh, is-closed as is-clo
 ghost use Rattle.model.specs.Steps.{step, tick as one-tick, event as event-of, takes as takes-event};
 ghost use Rattle.model.specs.Events.{identifiers, tightenings};
 ghost use Rattle.text.specs.Put.{Put};
-ghost use Rattle.session.specs.Decisions.{subscription-of as subscription-at};
-ghost use Rattle.session.specs.Effects.{replies};
+ghost use Rattle.session.specs.Decisions.{subscription-of as subscription-at, after as after-so};
+ghost use Rattle.session.specs.Effects.{decision-on, announced, replies, carried-out, AcknowledgedIn};
 ghost use Rattle.run.specs.Area.{run-of};
 ghost use Rattle.head.specs.Head.{head-of, Storable};
 ghost use Rattle.notices.specs.Places.{place-size, notice-in, notices-in, subscription-of, Kept, Deals, dealt-bytes};
-ghost use Rattle.region.specs.Region.{head-area, run-area, identifiers-area, tightenings-area, session-of, region-formed, Good, Stands, places-of, Moved, subscriptions-of, out-bytes, Steps, tick-goes-on};
+ghost use Rattle.region.specs.Region.{head-area, run-area, identifiers-area, tightenings-area, session-of, region-formed, Good, Stands, places-of, Moved, subscriptions-of, out-bytes, Steps, tick-goes-on, is-known, known-in};
 use notices::Dealt;
 use notices::Took;
 use session::Decision;
@@ -313,5 +313,101 @@ fn reply(out: &mut [u8], at: usize, s: u64, settings: &[u8], run: &[u8], d: Deci
         Decision::Unsubscribe { kind: _, mid } => frame::put_0005(out, at, s, mid),
         Decision::Acknowledge { kind: _ } => at,
         Decision::Mirror => frame::put_9999(out, at, s, run),
+    }
+}
+
+// An acknowledge, to one that is started.
+fn acknowledged(
+    region: &mut [u8],
+    out: &mut [u8],
+    at: usize,
+    s: u64,
+    settings: &[u8],
+    x: Session,
+    kind: usize,
+) -> usize
+    requires { ⌜ (at + 236 ≤ length (now out)) × (s < 256) × (length (now settings) ≡ 33) × Good (now region) × Storable x × (x .phase ≡ Phase.Started) × (kind < 2) ⌝ }
+    ensures { λ r. ⌜ (r ≤ at + 236) × Steps s (dealt (settings-of (now (settings .entry))) (x .idle) (run-of (run-area (now (region .entry)))) (only kind acks) (subscriptions-of x (now (region .entry)))) (now (region .exit)) (now (out .entry)) at r (now (out .exit)) ⌝ }
+{
+    let sub = session::subscription_of(x, kind);
+    let t = acknowledge_kind(region, out, at, s, kind, sub, settings);
+    let next = t.next;
+    store(region, session::with_subscription(x, kind, next));
+    t.at
+}
+
+// What a decision does to the session, whose control is x, and the notice that it sends.
+fn carry_out(
+    region: &mut [u8],
+    out: &mut [u8],
+    at: usize,
+    s: u64,
+    settings: &[u8],
+    x: Session,
+    d: Decision,
+) -> usize
+    requires { ⌜ (at + 236 ≤ length (now out)) × (s < 256) × (length (now settings) ≡ 33) × Good (now region) ⌝ }
+    requires { ⌜ Storable x × Storable (after-so x d) × AcknowledgedIn (x .phase) d ⌝ }
+    ensures { λ r. ⌜ (r ≤ at + 236) × Steps s (carried-out (settings-of (now (settings .entry))) x (notices-in identifiers (x .identifiers .held) (identifiers-area (now (region .entry)))) (notices-in tightenings (x .tightenings .held) (tightenings-area (now (region .entry)))) d) (now (region .exit)) (now (out .entry)) at r (now (out .exit)) ⌝ }
+{
+    clear_run(region);
+    let Decision::Acknowledge { kind } = d else {
+        store(region, session::after(x, d));
+        return at;
+    };
+    acknowledged(region, out, at, s, settings, session::heard(x), kind)
+}
+
+// Whether identifiers are taken over the net.
+fn is_granted(settings: &[u8]) -> bool
+    requires { ⌜ length (now settings) ≡ 33 ⌝ }
+    ensures { λ r. ⌜ r ≡ settings-of (now (settings .entry)) .granted ⌝ }
+{
+    text::little(settings, 3, 1) == 1
+}
+
+// The identifier that a decision makes known, if it does, in its place.
+fn announce(place: &mut [u8], data_field: &[u8], d: Decision) -> bool
+    requires { ⌜ (length (now place) ≡ 25) × (length (now data_field) ≤ 25) ⌝ }
+    ensures { λ r. ⌜ (r ≡ is-known (announced d (now (data_field .entry)))) × (now (place .exit) ≡ known-in (announced d (now (data_field .entry))) (now (place .entry))) ⌝ }
+{
+    let Decision::Identify { mid: _ } = d else {
+        return false;
+    };
+    let n = text::copy(data_field, place, 0);
+    text::fill(place, n, 25 - n, b' ');
+    true
+}
+
+// What a run comes to, the place behind the reply, and whether an identifier is made known.
+struct Ruling {
+    decision: Decision,
+    at: usize,
+    identified: bool,
+}
+
+// A run of so many bytes, of which `run` are kept, is at its end.
+fn rule(
+    out: &mut [u8],
+    at: usize,
+    s: u64,
+    settings: &[u8],
+    x: Session,
+    run: &[u8],
+    count: usize,
+    place: &mut [u8],
+) -> Ruling
+    requires { ⌜ (at + 62 ≤ length (now out)) × (s < 256) × (length (now settings) ≡ 33) × (length (now run) ≤ 45) × (length (now place) ≡ 25) ⌝ }
+    ensures { λ r. ⌜ (r .decision ≡ decision-on (settings-of (now (settings .entry))) x (record { kept = now (run .entry); count = count })) × (r .at ≤ at + 62) × Put (now (out .entry)) at (out-bytes s (replies (settings-of (now (settings .entry))) (take 20 (now (run .entry))) (r .decision))) (r .at) (now (out .exit)) × (r .identified ≡ is-known (announced (r .decision) (drop 20 (now (run .entry))))) × (now (place .exit) ≡ known-in (announced (r .decision) (drop 20 (now (run .entry)))) (now (place .entry))) ⌝ }
+{
+    let data_field = text::rest(run, 20);
+    let h = frame::read_header(run, count);
+    let decision = session::decide(x, is_granted(settings), h, data_field);
+    let identified = announce(place, data_field, decision);
+    let next = reply(out, at, s, settings, run, decision);
+    Ruling {
+        decision,
+        at: next,
+        identified,
     }
 }

@@ -43,6 +43,20 @@ pub fn consumed(bytes: &[u8]) -> usize
     i
 }
 
+// A run that stands whole in a slice: the bytes of it that are kept, as they stand, and how many it has.
+pub fn kept_of(bytes: &[u8]) -> &[u8]
+    ensures { λ r. ⌜ now r ≡ longer-run empty-run (now (bytes .entry)) .kept ⌝ }
+{
+    let k = least(KEPT, bytes.len());
+    &bytes[0..k]
+}
+
+pub fn count_of(bytes: &[u8]) -> usize
+    ensures { λ r. ⌜ r ≡ longer-run empty-run (now (bytes .entry)) .count ⌝ }
+{
+    least(COUNTED, bytes.len())
+}
+
 // ---- the run in its area
 
 pub fn is_formed(area: &[u8]) -> bool

@@ -183,12 +183,18 @@ noticed st x is ts (Acknowledge kind) =
     copies st kind (subscription-of x kind) (next-of (subscription-of x kind) (getD (is ∷ ts ∷ []) kind []))
 noticed st x is ts Mirror = []
 
--- x, which holds is and ts, after it
-abbrev pub carried-by-value : Settings → Session → List Notice → List Notice → List ℕ → Decision → model.Session × List Emission
-carried-by-value st x is ts header d = (
+-- x, which holds is and ts, after it, and the notices that it sends
+abbrev pub carried-out : Settings → Session → List Notice → List Notice → Decision → model.Session × List Emission
+carried-out st x is ts d = (
   session-in (after x d) empty-run (held-after d identifiers (x .identifiers) is) (held-after d tightenings (x .tightenings) ts),
-  replies st header d ++ noticed st x is ts d,
+  noticed st x is ts d,
 )
+
+-- the reply comes first
+abbrev pub carried-by-value : Settings → Session → List Notice → List Notice → List ℕ → Decision → model.Session × List Emission
+carried-by-value st x is ts header d =
+    let r = carried-out st x is ts d in
+    (r .0, replies st header d ++ r .1)
 
 abbrev pub SoundAfter : Session → List Notice → List Notice → Decision → Type 0
 SoundAfter x is ts d =

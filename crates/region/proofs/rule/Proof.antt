@@ -1,0 +1,63 @@
+-- `region::rule` meets its contract. Assumes nothing.
+use borrow.Author.Needs.{needs}
+use mathlib.Core.Path.{_≡_, sym, ap, _∙_}
+use mathlib.Core.List.{List}
+use Prim.Native.Nat.{ℕ}
+use Rattle.model.specs.Records.{settings-of}
+use Rattle.session.specs.Effects.{announced}
+use Rattle.session.proofs.Hearing.{mirror-whole}
+use Rattle.region.specs.Region.{is-known, known-in}
+use Rattle.region.proofs.Rulings.{ruled, data-few}
+use Rattle.region.proofs.rule.Statement.{statement}
+use Rattle.region.proofs.rule.Tie as tie
+
+announce-requires : tie.Need-announce-requires
+announce-requires c κs =
+    let d = c .before .before .before .before in
+    let s = d .before .before .before .before .before in
+    (s .pre .4, data-few (s .args .run .now) _ (s .pre .3) (d .rest .ensures))
+
+reply-requires : tie.Need-reply-requires
+reply-requires c κs =
+    let d = c .before .before .before .before .before in
+    let g = d .before in
+    let h = g .before in
+    let f = h .before in
+    let s = f .before .before .before .before .before in
+    let a = s .args in
+    let p = s .pre in
+    let st = settings-of (a .settings .now) in
+    let e = ruled st (a .x) (a .run .now) (a .count) (g .is-granted .ensures) (h .read-header .ensures) (f .rest .ensures) (d .decide .ensures) in
+    (p .0, p .1, p .2, λ m. mirror-whole st (a .x) (record { kept = a .run .now; count = a .count }) (sym e ∙ m))
+
+returns : tie.Need-returns
+returns c =
+    let y = c .before .before in
+    let n = y .before .before .before .before in
+    let d = n .before .before in
+    let g = d .before in
+    let h = g .before in
+    let f = h .before in
+    let s = f .before .before .before .before .before in
+    let a = s .args in
+    let st = settings-of (a .settings .now) in (
+      ruled st (a .x) (a .run .now) (a .count) (g .is-granted .ensures) (h .read-header .ensures) (f .rest .ensures) (d .decide .ensures),
+      y .reply .ensures .0,
+      y .reply .ensures .1,
+      n .announce .ensures .0 ∙ ap (λ (bs : List ℕ). is-known (announced (d .decide .result) bs)) (f .rest .ensures),
+      n .announce .ensures .1 ∙ ap (λ (bs : List ℕ). known-in (announced (d .decide .result) bs) (a .place .now)) (f .rest .ensures),
+    )
+
+pub rule-spec : {M : Type 1} → statement M
+rule-spec =
+    tie.close
+    (tie.spec
+    (λ c κs. search needs)
+    (λ c κs. search needs)
+    (λ c κs. search needs)
+    (λ c κs. search needs)
+    announce-requires
+    reply-requires
+    (λ c. search needs)
+    (λ c. search needs)
+    returns)
