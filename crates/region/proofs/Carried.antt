@@ -157,8 +157,7 @@ module _ (s : ℕ) (st : Settings) (r r₁ : List ℕ) (x : Session) (g : Good r
 
     pub heard-storable : (h : Session) → h ≡ heard x → Storable h × (h .phase ≡ Started)
     heard-storable h eh =
-        subst (λ (z : Session). Storable z × (z .phase ≡ Started)) (sym (eh ∙ heard-idle))
-        (
+        subst (λ (z : Session). Storable z × (z .phase ≡ Started)) (sym (eh ∙ heard-idle)) (
           record { idle = omega arith; subscribed = k .subscribed; i-clock = k .i-clock; i-held = k .i-held; t-clock = k .t-clock; t-held = k .t-held },
           e,
         )

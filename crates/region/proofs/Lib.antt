@@ -7,3 +7,4 @@ pub mod Events
 pub mod Replies
 pub mod Carried
 pub mod Rulings
+pub mod Receives

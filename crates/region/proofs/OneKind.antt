@@ -9,7 +9,7 @@ use Rattle.model.specs.Notices.{Deed}
 use Rattle.model.specs.Session.{dealt, only}
 use Rattle.text.specs.Put.{Put}
 use Rattle.text.proofs.Puts.{put-as}
-use Rattle.session.specs.Decisions.{with-subscription} 
+use Rattle.session.specs.Decisions.{with-subscription}
 use Rattle.session.specs.Decisions.{subscription-of as subscription-at}
 use Rattle.session.specs.Control.{session}
 use Rattle.session.specs.declared.Phase.{Phase}

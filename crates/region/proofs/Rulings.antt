@@ -20,7 +20,7 @@ use Rattle.session.specs.declared.Session.{Session}
 use Rattle.session.proofs.Decision as decision-of
 use Rattle.session.specs.declared.Decision.{Decision}
 use Rattle.session.specs.declared.Decision.the-variants.{Nothing, Heard, Error, Start, Stop, Identify, Subscribe, Unsubscribe, Acknowledge, Mirror}
-use Rattle.region.specs.Region.{is-known, known-in}
+use Rattle.region.specs.Region.{is-known, known-in, Knows}
 
 -- ==== an identifier
 
@@ -41,15 +41,11 @@ module _ (bs : List ℕ) where
   silent (Acknowledge kind) o = refl
   silent Mirror o = refl
 
-  -- whether one is known, and what stands in its place then
-  abbrev Knows : Decision → List ℕ → Bool → List ℕ → Type 0
-  Knows d place known place′ = (known ≡ is-known (announced d bs)) × (place′ ≡ known-in (announced d bs) place)
-
-  pub not-known : (d : Decision) (place : List ℕ) → OneOf others (tagOf decision-of.the-type d) → Knows d place false place
+  pub not-known : (d : Decision) (place : List ℕ) → OneOf others (tagOf decision-of.the-type d) → Knows (announced d bs) place false place
   not-known d place o = let e = sym (silent d o) in (ap is-known e, ap (λ (z : Option (List ℕ)). known-in z place) e)
 
   pub now-known : {place place₁ place₂ : List ℕ} {n next mid : ℕ} (d : Decision) → d ≡ Identify mid → length place ≡ 25 → length bs ≤ 25
-      → Put place 0 bs n place₁ → Put place₁ n (replicate (25 - n) 0x20) next place₂ → Knows d place true place₂
+      → Put place 0 bs n place₁ → Put place₁ n (replicate (25 - n) 0x20) next place₂ → Knows (announced d bs) place true place₂
   now-known {place} {place₁} {place₂} {n} {next} {mid} d e size few p q =
       let z = p .place in
       let l : n ≡ length bs = omega arith in

@@ -1,21 +1,25 @@
 -- A session in its region of the table, 1,024 bytes: its control, its run, and the places of its notices. docs/TABLE.md has the map.
 -- Assumes nothing: these are definitions.
 use mathlib.Core.Path.{_≡_}
-use Prim.Native.Nat.{ℕ, _≤_, _<_}
+use Prim.Native.Nat.{ℕ, _+_, _≤_, _<_}
 use mathlib.Core.Bool.{Bool, true, false, cond, _&&_}
 use mathlib.Core.List.{List, [], _∷_}
 use mathlib.Core.Option.{Option, none, some}
 use lib.Dec.{eqb}
 use lib.ListN.{length, take, drop}
+use Rattle.model.specs.Limits.{header-length}
 use Rattle.model.specs.Records.{Settings}
 use Rattle.model.specs.Runs.{Run, Piece}
 use Rattle.model.specs.Events.{identifiers, tightenings, Notice}
 use Rattle.model.specs.Session.{closed, opened, dealt, Emission, close}
 use Rattle.model.specs.Session as model
+use Rattle.model.specs.Steps.{step, receives, announces}
 use Rattle.model.specs.Row.{tag}
 use Rattle.model.specs.Calls.{output}
 use Rattle.session.specs.Meaning.{subscriptions-in, session-in}
+use Rattle.session.specs.Effects.{decision-on, announced, replies}
 use Rattle.session.specs.declared.Session.{Session}
+use Rattle.session.specs.declared.Decision.{Decision}
 use Rattle.session.specs.declared.Phase.{Phase}
 use Rattle.session.specs.declared.Phase.the-variants.{Closed, Opened, Started}
 use Rattle.session.specs.declared.Idling.{Idling}
@@ -127,3 +131,39 @@ is-known (some x) = true
 abbrev pub known-in : Option (List ℕ) → List ℕ → List ℕ
 known-in none p = p
 known-in (some x) p = x
+
+abbrev pub Knows : Option (List ℕ) → List ℕ → Bool → List ℕ → Type 0
+Knows x place known place′ = (known ≡ is-known x) × (place′ ≡ known-in x place)
+
+-- the decision on a run that is at its end: the reply goes out to session s
+pub record Ruled
+    (s : ℕ)
+    (st : Settings)
+    (x : Session)
+    (run : Run)
+    (o : List ℕ)
+    (at : ℕ)
+    (place : List ℕ)
+    (d : Decision)
+    (next : ℕ)
+    (known : Bool)
+    (o′ place′ : List ℕ) : Type 0 where
+  pub decides : d ≡ decision-on st x run
+  pub within : next ≤ at + 62
+  pub bytes : Put o at (out-bytes s (replies st (take header-length (run .kept)) d)) next o′
+  pub knows : Knows (announced d (drop header-length (run .kept))) place known place′
+
+-- session s receives a piece
+pub record Hears
+    (s : ℕ)
+    (st : Settings)
+    (piece : Piece)
+    (r o : List ℕ)
+    (at : ℕ)
+    (place : List ℕ)
+    (next : ℕ)
+    (known : Bool)
+    (r′ o′ place′ : List ℕ) : Type 0 where
+  pub within : next ≤ at + 298
+  pub steps : Steps s (step st (receives piece) (session-of r)) r′ o at next o′
+  pub knows : Knows (announces st piece (session-of r)) place known place′

@@ -2,20 +2,20 @@
 ghost use mathlib.Core.Path.{_≡_};
 ghost use mathlib.Core.Bool.{true};
 ghost use Prim.Native.Nat.{_+_, _≤_, _<_};
-ghost use lib.ListN.{length, take, drop};
+ghost use lib.ListN.{length, take};
 ghost use Rattle.model.specs.Records.{settings-of};
-ghost use Rattle.model.specs.Runs.{empty-run, longer};
+ghost use Rattle.model.specs.Runs.{empty-run, longer, cut};
 ghost use Rattle.model.specs.Notices.{room-of, beats, acks, news, takes};
 ghost use Rattle.model.specs.Session.{dealt, closed, fresh, is-closed as is-closed-session, only};
 ghost use Rattle.model.specs.Steps.{step, tick as one-tick, event as event-of, takes as takes-event};
 ghost use Rattle.model.specs.Events.{identifiers, tightenings};
 ghost use Rattle.text.specs.Put.{Put};
 ghost use Rattle.session.specs.Decisions.{subscription-of as subscription-at, after as after-so};
-ghost use Rattle.session.specs.Effects.{decision-on, announced, replies, carried-out, AcknowledgedIn};
+ghost use Rattle.session.specs.Effects.{announced, replies, carried-out, AcknowledgedIn};
 ghost use Rattle.run.specs.Area.{run-of};
 ghost use Rattle.head.specs.Head.{head-of, Storable};
 ghost use Rattle.notices.specs.Places.{place-size, notice-in, notices-in, subscription-of, Kept, Deals, dealt-bytes};
-ghost use Rattle.region.specs.Region.{head-area, run-area, identifiers-area, tightenings-area, session-of, region-formed, Good, Stands, places-of, Moved, subscriptions-of, out-bytes, Steps, tick-goes-on, is-known, known-in};
+ghost use Rattle.region.specs.Region.{head-area, run-area, identifiers-area, tightenings-area, session-of, region-formed, Good, Stands, places-of, Moved, subscriptions-of, out-bytes, Steps, tick-goes-on, ending, Knows, Ruled, Hears};
 use notices::Dealt;
 use notices::Took;
 use session::Decision;
@@ -369,7 +369,7 @@ fn is_granted(settings: &[u8]) -> bool
 // The identifier that a decision makes known, if it does, in its place.
 fn announce(place: &mut [u8], data_field: &[u8], d: Decision) -> bool
     requires { ⌜ (length (now place) ≡ 25) × (length (now data_field) ≤ 25) ⌝ }
-    ensures { λ r. ⌜ (r ≡ is-known (announced d (now (data_field .entry)))) × (now (place .exit) ≡ known-in (announced d (now (data_field .entry))) (now (place .entry))) ⌝ }
+    ensures { λ r. ⌜ Knows (announced d (now (data_field .entry))) (now (place .entry)) r (now (place .exit)) ⌝ }
 {
     let Decision::Identify { mid: _ } = d else {
         return false;
@@ -398,7 +398,7 @@ fn rule(
     place: &mut [u8],
 ) -> Ruling
     requires { ⌜ (at + 62 ≤ length (now out)) × (s < 256) × (length (now settings) ≡ 33) × (length (now run) ≤ 45) × (length (now place) ≡ 25) ⌝ }
-    ensures { λ r. ⌜ (r .decision ≡ decision-on (settings-of (now (settings .entry))) x (record { kept = now (run .entry); count = count })) × (r .at ≤ at + 62) × Put (now (out .entry)) at (out-bytes s (replies (settings-of (now (settings .entry))) (take 20 (now (run .entry))) (r .decision))) (r .at) (now (out .exit)) × (r .identified ≡ is-known (announced (r .decision) (drop 20 (now (run .entry))))) × (now (place .exit) ≡ known-in (announced (r .decision) (drop 20 (now (run .entry)))) (now (place .entry))) ⌝ }
+    ensures { λ r. ⌜ Ruled s (settings-of (now (settings .entry))) x (record { kept = now (run .entry); count = count }) (now (out .entry)) at (now (place .entry)) (r .decision) (r .at) (r .identified) (now (out .exit)) (now (place .exit)) ⌝ }
 {
     let data_field = text::rest(run, 20);
     let h = frame::read_header(run, count);
@@ -409,5 +409,136 @@ fn rule(
         decision,
         at: next,
         identified,
+    }
+}
+
+// A run that is kept is at its end.
+fn rule_kept(
+    region: &[u8],
+    out: &mut [u8],
+    at: usize,
+    s: u64,
+    settings: &[u8],
+    x: Session,
+    place: &mut [u8],
+) -> Ruling
+    requires { ⌜ (at + 62 ≤ length (now out)) × (s < 256) × (length (now settings) ≡ 33) × Good (now region) × (length (now place) ≡ 25) ⌝ }
+    ensures { λ r. ⌜ Ruled s (settings-of (now (settings .entry))) x (run-of (run-area (now (region .entry)))) (now (out .entry)) at (now (place .entry)) (r .decision) (r .at) (r .identified) (now (out .exit)) (now (place .exit)) ⌝ }
+{
+    let area = &region[32..80];
+    rule(
+        out,
+        at,
+        s,
+        settings,
+        x,
+        run::kept(area),
+        run::count(area),
+        place,
+    )
+}
+
+// What came of received bytes: the place behind what went out, and whether an identifier was made known, which is then in its place.
+pub struct Received {
+    pub at: usize,
+    pub identified: bool,
+}
+
+// A run ends that stands whole in the slice: it is read there.
+fn end_whole(
+    region: &mut [u8],
+    out: &mut [u8],
+    at: usize,
+    s: u64,
+    settings: &[u8],
+    bytes: &[u8],
+    place: &mut [u8],
+) -> Received
+    requires { ⌜ (at + 298 ≤ length (now out)) × (s < 256) × (length (now settings) ≡ 33) × Good (now region) × (length (now place) ≡ 25) × (run-of (run-area (now region)) ≡ empty-run) ⌝ }
+    ensures { λ r. ⌜ Hears s (settings-of (now (settings .entry))) (ending (now (bytes .entry))) (now (region .entry)) (now (out .entry)) at (now (place .entry)) (r .at) (r .identified) (now (region .exit)) (now (out .exit)) (now (place .exit)) ⌝ }
+{
+    let x = load(region);
+    let r = rule(
+        out,
+        at,
+        s,
+        settings,
+        x,
+        run::kept_of(bytes),
+        run::count_of(bytes),
+        place,
+    );
+    let d = r.decision;
+    let next = carry_out(region, out, r.at, s, settings, x, d);
+    Received {
+        at: next,
+        identified: r.identified,
+    }
+}
+
+// A run ends that began in earlier slices: it is read where it is kept.
+fn end_kept(
+    region: &mut [u8],
+    out: &mut [u8],
+    at: usize,
+    s: u64,
+    settings: &[u8],
+    bytes: &[u8],
+    place: &mut [u8],
+) -> Received
+    requires { ⌜ (at + 298 ≤ length (now out)) × (s < 256) × (length (now settings) ≡ 33) × Good (now region) × (length (now place) ≡ 25) ⌝ }
+    ensures { λ r. ⌜ Hears s (settings-of (now (settings .entry))) (ending (now (bytes .entry))) (now (region .entry)) (now (out .entry)) at (now (place .entry)) (r .at) (r .identified) (now (region .exit)) (now (out .exit)) (now (place .exit)) ⌝ }
+{
+    lengthen(region, bytes);
+    let x = load(region);
+    let r = rule_kept(region, out, at, s, settings, x, place);
+    let d = r.decision;
+    let next = carry_out(region, out, r.at, s, settings, x, d);
+    Received {
+        at: next,
+        identified: r.identified,
+    }
+}
+
+// A run ends.
+fn end_run(
+    region: &mut [u8],
+    out: &mut [u8],
+    at: usize,
+    s: u64,
+    settings: &[u8],
+    bytes: &[u8],
+    place: &mut [u8],
+) -> Received
+    requires { ⌜ (at + 298 ≤ length (now out)) × (s < 256) × (length (now settings) ≡ 33) × Good (now region) × (length (now place) ≡ 25) ⌝ }
+    ensures { λ r. ⌜ Hears s (settings-of (now (settings .entry))) (ending (now (bytes .entry))) (now (region .entry)) (now (out .entry)) at (now (place .entry)) (r .at) (r .identified) (now (region .exit)) (now (out .exit)) (now (place .exit)) ⌝ }
+{
+    if run::count(&region[32..80]) == 0 {
+        return end_whole(region, out, at, s, settings, bytes, place);
+    }
+    end_kept(region, out, at, s, settings, bytes, place)
+}
+
+// Received bytes, up to the first NUL, to session s. An identifier that they make known is put in `place`.
+pub fn receive(
+    region: &mut [u8],
+    out: &mut [u8],
+    at: usize,
+    s: u64,
+    settings: &[u8],
+    bytes: &[u8],
+    place: &mut [u8],
+) -> Received
+    requires { ⌜ (at + 298 ≤ length (now out)) × (s < 256) × (length (now settings) ≡ 33) × Good (now region) × (length (now place) ≡ 25) ⌝ }
+    ensures { λ r. ⌜ Hears s (settings-of (now (settings .entry))) (cut (now (bytes .entry))) (now (region .entry)) (now (out .entry)) at (now (place .entry)) (r .at) (r .identified) (now (region .exit)) (now (out .exit)) (now (place .exit)) ⌝ }
+{
+    let i = run::ends_at(bytes);
+    if i < bytes.len() {
+        return end_run(region, out, at, s, settings, &bytes[0..i], place);
+    }
+    lengthen(region, bytes);
+    Received {
+        at,
+        identified: false,
     }
 }

@@ -1,12 +1,12 @@
 -- `region::rule` meets its contract. Assumes nothing.
 use borrow.Author.Needs.{needs}
-use mathlib.Core.Path.{_≡_, sym, ap, _∙_}
+use mathlib.Core.Path.{sym, subst, _∙_}
 use mathlib.Core.List.{List}
 use Prim.Native.Nat.{ℕ}
 use Rattle.model.specs.Records.{settings-of}
 use Rattle.session.specs.Effects.{announced}
 use Rattle.session.proofs.Hearing.{mirror-whole}
-use Rattle.region.specs.Region.{is-known, known-in}
+use Rattle.region.specs.Region.{Knows}
 use Rattle.region.proofs.Rulings.{ruled, data-few}
 use Rattle.region.proofs.rule.Statement.{statement}
 use Rattle.region.proofs.rule.Tie as tie
@@ -40,13 +40,13 @@ returns c =
     let f = h .before in
     let s = f .before .before .before .before .before in
     let a = s .args in
-    let st = settings-of (a .settings .now) in (
-      ruled st (a .x) (a .run .now) (a .count) (g .is-granted .ensures) (h .read-header .ensures) (f .rest .ensures) (d .decide .ensures),
-      y .reply .ensures .0,
-      y .reply .ensures .1,
-      n .announce .ensures .0 ∙ ap (λ (bs : List ℕ). is-known (announced (d .decide .result) bs)) (f .rest .ensures),
-      n .announce .ensures .1 ∙ ap (λ (bs : List ℕ). known-in (announced (d .decide .result) bs) (a .place .now)) (f .rest .ensures),
-    )
+    let st = settings-of (a .settings .now) in
+    record {
+      decides = ruled st (a .x) (a .run .now) (a .count) (g .is-granted .ensures) (h .read-header .ensures) (f .rest .ensures) (d .decide .ensures);
+      within = y .reply .ensures .0;
+      bytes = y .reply .ensures .1;
+      knows = subst (λ (bs : List ℕ). Knows (announced (d .decide .result) bs) (a .place .now) (n .announce .result) (n .announce .last .0)) (f .rest .ensures) (n .announce .ensures);
+    }
 
 pub rule-spec : {M : Type 1} → statement M
 rule-spec =
