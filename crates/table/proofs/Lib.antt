@@ -1,1 +1,2 @@
 pub mod Regions
+pub mod Starts

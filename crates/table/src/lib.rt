@@ -3,10 +3,11 @@ ghost use mathlib.Core.Path.{_≡_};
 ghost use mathlib.Core.Bool.{true};
 ghost use Prim.Native.Nat.{_+_, _≤_, _<_};
 ghost use lib.ListN.{length};
+ghost use Rattle.model.specs.Records.{settings-of};
 ghost use Rattle.model.specs.Session.{is-closed as is-closed-session};
-ghost use Rattle.model.specs.World.{session-at};
+ghost use Rattle.model.specs.World.{session-at, begun};
 ghost use Rattle.shared.specs.Shared.{settings-part};
-ghost use Rattle.table.specs.Table.{shared-area, decode, table-formed, Table};
+ghost use Rattle.table.specs.Table.{shared-area, decode, table-formed, Table, Becomes};
 
 // ---- reading
 
@@ -59,4 +60,20 @@ pub fn settings(table: &[u8]) -> &[u8]
     ensures { λ r. ⌜ (now r ≡ settings-part (shared-area (now (table .entry)))) × (length (now r) ≡ 33) ⌝ }
 {
     shared::settings(&table[0..1024])
+}
+
+// ---- a start
+
+// A start with these settings: it becomes a table, whatever the bytes were.
+pub fn start(table: &mut [u8], payload: &[u8])
+    requires { ⌜ (16_384 ≤ length (now table)) × (length (now payload) ≡ 33) ⌝ }
+    ensures { λ _. ⌜ Becomes (now (table .entry)) (begun (settings-of (now (payload .entry))) 0) (now (table .exit)) ⌝ }
+{
+    let mut s = 0;
+    while s < 4 {
+        let a = 1024 + s * 1024;
+        region::start(&mut table[a..a + 1024]);
+        s += 1;
+    }
+    shared::start(&mut table[0..1024], payload);
 }
