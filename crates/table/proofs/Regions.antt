@@ -19,7 +19,7 @@ use Rattle.text.proofs.Lists.{drop-next, all-at, drop-after}
 use Rattle.text.proofs.Cells.{area-same, area-before, part-put, part-at, length-cells}
 use Rattle.shared.specs.Shared.{settings-part, in-force-of, last-of, shared-formed, Area, Holds}
 use Rattle.region.specs.Region.{session-of, region-formed, Good}
-use Rattle.table.specs.Table.{shared-area, regions, decode, table-formed, Table}
+use Rattle.table.specs.Table.{shared-area, regions, decode, table-formed, Table, Becomes}
 
 -- the region of session s, and the table with ys for it, as lending `&mut table[a..a + 1024]` has them
 abbrev pub part : List ℕ → ℕ → List ℕ
@@ -164,3 +164,42 @@ module _ (t ys : List ℕ) (long : table-least ≤ length t) (len : length ys �
 
   pub front-regions : {A : Type 0} (f : List ℕ → A) → regions f (front t ys) ≡ regions f t
   front-regions f = ap (cells f 1_024 4) (drop-after t ys 0 1_024 1_024 len front-fits (lit≤ tt))
+
+-- ==== a table whose region or shared area was replaced by a good one is a table
+
+all-set : (l : List Bool) (s : ℕ) → all (λ (b : Bool). b) l ≡ true → all (λ (b : Bool). b) (set l s true) ≡ true
+all-set [] s e = refl
+all-set (x ∷ l) zero e = and-eq-true-iff x (all (λ (b : Bool). b) l) .0 e .1
+all-set (x ∷ l) (suc s) e =
+    let p = and-eq-true-iff x (all (λ (b : Bool). b) l) .0 e in
+    and-eq-true-iff x (all (λ (b : Bool). b) (set l s true)) .1 (p .0, all-set l s (p .1))
+
+pub put-table : (t : List ℕ) (s : ℕ) (r : List ℕ) → Table t → s < 4 → Good r → Table (put t s r)
+put-table t s r h b g =
+    let l = h .size in
+    let n = g .size in
+    table-of (put t s r) (rw (put-size t s r l b n) l) (ap shared-formed (put-shared t s r l b n) ∙ formed-parts t h .0)
+    (ap (all (λ (b : Bool). b)) (put-regions t s r l b n region-formed ∙ ap (set (regions region-formed t) s) (g .formed))
+    ∙ all-set (regions region-formed t) s (formed-parts t h .1))
+
+pub front-table : (t a : List ℕ) → Table t → Area a → Table (front t a)
+front-table t a h g =
+    let l = h .size in
+    let n = g .size in
+    table-of (front t a) (rw (front-size t a l n) l) (ap shared-formed (front-shared t a l n) ∙ g .formed)
+    (ap (all (λ (b : Bool). b)) (front-regions t a l n region-formed) ∙ formed-parts t h .1)
+
+-- session s becomes what r means, and nothing else changes
+pub put-means : (t : List ℕ) (s : ℕ) (r : List ℕ) (ss : List Session) → Table t → s < 4 → Good r → set (regions session-of t) s (session-of r) ≡ ss
+    → Becomes t (record { settings = decode t .settings; in-force = decode t .in-force; last = decode t .last; sessions = ss; events = 0 }) (put t s r)
+unfolding decode
+put-means t s r ss h b g e =
+    let l = h .size in
+    let n = g .size in
+    record {
+      table = put-table t s r h b g;
+      size = put-size t s r l b n;
+      past = put-past t s r l b n;
+      meaning = table-means (put t s r) (settings-part (shared-area t)) (in-force-of (shared-area t)) (last-of (shared-area t)) ss
+          (holds-as-before t (put t s r) h (put-shared t s r l b n)) (put-regions t s r l b n session-of ∙ e);
+    }

@@ -5,7 +5,7 @@ ghost use Prim.Native.Nat.{_+_, _≤_, _<_};
 ghost use lib.ListN.{length};
 ghost use Rattle.model.specs.Records.{settings-of};
 ghost use Rattle.model.specs.Session.{is-closed as is-closed-session};
-ghost use Rattle.model.specs.World.{session-at, begun};
+ghost use Rattle.model.specs.World.{session-at, begun, uncounted, opens, hangs-up, next};
 ghost use Rattle.shared.specs.Shared.{settings-part};
 ghost use Rattle.table.specs.Table.{shared-area, decode, table-formed, Table, Becomes};
 
@@ -76,4 +76,24 @@ pub fn start(table: &mut [u8], payload: &[u8])
         s += 1;
     }
     shared::start(&mut table[0..1024], payload);
+}
+
+// ---- an opening, a hang-up
+
+// Session s, which is closed, is opened.
+pub fn open(table: &mut [u8], s: u64)
+    requires { ⌜ Table (now table) × (s < 4) × (is-closed-session (session-at (decode (now table)) s) ≡ true) ⌝ }
+    ensures { λ _. ⌜ Becomes (now (table .entry)) (uncounted (next (decode (now (table .entry))) (opens s))) (now (table .exit)) ⌝ }
+{
+    let a = 1024 + s as usize * 1024;
+    region::open(&mut table[a..a + 1024]);
+}
+
+// Session s is hung up.
+pub fn hang_up(table: &mut [u8], s: u64)
+    requires { ⌜ Table (now table) × (s < 4) ⌝ }
+    ensures { λ _. ⌜ Becomes (now (table .entry)) (uncounted (next (decode (now (table .entry))) (hangs-up s))) (now (table .exit)) ⌝ }
+{
+    let a = 1024 + s as usize * 1024;
+    region::hang_up(&mut table[a..a + 1024]);
 }
