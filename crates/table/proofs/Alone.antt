@@ -76,6 +76,12 @@ passes st closed = refl
 passes st (opened idle run) = refl
 passes st (started idle run subs) = refl
 
+-- ==== one moment has passed
+
+pub went-one : {t o t′ o′ : List ℕ} {at to : ℕ} {m : Moment} → Becomes t (uncounted (next (decode t) m)) t′ → Put o at (output (emits (decode t) m)) to o′
+    → Went t o at (m ∷ []) to t′ o′
+went-one {t} {m = m} b p = record { table = b; bytes = put-as (ap output (sym (append-nil (emits (decode t) m)))) p }
+
 -- ==== the region of session s becomes what the step leaves: the table has gone through the moment
 
 module _ (t : List ℕ) (s : ℕ) (m : Moment) (l : Local) (st : Settings) (table : Table t) (few : s < 4) (sees : Sees m s l) (settings : st ≡ decode t .settings) where
@@ -106,10 +112,9 @@ module _ (t : List ℕ) (s : ℕ) (m : Moment) (l : Local) (st : Settings) (tabl
       rw (sees .moves (decode t)) (put-means t s r (row (each (decode t) m) 0 (regions session-of t)) table few g after)
 
   pub went-alone : {r o o′ : List ℕ} {at to : ℕ} → Steps s taken r o at to o′ → Went t o at (m ∷ []) to (put t s r) o′
-  went-alone {r} w = record {
-    table = became-alone r (w .good) (w .session);
-    bytes = put-as (ap output (sym (append-nil (emits (decode t) m) ∙ whole .1 ∙ ap (λ (p : Session × List Emission). tag s (p .1)) same))) (w .bytes);
-  }
+  went-alone {r} w =
+      went-one (became-alone r (w .good) (w .session))
+      (put-as (ap output (sym (whole .1 ∙ ap (λ (p : Session × List Emission). tag s (p .1)) same))) (w .bytes))
 
 -- ==== an opening and a hang-up
 

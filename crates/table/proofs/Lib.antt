@@ -1,3 +1,4 @@
 pub mod Regions
 pub mod Starts
 pub mod Alone
+pub mod Walks

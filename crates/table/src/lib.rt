@@ -1,13 +1,14 @@
 // The lent table: what all sessions share, and the region of each.
 ghost use mathlib.Core.Path.{_≡_};
 ghost use mathlib.Core.Bool.{true};
+ghost use mathlib.Core.List.{[], _∷_};
 ghost use Prim.Native.Nat.{_+_, _≤_, _<_};
 ghost use lib.ListN.{length};
 ghost use Rattle.model.specs.Records.{settings-of};
 ghost use Rattle.model.specs.Session.{is-closed as is-closed-session};
-ghost use Rattle.model.specs.World.{session-at, begun, uncounted, opens, hangs-up, next};
+ghost use Rattle.model.specs.World.{session-at, begun, uncounted, opens, hangs-up, ticks, next};
 ghost use Rattle.shared.specs.Shared.{settings-part};
-ghost use Rattle.table.specs.Table.{shared-area, decode, table-formed, Table, Becomes};
+ghost use Rattle.table.specs.Table.{shared-area, decode, table-formed, Table, Becomes, Went};
 
 // ---- reading
 
@@ -96,4 +97,32 @@ pub fn hang_up(table: &mut [u8], s: u64)
 {
     let a = 1024 + s as usize * 1024;
     region::hang_up(&mut table[a..a + 1024]);
+}
+
+// ---- what comes over all sessions
+
+// The settings' payload, apart from the table: a region of that is lent on together with them.
+fn settings_apart(table: &[u8]) -> [u8; 33]
+    requires { ⌜ Table (now table) ⌝ }
+    ensures { λ r. ⌜ settings-of r ≡ decode (now (table .entry)) .settings ⌝ }
+{
+    let mut bytes = [0; 33];
+    text::copy(settings(table), &mut bytes, 0);
+    bytes
+}
+
+// A tick.
+pub fn tick(table: &mut [u8], out: &mut [u8], at: usize) -> usize
+    requires { ⌜ Table (now table) × (at + 1_888 ≤ length (now out)) ⌝ }
+    ensures { λ r. ⌜ (r ≤ at + 1_888) × Went (now (table .entry)) (now (out .entry)) at (ticks ∷ []) r (now (table .exit)) (now (out .exit)) ⌝ }
+{
+    let settings = settings_apart(table);
+    let mut to = at;
+    let mut s: u64 = 0;
+    while s < 4 {
+        let a = 1024 + s as usize * 1024;
+        to = region::tick(&mut table[a..a + 1024], out, to, s, &settings);
+        s += 1;
+    }
+    to
 }
