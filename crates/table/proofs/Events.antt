@@ -1,14 +1,13 @@
 -- An event: who takes it, and what it leaves to all sessions. Assumes nothing.
-use mathlib.Core.Path.{_≡_, refl, sym, ap, subst, _∙_}
-use Prim.Native.Nat.{ℕ, zero, suc, _+_, _*_, _^_, _≤_, _<_}
+use mathlib.Core.Path.{_≡_, sym, ap, subst, _∙_}
+use Prim.Native.Nat.{ℕ, suc, _+_, _*_, _^_, _≤_, _<_}
 use native.Mathlib.Nat.{add-zero, add-suc, suc-add, pow-suc}
 use native.Mathlib.Omega.{arith}
 use mathlib.Core.Bool.{Bool, true, false, cond}
 use mathlib.Core.List.{List, [], _∷_}
-use lib.ListN.{length, getD, set, take, drop, drop-of-length-le}
+use lib.ListN.{length, take, drop, drop-of-length-le}
 use Rattle.model.specs.Bytes.{little}
 use Rattle.model.specs.Records.{Settings, settings-of}
-use Rattle.model.specs.Events.{identified, tightened}
 use Rattle.model.specs.Session.{Session, closed}
 use Rattle.model.specs.Steps.{event, step, takes}
 use Rattle.model.specs.World.{World, happens, each}

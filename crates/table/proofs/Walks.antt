@@ -1,9 +1,9 @@
 -- A walk over the sessions: a moment that comes over all of them, region by region. Assumes nothing.
 use mathlib.Core.Path.{_≡_, refl, sym, ap, ap₂, subst, _∙_}
-use Prim.Native.Nat.{ℕ, zero, suc, _+_, _^_, _≤_, _<_}
+use Prim.Native.Nat.{ℕ, suc, _+_, _^_, _≤_, _<_}
 use native.Mathlib.Numerals.{add-one}
 use native.Mathlib.Omega.{arith}
-use mathlib.Core.Bool.{Bool, true, false, cond}
+use mathlib.Core.Bool.{cond}
 use mathlib.Core.List.{List, [], _∷_, _++_, append-assoc, append-nil}
 use lib.ListN.{length, getD, set, take, drop, drop-of-length-le}
 use lib.Seq.{take-all, take-suc-set, drop-cons, drop-set-lt}
@@ -16,7 +16,7 @@ use Rattle.model.specs.World.{uncounted, Moment, each, moved, emits}
 use Rattle.model.specs.Calls.{output, takers}
 use Rattle.text.specs.Put.{Put}
 use Rattle.text.proofs.Puts.{Left, left-all, left-put, left-none, left-as}
-use Rattle.region.specs.Region.{session-of, Good, out-bytes, Steps}
+use Rattle.region.specs.Region.{session-of, out-bytes, Steps}
 use Rattle.region.proofs.Outputs.{output-append}
 use Rattle.shared.specs.Shared.{settings-part, in-force-of, last-of}
 use Rattle.table.specs.Table.{shared-area, regions, decode, Table, Becomes}

@@ -1,9 +1,8 @@
 -- `table::happens` meets its contract. Assumes nothing.
 use borrow.Author.Needs.{needs}
-use Prim.Native.Nat.{_<_}
 use Rattle.model.specs.World.{World}
 use Rattle.notices.specs.Places.{event-in}
-use Rattle.table.specs.Table.{decode, noted}
+use Rattle.table.specs.Table.{noted}
 use Rattle.table.proofs.Alone.{went-one}
 use Rattle.table.proofs.Events.{takers-below, becomes-then}
 use Rattle.table.proofs.happens.Statement.{statement}

@@ -1,7 +1,6 @@
 -- `table::share` meets its contract: an arm by its key, the closing arm by what s is not. Assumes nothing.
 use borrow.Author.Tests.{not-true, not-false}
 use mathlib.Core.Path.{_≡_, refl}
-use Prim.Native.Nat.{_≤_}
 use native.Mathlib.Omega.{arith}
 use Rattle.table.proofs.share.Statement.{statement}
 use Rattle.table.proofs.share.Tie as tie
