@@ -1,0 +1,5 @@
+pub mod Regions
+pub mod Starts
+pub mod Alone
+pub mod Walks
+pub mod Events

@@ -1,0 +1,195 @@
+// The lent table: what all sessions share, and the region of each.
+ghost use mathlib.Core.Path.{_≡_};
+ghost use mathlib.Core.Bool.{true, cond};
+ghost use mathlib.Core.List.{[], _∷_};
+ghost use Prim.Native.Nat.{_+_, _^_, _≤_, _<_};
+ghost use lib.ListN.{length};
+ghost use Rattle.model.specs.Records.{settings-of};
+ghost use Rattle.model.specs.Session.{is-closed as is-closed-session};
+ghost use Rattle.model.specs.World.{session-at, begun, uncounted, opens, hangs-up, ticks, happens as happens-event, moved, next, emits};
+ghost use Rattle.model.specs.Calls.{output, takers};
+ghost use Rattle.text.specs.Put.{Put};
+ghost use Rattle.notices.specs.Places.{place-size, event-in};
+ghost use Rattle.shared.specs.Shared.{settings-part};
+ghost use Rattle.table.specs.Table.{shared-area, decode, table-formed, Table, Becomes, noted, Went};
+
+// ---- reading
+
+pub fn is_formed(table: &[u8]) -> bool
+    requires { ⌜ 16_384 ≤ length (now table) ⌝ }
+    ensures { λ r. ⌜ r ≡ table-formed (now (table .entry)) ⌝ }
+{
+    if !shared::is_formed(&table[0..1024]) {
+        return false;
+    }
+    let mut s = 0;
+    while s < 4 {
+        let a = 1024 + s * 1024;
+        if !region::is_formed(&table[a..a + 1024]) {
+            return false;
+        }
+        s += 1;
+    }
+    true
+}
+
+// Whether session s is closed.
+pub fn is_closed(table: &[u8], s: u64) -> bool
+    requires { ⌜ Table (now table) × (s < 4) ⌝ }
+    ensures { λ r. ⌜ r ≡ is-closed-session (session-at (decode (now (table .entry))) s) ⌝ }
+{
+    let a = 1024 + s as usize * 1024;
+    region::is_closed(&table[a..a + 1024])
+}
+
+// The last tightening number.
+pub fn last(table: &[u8]) -> u64
+    requires { ⌜ Table (now table) ⌝ }
+    ensures { λ r. ⌜ (r ≡ decode (now (table .entry)) .last) × (r < 4_294_967_296) ⌝ }
+{
+    shared::last(&table[0..1024])
+}
+
+// The identifier in force, as it stands.
+pub fn in_force(table: &[u8]) -> &[u8]
+    requires { ⌜ Table (now table) ⌝ }
+    ensures { λ r. ⌜ (now r ≡ decode (now (table .entry)) .in-force) × (length (now r) ≡ 25) ⌝ }
+{
+    shared::in_force(&table[0..1024])
+}
+
+// The settings' payload, as it stands.
+pub fn settings(table: &[u8]) -> &[u8]
+    requires { ⌜ Table (now table) ⌝ }
+    ensures { λ r. ⌜ (now r ≡ settings-part (shared-area (now (table .entry)))) × (length (now r) ≡ 33) ⌝ }
+{
+    shared::settings(&table[0..1024])
+}
+
+// ---- a start
+
+// A start with these settings: it becomes a table, whatever the bytes were.
+pub fn start(table: &mut [u8], payload: &[u8])
+    requires { ⌜ (16_384 ≤ length (now table)) × (length (now payload) ≡ 33) ⌝ }
+    ensures { λ _. ⌜ Becomes (now (table .entry)) (begun (settings-of (now (payload .entry))) 0) (now (table .exit)) ⌝ }
+{
+    let mut s = 0;
+    while s < 4 {
+        let a = 1024 + s * 1024;
+        region::start(&mut table[a..a + 1024]);
+        s += 1;
+    }
+    shared::start(&mut table[0..1024], payload);
+}
+
+// ---- an opening, a hang-up
+
+// Session s, which is closed, is opened.
+pub fn open(table: &mut [u8], s: u64)
+    requires { ⌜ Table (now table) × (s < 4) × (is-closed-session (session-at (decode (now table)) s) ≡ true) ⌝ }
+    ensures { λ _. ⌜ Becomes (now (table .entry)) (uncounted (next (decode (now (table .entry))) (opens s))) (now (table .exit)) ⌝ }
+{
+    let a = 1024 + s as usize * 1024;
+    region::open(&mut table[a..a + 1024]);
+}
+
+// Session s is hung up.
+pub fn hang_up(table: &mut [u8], s: u64)
+    requires { ⌜ Table (now table) × (s < 4) ⌝ }
+    ensures { λ _. ⌜ Becomes (now (table .entry)) (uncounted (next (decode (now (table .entry))) (hangs-up s))) (now (table .exit)) ⌝ }
+{
+    let a = 1024 + s as usize * 1024;
+    region::hang_up(&mut table[a..a + 1024]);
+}
+
+// ---- what comes over all sessions
+
+// The settings' payload, apart from the table: a region of that is lent on together with them.
+fn settings_apart(table: &[u8]) -> [u8; 33]
+    requires { ⌜ Table (now table) ⌝ }
+    ensures { λ r. ⌜ settings-of r ≡ decode (now (table .entry)) .settings ⌝ }
+{
+    let mut bytes = [0; 33];
+    text::copy(settings(table), &mut bytes, 0);
+    bytes
+}
+
+// A tick.
+pub fn tick(table: &mut [u8], out: &mut [u8], at: usize) -> usize
+    requires { ⌜ Table (now table) × (at + 1_888 ≤ length (now out)) ⌝ }
+    ensures { λ r. ⌜ (r ≤ at + 1_888) × Went (now (table .entry)) (now (out .entry)) at (ticks ∷ []) r (now (table .exit)) (now (out .exit)) ⌝ }
+{
+    let settings = settings_apart(table);
+    let mut to = at;
+    let mut s: u64 = 0;
+    while s < 4 {
+        let a = 1024 + s as usize * 1024;
+        to = region::tick(&mut table[a..a + 1024], out, to, s, &settings);
+        s += 1;
+    }
+    to
+}
+
+// What an event did: the place behind what went out, and the sum of 2^s over the sessions s that took it.
+pub struct Told {
+    pub at: usize,
+    pub taken: u64,
+}
+
+// What session s adds to that sum.
+fn share(taken: bool, s: u64) -> u64
+    requires { ⌜ s < 4 ⌝ }
+    ensures { λ r. ⌜ (r ≡ cond taken (2 ^ s) 0) × (r ≤ 8) ⌝ }
+{
+    if !taken {
+        return 0;
+    }
+    match s {
+        0 => 1,
+        1 => 2,
+        2 => 4,
+        _ => 8,
+    }
+}
+
+// An event of that kind, whose notice is in `place`, to every session.
+fn tell(table: &mut [u8], out: &mut [u8], at: usize, kind: usize, place: &[u8]) -> Told
+    requires { ⌜ Table (now table) × (at + 944 ≤ length (now out)) × (kind < 2) × (length (now place) ≡ place-size kind) ⌝ }
+    ensures { λ r. ⌜ (r .at ≤ at + 944) × (r .taken ≡ takers kind 0 (decode (now (table .entry)) .sessions)) × Becomes (now (table .entry)) (uncounted (moved (decode (now (table .entry))) (happens-event (event-in kind (now (place .entry)))))) (now (table .exit)) × Put (now (out .entry)) at (output (emits (decode (now (table .entry))) (happens-event (event-in kind (now (place .entry)))))) (r .at) (now (out .exit)) ⌝ }
+{
+    let settings = settings_apart(table);
+    let mut to = at;
+    let mut taken: u64 = 0;
+    let mut s: u64 = 0;
+    while s < 4 {
+        let a = 1024 + s as usize * 1024;
+        let told = region::event(&mut table[a..a + 1024], out, to, s, &settings, kind, place);
+        to = told.at;
+        taken += share(told.taken, s);
+        s += 1;
+    }
+    Told { at: to, taken }
+}
+
+// What the event leaves to all sessions: the identifier in force, or the last number.
+fn note(table: &mut [u8], kind: usize, place: &[u8])
+    requires { ⌜ Table (now table) × (kind < 2) × (length (now place) ≡ place-size kind) ⌝ }
+    ensures { λ _. ⌜ Becomes (now (table .entry)) (noted (decode (now (table .entry))) (event-in kind (now (place .entry)))) (now (table .exit)) ⌝ }
+{
+    if kind == message::IDENTIFIERS {
+        shared::put_in_force(&mut table[0..1024], place);
+        return;
+    }
+    let number = text::little(place, 106, 4);
+    shared::put_last(&mut table[0..1024], number);
+}
+
+// An event of that kind, whose notice is in `place`.
+pub fn happens(table: &mut [u8], out: &mut [u8], at: usize, kind: usize, place: &[u8]) -> Told
+    requires { ⌜ Table (now table) × (at + 944 ≤ length (now out)) × (kind < 2) × (length (now place) ≡ place-size kind) ⌝ }
+    ensures { λ r. ⌜ (r .at ≤ at + 944) × Went (now (table .entry)) (now (out .entry)) at (happens-event (event-in kind (now (place .entry))) ∷ []) (r .at) (now (table .exit)) (now (out .exit)) × (r .taken ≡ takers kind 0 (decode (now (table .entry)) .sessions)) × (r .taken < 16) ⌝ }
+{
+    let told = tell(table, out, at, kind, place);
+    note(table, kind, place);
+    told
+}
