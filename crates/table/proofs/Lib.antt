@@ -3,3 +3,4 @@ pub mod Starts
 pub mod Alone
 pub mod Walks
 pub mod Events
+pub mod Receives
