@@ -35,6 +35,15 @@ pub fn is_formed(region: &[u8]) -> bool
     run::is_formed(&region[32..80])
 }
 
+// Whatever the bytes were, it is closed.
+pub fn start(region: &mut [u8])
+    requires { ⌜ length (now region) ≡ 1024 ⌝ }
+    ensures { λ _. ⌜ Good (now (region .exit)) × (session-of (now (region .exit)) ≡ closed) ⌝ }
+{
+    head::store(&mut region[0..32], Session::cleared());
+    run::clear(&mut region[32..80]);
+}
+
 // Its control.
 fn load(region: &[u8]) -> Session
     requires { ⌜ Good (now region) ⌝ }

@@ -1,0 +1,62 @@
+-- The lent table: what all sessions share, then a region for each session. 01, "What the product holds"; docs/TABLE.md has the map.
+-- Assumes nothing: these are definitions.
+use mathlib.Core.Path.{_≡_}
+use Prim.Native.Nat.{ℕ, _≤_}
+use mathlib.Core.Bool.{Bool, true, _&&_}
+use mathlib.Core.List.{List, []}
+use lib.ListN.{length, take, drop}
+use Rattle.model.specs.Limits.{session-count, table-least}
+use Rattle.model.specs.Bytes.{all}
+use Rattle.model.specs.Records.{settings-of}
+use Rattle.model.specs.World.{World, uncounted, Moment, after, emitted}
+use Rattle.model.specs.Calls.{output}
+use Rattle.text.specs.Put.{Put}
+use Rattle.text.specs.Cells.{cells}
+use Rattle.shared.specs.Shared.{settings-part, in-force-of, last-of, shared-formed}
+use Rattle.region.specs.Region.{region-size, session-of, region-formed}
+
+-- ==== its areas
+
+abbrev pub shared-size : ℕ
+shared-size = 1_024
+
+abbrev pub shared-area : List ℕ → List ℕ
+shared-area t = take shared-size (drop 0 t)
+
+-- what f reads in the region of each session
+abbrev pub regions : {A : Type 0} → (List ℕ → A) → List ℕ → List A
+regions f t = cells f region-size session-count (drop shared-size t)
+
+-- ==== its meaning (it keeps no count of events)
+
+unfoldable pub decode : List ℕ → World
+decode t = record {
+  settings = settings-of (settings-part (shared-area t));
+  in-force = in-force-of (shared-area t);
+  last = last-of (shared-area t);
+  sessions = regions session-of t;
+  events = 0;
+}
+
+-- 01, "What the product holds", number 2: what is shared is well formed, and every region is
+unfoldable pub table-formed : List ℕ → Bool
+table-formed t = shared-formed (shared-area t) && all (λ formed. formed) (regions region-formed t)
+
+-- 01, "What the product holds", numbers 1 and 2: long enough, and well formed
+pub record Table (t : List ℕ) : Type 0 where
+  pub size : table-least ≤ length t
+  pub formed : table-formed t ≡ true
+
+-- ==== what a call makes of it
+
+-- 01, "What the product holds": t has become t′, which means w, is as long as t was, and past what is used has the same bytes
+pub record Becomes (t : List ℕ) (w : World) (t′ : List ℕ) : Type 0 where
+  pub table : Table t′
+  pub size : length t′ ≡ length t
+  pub past : drop table-least t′ ≡ drop table-least t
+  pub meaning : decode t′ ≡ w
+
+-- the moments have passed, and what they emit was written from `at` on
+pub record Went (t o : List ℕ) (at : ℕ) (ms : List Moment) (next : ℕ) (t′ o′ : List ℕ) : Type 0 where
+  pub table : Becomes t (uncounted (after (decode t) ms)) t′
+  pub bytes : Put o at (output (emitted (decode t) ms)) next o′
