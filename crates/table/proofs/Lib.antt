@@ -1,1 +1,4 @@
 pub mod Regions
+pub mod Starts
+pub mod Alone
+pub mod Walks

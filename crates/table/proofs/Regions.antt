@@ -1,5 +1,5 @@
 -- The areas of the table: what is known of each, and what the table means after one of them was replaced. Assumes nothing.
-use mathlib.Core.Path.{_≡_, refl, sym, ap, ap₂, _∙_}
+use mathlib.Core.Path.{_≡_, refl, sym, ap, subst, _∙_}
 use Prim.Native.Nat.{ℕ, zero, suc, _+_, _-_, _*_, _≤_, _<_}
 use native.Mathlib.Nat.{add-sub-cancel-left}
 use native.Mathlib.Omega.{arith}
@@ -11,14 +11,15 @@ use lib.Seq.{length-take-le}
 use borrow.Rule.Slice.PartMut.{putMid, midOf, mid-len, same-len-mid}
 use Rattle.model.specs.Limits.{table-least}
 use Rattle.model.specs.Bytes.{all}
+use Rattle.model.specs.Records.{settings-of}
 use Rattle.model.specs.Session.{Session, closed}
-use Rattle.model.specs.World.{World, session-at}
+use Rattle.model.specs.World.{session-at}
 use Rattle.text.specs.Cells.{cells}
 use Rattle.text.proofs.Lists.{drop-next, all-at, drop-after}
 use Rattle.text.proofs.Cells.{area-same, area-before, part-put, part-at, length-cells}
-use Rattle.shared.specs.Shared.{settings-part, in-force-of, shared-formed, Area}
+use Rattle.shared.specs.Shared.{settings-part, in-force-of, last-of, shared-formed, Area, Holds}
 use Rattle.region.specs.Region.{session-of, region-formed, Good}
-use Rattle.table.specs.Table.{shared-area, regions, decode, table-formed, Table}
+use Rattle.table.specs.Table.{shared-area, regions, decode, table-formed, Table, Becomes}
 
 -- the region of session s, and the table with ys for it, as lending `&mut table[a..a + 1024]` has them
 abbrev pub part : List ℕ → ℕ → List ℕ
@@ -92,3 +93,113 @@ module _ (t : List ℕ) where
   pub formed-ends : (s : ℕ) → 4 ≤ s → formed-from s ≡ formed-from 0 → true ≡ formed-from 0
   formed-ends s h i =
       ap (all (λ (b : Bool). b)) (sym (drop-of-length-le (regions region-formed t) {i = s} (rw (length-regions region-formed t) h))) ∙ i
+
+-- ==== what makes a table, and what it means
+
+pub table-of : (t : List ℕ) → table-least ≤ length t → shared-formed (shared-area t) ≡ true → all (λ (b : Bool). b) (regions region-formed t) ≡ true → Table t
+unfolding table-formed
+table-of t h a b = record { size = h; formed = and-eq-true-iff (shared-formed (shared-area t)) (all (λ (b : Bool). b) (regions region-formed t)) .1 (a, b) }
+
+pub table-means : (t payload x : List ℕ) (n : ℕ) (ss : List Session) → Holds payload x n (shared-area t) → regions session-of t ≡ ss
+    → decode t ≡ record { settings = settings-of payload; in-force = x; last = n; sessions = ss; events = 0 }
+unfolding decode
+table-means t payload x n ss h e = λ i. record {
+  settings = settings-of (h .settings i);
+  in-force = h .in-force i;
+  last = h .last i;
+  sessions = e i;
+  events = 0;
+}
+
+-- what is shared, as the table means it
+pub holds-as-before : (t t′ : List ℕ) → Table t → shared-area t′ ≡ shared-area t → Holds (settings-part (shared-area t)) (in-force-of (shared-area t)) (last-of (shared-area t)) (shared-area t′)
+holds-as-before t t′ h e = record {
+  area = subst Area (sym e) (shared-good t h);
+  settings = ap settings-part e;
+  in-force = ap in-force-of e;
+  last = ap last-of e;
+}
+
+-- ==== a region was replaced
+
+module _ (t : List ℕ) (s : ℕ) (ys : List ℕ) (long : table-least ≤ length t) (h : s < 4) (len : length ys ≡ 1_024) where
+  abbrev at : ℕ
+  at = 1_024 + s * 1_024
+
+  fits : at + (at + 1_024 - at) ≤ length t
+  fits = omega (arith, part-size s)
+
+  len-part : length ys ≡ at + 1_024 - at
+  len-part = len ∙ sym (part-size s)
+
+  pub put-size : length (put t s ys) ≡ length t
+  put-size = same-len-mid at (at + 1_024 - at) t ys (len ∙ sym (length-part t s long h))
+
+  pub put-past : drop table-least (put t s ys) ≡ drop table-least t
+  put-past = drop-after t ys at (at + 1_024 - at) table-least len-part fits (omega (arith, part-size s))
+
+  pub put-shared : shared-area (put t s ys) ≡ shared-area t
+  put-shared = area-before at (at + 1_024 - at) t ys len-part fits 0 1_024 (omega arith)
+
+  pub put-regions : {A : Type 0} (f : List ℕ → A) → regions f (put t s ys) ≡ set (regions f t) s (f ys)
+  put-regions f = part-put f 1_024 1_024 4 s t ys len (omega arith)
+
+-- ==== what is shared was replaced
+
+abbrev pub front : List ℕ → List ℕ → List ℕ
+front t ys = putMid 0 1_024 t ys
+
+module _ (t ys : List ℕ) (long : table-least ≤ length t) (len : length ys ≡ 1_024) where
+  front-fits : 0 + 1_024 ≤ length t
+  front-fits = omega arith
+
+  pub front-size : length (front t ys) ≡ length t
+  front-size = same-len-mid 0 1_024 t ys (len ∙ sym (length-shared t long))
+
+  pub front-past : drop table-least (front t ys) ≡ drop table-least t
+  front-past = drop-after t ys 0 1_024 table-least len front-fits (lit≤ tt)
+
+  pub front-shared : shared-area (front t ys) ≡ ys
+  front-shared = area-same 0 1_024 t ys len front-fits
+
+  pub front-regions : {A : Type 0} (f : List ℕ → A) → regions f (front t ys) ≡ regions f t
+  front-regions f = ap (cells f 1_024 4) (drop-after t ys 0 1_024 1_024 len front-fits (lit≤ tt))
+
+-- ==== a table whose region or shared area was replaced by a good one is a table
+
+all-set : (l : List Bool) (s : ℕ) → all (λ (b : Bool). b) l ≡ true → all (λ (b : Bool). b) (set l s true) ≡ true
+all-set [] s e = refl
+all-set (x ∷ l) zero e = and-eq-true-iff x (all (λ (b : Bool). b) l) .0 e .1
+all-set (x ∷ l) (suc s) e =
+    let p = and-eq-true-iff x (all (λ (b : Bool). b) l) .0 e in
+    and-eq-true-iff x (all (λ (b : Bool). b) (set l s true)) .1 (p .0, all-set l s (p .1))
+
+pub put-table : (t : List ℕ) (s : ℕ) (r : List ℕ) → Table t → s < 4 → Good r → Table (put t s r)
+put-table t s r h b g =
+    let l = h .size in
+    let n = g .size in
+    table-of (put t s r) (rw (put-size t s r l b n) l) (ap shared-formed (put-shared t s r l b n) ∙ formed-parts t h .0)
+    (ap (all (λ (b : Bool). b)) (put-regions t s r l b n region-formed ∙ ap (set (regions region-formed t) s) (g .formed))
+    ∙ all-set (regions region-formed t) s (formed-parts t h .1))
+
+pub front-table : (t a : List ℕ) → Table t → Area a → Table (front t a)
+front-table t a h g =
+    let l = h .size in
+    let n = g .size in
+    table-of (front t a) (rw (front-size t a l n) l) (ap shared-formed (front-shared t a l n) ∙ g .formed)
+    (ap (all (λ (b : Bool). b)) (front-regions t a l n region-formed) ∙ formed-parts t h .1)
+
+-- session s becomes what r means, and nothing else changes
+pub put-means : (t : List ℕ) (s : ℕ) (r : List ℕ) (ss : List Session) → Table t → s < 4 → Good r → set (regions session-of t) s (session-of r) ≡ ss
+    → Becomes t (record { settings = decode t .settings; in-force = decode t .in-force; last = decode t .last; sessions = ss; events = 0 }) (put t s r)
+unfolding decode
+put-means t s r ss h b g e =
+    let l = h .size in
+    let n = g .size in
+    record {
+      table = put-table t s r h b g;
+      size = put-size t s r l b n;
+      past = put-past t s r l b n;
+      meaning = table-means (put t s r) (settings-part (shared-area t)) (in-force-of (shared-area t)) (last-of (shared-area t)) ss
+          (holds-as-before t (put t s r) h (put-shared t s r l b n)) (put-regions t s r l b n session-of ∙ e);
+    }

@@ -1,12 +1,14 @@
 // The lent table: what all sessions share, and the region of each.
 ghost use mathlib.Core.Path.{_≡_};
 ghost use mathlib.Core.Bool.{true};
+ghost use mathlib.Core.List.{[], _∷_};
 ghost use Prim.Native.Nat.{_+_, _≤_, _<_};
 ghost use lib.ListN.{length};
+ghost use Rattle.model.specs.Records.{settings-of};
 ghost use Rattle.model.specs.Session.{is-closed as is-closed-session};
-ghost use Rattle.model.specs.World.{session-at};
+ghost use Rattle.model.specs.World.{session-at, begun, uncounted, opens, hangs-up, ticks, next};
 ghost use Rattle.shared.specs.Shared.{settings-part};
-ghost use Rattle.table.specs.Table.{shared-area, decode, table-formed, Table};
+ghost use Rattle.table.specs.Table.{shared-area, decode, table-formed, Table, Becomes, Went};
 
 // ---- reading
 
@@ -59,4 +61,68 @@ pub fn settings(table: &[u8]) -> &[u8]
     ensures { λ r. ⌜ (now r ≡ settings-part (shared-area (now (table .entry)))) × (length (now r) ≡ 33) ⌝ }
 {
     shared::settings(&table[0..1024])
+}
+
+// ---- a start
+
+// A start with these settings: it becomes a table, whatever the bytes were.
+pub fn start(table: &mut [u8], payload: &[u8])
+    requires { ⌜ (16_384 ≤ length (now table)) × (length (now payload) ≡ 33) ⌝ }
+    ensures { λ _. ⌜ Becomes (now (table .entry)) (begun (settings-of (now (payload .entry))) 0) (now (table .exit)) ⌝ }
+{
+    let mut s = 0;
+    while s < 4 {
+        let a = 1024 + s * 1024;
+        region::start(&mut table[a..a + 1024]);
+        s += 1;
+    }
+    shared::start(&mut table[0..1024], payload);
+}
+
+// ---- an opening, a hang-up
+
+// Session s, which is closed, is opened.
+pub fn open(table: &mut [u8], s: u64)
+    requires { ⌜ Table (now table) × (s < 4) × (is-closed-session (session-at (decode (now table)) s) ≡ true) ⌝ }
+    ensures { λ _. ⌜ Becomes (now (table .entry)) (uncounted (next (decode (now (table .entry))) (opens s))) (now (table .exit)) ⌝ }
+{
+    let a = 1024 + s as usize * 1024;
+    region::open(&mut table[a..a + 1024]);
+}
+
+// Session s is hung up.
+pub fn hang_up(table: &mut [u8], s: u64)
+    requires { ⌜ Table (now table) × (s < 4) ⌝ }
+    ensures { λ _. ⌜ Becomes (now (table .entry)) (uncounted (next (decode (now (table .entry))) (hangs-up s))) (now (table .exit)) ⌝ }
+{
+    let a = 1024 + s as usize * 1024;
+    region::hang_up(&mut table[a..a + 1024]);
+}
+
+// ---- what comes over all sessions
+
+// The settings' payload, apart from the table: a region of that is lent on together with them.
+fn settings_apart(table: &[u8]) -> [u8; 33]
+    requires { ⌜ Table (now table) ⌝ }
+    ensures { λ r. ⌜ settings-of r ≡ decode (now (table .entry)) .settings ⌝ }
+{
+    let mut bytes = [0; 33];
+    text::copy(settings(table), &mut bytes, 0);
+    bytes
+}
+
+// A tick.
+pub fn tick(table: &mut [u8], out: &mut [u8], at: usize) -> usize
+    requires { ⌜ Table (now table) × (at + 1_888 ≤ length (now out)) ⌝ }
+    ensures { λ r. ⌜ (r ≤ at + 1_888) × Went (now (table .entry)) (now (out .entry)) at (ticks ∷ []) r (now (table .exit)) (now (out .exit)) ⌝ }
+{
+    let settings = settings_apart(table);
+    let mut to = at;
+    let mut s: u64 = 0;
+    while s < 4 {
+        let a = 1024 + s as usize * 1024;
+        to = region::tick(&mut table[a..a + 1024], out, to, s, &settings);
+        s += 1;
+    }
+    to
 }

@@ -1,0 +1,40 @@
+-- `table::open` meets its contract. Assumes nothing.
+use borrow.Author.Needs.{needs}
+use mathlib.Core.Path.{_≡_, refl, sym, ap, _∙_}
+use Rattle.model.specs.Session.{is-closed}
+use Rattle.model.specs.World.{opens}
+use Rattle.model.specs.Steps.{opening}
+use Rattle.region.specs.Region.{session-of}
+use Rattle.table.specs.Table.{decode}
+use Rattle.table.proofs.Regions.{part, part-good, part-is}
+use Rattle.table.proofs.Alone.{opens-seen, became-alone, opened-fresh}
+use Rattle.table.proofs.open.Statement.{statement}
+use Rattle.table.proofs.open.Tie as tie
+
+open-requires : tie.Need-open-requires
+open-requires c κs =
+    let s = c .before .before in
+    part-good (s .args .table .now) (s .args .s) (s .pre .0) (s .pre .1)
+
+returns : tie.Need-returns
+returns c =
+    let k = c .before .before in
+    let s = k .before .before .before in
+    let t = s .args .table .now in
+    let n = s .args .s in
+    became-alone t n (opens n) opening (decode t .settings) (s .pre .0) (s .pre .1) (opens-seen n) refl (k .«open» .last .0) (k .«open» .ensures .0)
+    (k .«open» .ensures .1 ∙ opened-fresh (decode t .settings) (session-of (part t n)) (ap is-closed (sym (part-is t n (s .pre .1))) ∙ s .pre .2))
+
+pub open-spec : {M : Type 1} → statement M
+open-spec =
+    tie.close
+    (tie.spec
+    (λ c. search needs)
+    (λ c. search needs)
+    (λ c. search needs)
+    (λ c. search needs)
+    (λ c. search needs)
+    (λ c. search needs)
+    open-requires
+    (λ c. search needs)
+    returns)
