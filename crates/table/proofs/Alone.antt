@@ -1,7 +1,6 @@
 -- A moment that one session sees, and the others pass over: its step is the world's. Assumes nothing.
 use mathlib.Core.Path.{_≡_, refl, sym, ap, ap₂, _∙_}
-use Prim.Native.Nat.{ℕ, zero, suc, _+_, _≤_, _<_}
-use native.Mathlib.Nat.{add-zero}
+use Prim.Native.Nat.{ℕ, zero, suc, _+_, _<_}
 use native.Mathlib.Omega.{arith}
 use mathlib.Core.Bool.{Bool, true, false, cond, false≢true}
 use mathlib.Core.List.{List, [], _∷_, _++_, append-nil}
@@ -13,11 +12,12 @@ use Rattle.model.specs.Runs.{Piece}
 use Rattle.model.specs.Session.{Session, closed, opened, started, fresh, is-closed, Emission}
 use Rattle.model.specs.Steps.{Local, opening, hang-up, receives, elsewhere, step}
 use Rattle.model.specs.Row.{Tagged, tag, row, said}
-use Rattle.model.specs.World.{World, uncounted, session-at, Moment, opens, hangs-up, hears, local, each, moved, next, emits}
+use Rattle.model.specs.World.{World, uncounted, session-at, Moment, opens, hangs-up, hears, local, each, moved, next, emits, after, emitted}
 use Rattle.model.specs.Calls.{output}
 use Rattle.text.specs.Put.{Put}
-use Rattle.text.proofs.Puts.{put-as}
+use Rattle.text.proofs.Puts.{put-as, put-then}
 use Rattle.region.specs.Region.{session-of, Good, Steps}
+use Rattle.region.proofs.Outputs.{output-append}
 use Rattle.table.specs.Table.{regions, decode, Table, Becomes, Went}
 use Rattle.table.proofs.Regions.{part, put, part-is, length-regions, put-means}
 
@@ -68,6 +68,11 @@ opens-seen s = record { here = choice s opening; others = other s opening; moves
 pub hangs-up-seen : (s : ℕ) → Sees (hangs-up s) s hang-up
 hangs-up-seen s = record { here = choice s hang-up; others = other s hang-up; moves = λ w. refl }
 
+-- (what it hears raises no count of events)
+pub hears-uncounted : (t : List ℕ) (s : ℕ) (p : Piece) → next (decode t) (hears s p) .events ≡ 0
+unfolding decode
+hears-uncounted t s p = refl
+
 pub hears-seen : (s : ℕ) (p : Piece) → Sees (hears s p) s (receives p)
 hears-seen s p = record { here = choice s (receives p); others = other s (receives p); moves = λ w. refl }
 
@@ -81,6 +86,23 @@ passes st (started idle run subs) = refl
 pub went-one : {t o t′ o′ : List ℕ} {at to : ℕ} {m : Moment} → Becomes t (uncounted (next (decode t) m)) t′ → Put o at (output (emits (decode t) m)) to o′
     → Went t o at (m ∷ []) to t′ o′
 went-one {t} {m = m} b p = record { table = b; bytes = put-as (ap output (sym (append-nil (emits (decode t) m)))) p }
+
+-- and then others: the first raised no count of events, so that the table, which keeps none, tells the others all
+pub went-then : {t o t₁ o₁ t₂ o₂ : List ℕ} {at to₁ to₂ : ℕ} {m : Moment} {ms : List Moment} → next (decode t) m .events ≡ 0
+    → Went t o at (m ∷ []) to₁ t₁ o₁ → Went t₁ o₁ to₁ ms to₂ t₂ o₂ → Went t o at (m ∷ ms) to₂ t₂ o₂
+went-then {t} {t₁ = t₁} {m = m} {ms = ms} e a b =
+    let w = next (decode t) m in
+    let same : decode t₁ ≡ w = a .table .meaning ∙ (λ i. record { settings = w .settings; in-force = w .in-force; last = w .last; sessions = w .sessions; events = sym e i }) in
+    record {
+      table = record {
+        table = b .table .table;
+        size = b .table .size ∙ a .table .size;
+        past = b .table .past ∙ a .table .past;
+        meaning = b .table .meaning ∙ ap (λ (z : World). uncounted (after z ms)) same;
+      };
+      bytes = put-as (sym (output-append (emits (decode t) m) (emitted w ms)))
+          (put-then (put-as (ap output (append-nil (emits (decode t) m))) (a .bytes)) (put-as (ap (λ (z : World). output (emitted z ms)) same) (b .bytes)));
+    }
 
 -- ==== the region of session s becomes what the step leaves: the table has gone through the moment
 

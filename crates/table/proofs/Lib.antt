@@ -2,3 +2,4 @@ pub mod Regions
 pub mod Starts
 pub mod Alone
 pub mod Walks
+pub mod Events

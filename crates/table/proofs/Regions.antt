@@ -6,7 +6,7 @@ use native.Mathlib.Omega.{arith}
 use mathlib.Core.Bool.{Bool, true, false, _&&_, and-eq-true-iff}
 use mathlib.Core.List.{List, [], _∷_}
 use lib.Dec.{lit≤}
-use lib.ListN.{length, getD, set, take, drop, length-drop, drop-of-length-le}
+use lib.ListN.{length, getD, set, drop, replicate, length-drop, drop-of-length-le}
 use lib.Seq.{length-take-le}
 use borrow.Rule.Slice.PartMut.{putMid, midOf, mid-len, same-len-mid}
 use Rattle.model.specs.Limits.{table-least}
@@ -203,3 +203,9 @@ put-means t s r ss h b g e =
       meaning = table-means (put t s r) (settings-part (shared-area t)) (in-force-of (shared-area t)) (last-of (shared-area t)) ss
           (holds-as-before t (put t s r) h (put-shared t s r l b n)) (put-regions t s r l b n session-of ∙ e);
     }
+
+-- ==== a table of zeros is none that a start has made
+
+pub zeros-not-formed : table-formed (replicate 16_384 0) ≡ false
+unfolding table-formed shared-formed
+zeros-not-formed = refl

@@ -1,6 +1,6 @@
 -- A start, region by region. Assumes nothing.
 use mathlib.Core.Path.{_≡_, refl, sym, ap, subst, _∙_}
-use Prim.Native.Nat.{ℕ, zero, suc, _+_, _≤_, _<_}
+use Prim.Native.Nat.{ℕ, _+_, _≤_, _<_}
 use native.Mathlib.Numerals.{add-one}
 use native.Mathlib.Omega.{arith}
 use mathlib.Core.Bool.{Bool, true}
@@ -14,8 +14,8 @@ use Rattle.model.specs.Session.{closed}
 use Rattle.model.specs.World.{begun}
 use Rattle.shared.specs.Shared.{Holds}
 use Rattle.region.specs.Region.{session-of, region-formed, Good}
-use Rattle.table.specs.Table.{shared-area, regions, Becomes}
-use Rattle.table.proofs.Regions.{length-regions, table-of, table-means, put, put-size, put-past, put-shared, put-regions, front, front-size, front-past, front-shared, front-regions}
+use Rattle.table.specs.Table.{regions, Becomes}
+use Rattle.table.proofs.Regions.{length-regions, table-of, table-means, put, put-size, put-past, put-regions, front, front-size, front-past, front-shared, front-regions}
 
 -- the first s of a list are x: one more, and all of them
 module _ {A : Type 0} (x : A) where

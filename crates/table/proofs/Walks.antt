@@ -1,9 +1,9 @@
 -- A walk over the sessions: a moment that comes over all of them, region by region. Assumes nothing.
 use mathlib.Core.Path.{_≡_, refl, sym, ap, ap₂, subst, _∙_}
-use Prim.Native.Nat.{ℕ, zero, suc, _+_, _^_, _≤_, _<_}
+use Prim.Native.Nat.{ℕ, suc, _+_, _^_, _≤_, _<_}
 use native.Mathlib.Numerals.{add-one}
 use native.Mathlib.Omega.{arith}
-use mathlib.Core.Bool.{Bool, true, false, cond}
+use mathlib.Core.Bool.{cond}
 use mathlib.Core.List.{List, [], _∷_, _++_, append-assoc, append-nil}
 use lib.ListN.{length, getD, set, take, drop, drop-of-length-le}
 use lib.Seq.{take-all, take-suc-set, drop-cons, drop-set-lt}
@@ -16,7 +16,7 @@ use Rattle.model.specs.World.{uncounted, Moment, each, moved, emits}
 use Rattle.model.specs.Calls.{output, takers}
 use Rattle.text.specs.Put.{Put}
 use Rattle.text.proofs.Puts.{Left, left-all, left-put, left-none, left-as}
-use Rattle.region.specs.Region.{session-of, Good, out-bytes, Steps}
+use Rattle.region.specs.Region.{session-of, out-bytes, Steps}
 use Rattle.region.proofs.Outputs.{output-append}
 use Rattle.shared.specs.Shared.{settings-part, in-force-of, last-of}
 use Rattle.table.specs.Table.{shared-area, regions, decode, Table, Becomes}
@@ -24,26 +24,26 @@ use Rattle.table.proofs.Regions.{part, put, region-at, length-regions, 
 
 -- ==== the sessions from s on, one later: l are the sessions, of which x stands at s; y takes its place
 
-module _ (act : ℕ → Session → Session × List Emission) (l : List Session) (s : ℕ) (x y : Session) (h : s < length l) (at-s : getD l s closed ≡ x) where
+module _ (l : List Session) (s : ℕ) (x y : Session) (h : s < length l) (at-s : getD l s closed ≡ x) where
   behind : drop (s + 1) (set l s y) ≡ drop (suc s) l
   behind = ap (λ (n : ℕ). drop n (set l s y)) (add-one s) ∙ drop-set-lt (suc s) l s y (omega arith)
 
   from-s : drop s l ≡ x ∷ drop (suc s) l
   from-s = drop-cons l s closed h ∙ ap (λ (z : Session). z ∷ drop (suc s) l) at-s
 
-  sessions-next : y ≡ (act s x) .0 → take (s + 1) (set l s y) ++ row act (s + 1) (drop (s + 1) (set l s y)) ≡ take s l ++ row act s (drop s l)
-  sessions-next e =
+  sessions-next : (act : ℕ → Session → Session × List Emission) → y ≡ (act s x) .0 → take (s + 1) (set l s y) ++ row act (s + 1) (drop (s + 1) (set l s y)) ≡ take s l ++ row act s (drop s l)
+  sessions-next act e =
       ap₂ _++_ (ap (λ (n : ℕ). take n (set l s y)) (add-one s) ∙ take-suc-set l s y h) (ap₂ (row act) (add-one s) behind)
       ∙ append-assoc (take s l) (y ∷ []) (row act (suc s) (drop (suc s) l))
       ∙ ap (λ (z : Session). take s l ++ (z ∷ row act (suc s) (drop (suc s) l))) e
       ∙ ap (λ (z : List Session). take s l ++ row act s z) (sym from-s)
 
-  output-next : output (said act s (drop s l)) ≡ out-bytes s ((act s x) .1) ++ output (said act (s + 1) (drop (s + 1) (set l s y)))
-  output-next =
+  output-next : (act : ℕ → Session → Session × List Emission) → output (said act s (drop s l)) ≡ out-bytes s ((act s x) .1) ++ output (said act (s + 1) (drop (s + 1) (set l s y)))
+  output-next act =
       ap (λ (z : List Session). output (said act s z)) from-s ∙ output-append (tag s ((act s x) .1)) (said act (suc s) (drop (suc s) l))
       ∙ ap (λ (z : List ℕ). out-bytes s ((act s x) .1) ++ z) (sym (ap output (ap₂ (said act) (add-one s) behind)))
 
-  takers-next : (kind : ℕ) → takers kind s (drop s l) ≡ cond (takes kind x) (2 ^ s) 0 + takers kind (s + 1) (drop (s + 1) (set l s y))
+  pub takers-next : (kind : ℕ) → takers kind s (drop s l) ≡ cond (takes kind x) (2 ^ s) 0 + takers kind (s + 1) (drop (s + 1) (set l s y))
   takers-next kind =
       ap (takers kind s) from-s ∙ ap (λ (n : ℕ). cond (takes kind x) (2 ^ s) 0 + n) (sym (ap₂ (takers kind) (add-one s) behind))
 
@@ -80,9 +80,9 @@ module _ (act : ℕ → Session → Session × List Emission) where
           shared = put-shared t s r k h n ∙ w .shared;
           sessions =
               ap (λ (l : List Session). take (s + 1) l ++ row act (s + 1) (drop (s + 1) l)) new
-              ∙ sessions-next act ss s x (session-of r) fits is (g .session) ∙ w .sessions;
+              ∙ sessions-next ss s x (session-of r) fits is act (g .session) ∙ w .sessions;
           bytes = left-as (ap (λ (l : List Session). output (said act (s + 1) (drop (s + 1) l))) (sym new))
-              (left-put (left-as (output-next act ss s x (session-of r) fits is) (w .bytes)) (g .bytes));
+              (left-put (left-as (output-next ss s x (session-of r) fits is act) (w .bytes)) (g .bytes));
         }
 
     -- nothing is left

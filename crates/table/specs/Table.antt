@@ -3,12 +3,13 @@
 use mathlib.Core.Path.{_≡_}
 use Prim.Native.Nat.{ℕ, _≤_}
 use mathlib.Core.Bool.{Bool, true, _&&_}
-use mathlib.Core.List.{List, []}
+use mathlib.Core.List.{List}
 use lib.ListN.{length, take, drop}
 use Rattle.model.specs.Limits.{session-count, table-least}
 use Rattle.model.specs.Bytes.{all}
 use Rattle.model.specs.Records.{settings-of}
-use Rattle.model.specs.World.{World, uncounted, Moment, after, emitted}
+use Rattle.model.specs.Events.{Event}
+use Rattle.model.specs.World.{World, uncounted, Moment, in-force-after, last-after, after, emitted}
 use Rattle.model.specs.Calls.{output}
 use Rattle.text.specs.Put.{Put}
 use Rattle.text.specs.Cells.{cells}
@@ -55,6 +56,16 @@ pub record Becomes (t : List ℕ) (w : World) (t′ : List ℕ) : Type 0 where
   pub size : length t′ ≡ length t
   pub past : drop table-least t′ ≡ drop table-least t
   pub meaning : decode t′ ≡ w
+
+-- 01, "Frames we write" and "House records": what an event leaves to all sessions, besides its notices
+abbrev pub noted : World → Event → World
+noted w e = record {
+  settings = w .settings;
+  in-force = in-force-after (w .in-force) e;
+  last = last-after (w .last) e;
+  sessions = w .sessions;
+  events = w .events;
+}
 
 -- the moments have passed, and what they emit was written from `at` on
 pub record Went (t o : List ℕ) (at : ℕ) (ms : List Moment) (next : ℕ) (t′ o′ : List ℕ) : Type 0 where

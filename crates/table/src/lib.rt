@@ -1,14 +1,17 @@
 // The lent table: what all sessions share, and the region of each.
 ghost use mathlib.Core.Path.{_≡_};
-ghost use mathlib.Core.Bool.{true};
+ghost use mathlib.Core.Bool.{true, cond};
 ghost use mathlib.Core.List.{[], _∷_};
-ghost use Prim.Native.Nat.{_+_, _≤_, _<_};
+ghost use Prim.Native.Nat.{_+_, _^_, _≤_, _<_};
 ghost use lib.ListN.{length};
 ghost use Rattle.model.specs.Records.{settings-of};
 ghost use Rattle.model.specs.Session.{is-closed as is-closed-session};
-ghost use Rattle.model.specs.World.{session-at, begun, uncounted, opens, hangs-up, ticks, next};
+ghost use Rattle.model.specs.World.{session-at, begun, uncounted, opens, hangs-up, ticks, happens as happens-event, moved, next, emits};
+ghost use Rattle.model.specs.Calls.{output, takers};
+ghost use Rattle.text.specs.Put.{Put};
+ghost use Rattle.notices.specs.Places.{place-size, event-in};
 ghost use Rattle.shared.specs.Shared.{settings-part};
-ghost use Rattle.table.specs.Table.{shared-area, decode, table-formed, Table, Becomes, Went};
+ghost use Rattle.table.specs.Table.{shared-area, decode, table-formed, Table, Becomes, noted, Went};
 
 // ---- reading
 
@@ -125,4 +128,68 @@ pub fn tick(table: &mut [u8], out: &mut [u8], at: usize) -> usize
         s += 1;
     }
     to
+}
+
+// What an event did: the place behind what went out, and the sum of 2^s over the sessions s that took it.
+pub struct Told {
+    pub at: usize,
+    pub taken: u64,
+}
+
+// What session s adds to that sum.
+fn share(taken: bool, s: u64) -> u64
+    requires { ⌜ s < 4 ⌝ }
+    ensures { λ r. ⌜ (r ≡ cond taken (2 ^ s) 0) × (r ≤ 8) ⌝ }
+{
+    if !taken {
+        return 0;
+    }
+    match s {
+        0 => 1,
+        1 => 2,
+        2 => 4,
+        _ => 8,
+    }
+}
+
+// An event of that kind, whose notice is in `place`, to every session.
+fn tell(table: &mut [u8], out: &mut [u8], at: usize, kind: usize, place: &[u8]) -> Told
+    requires { ⌜ Table (now table) × (at + 944 ≤ length (now out)) × (kind < 2) × (length (now place) ≡ place-size kind) ⌝ }
+    ensures { λ r. ⌜ (r .at ≤ at + 944) × (r .taken ≡ takers kind 0 (decode (now (table .entry)) .sessions)) × Becomes (now (table .entry)) (uncounted (moved (decode (now (table .entry))) (happens-event (event-in kind (now (place .entry)))))) (now (table .exit)) × Put (now (out .entry)) at (output (emits (decode (now (table .entry))) (happens-event (event-in kind (now (place .entry)))))) (r .at) (now (out .exit)) ⌝ }
+{
+    let settings = settings_apart(table);
+    let mut to = at;
+    let mut taken: u64 = 0;
+    let mut s: u64 = 0;
+    while s < 4 {
+        let a = 1024 + s as usize * 1024;
+        let told = region::event(&mut table[a..a + 1024], out, to, s, &settings, kind, place);
+        to = told.at;
+        taken += share(told.taken, s);
+        s += 1;
+    }
+    Told { at: to, taken }
+}
+
+// What the event leaves to all sessions: the identifier in force, or the last number.
+fn note(table: &mut [u8], kind: usize, place: &[u8])
+    requires { ⌜ Table (now table) × (kind < 2) × (length (now place) ≡ place-size kind) ⌝ }
+    ensures { λ _. ⌜ Becomes (now (table .entry)) (noted (decode (now (table .entry))) (event-in kind (now (place .entry)))) (now (table .exit)) ⌝ }
+{
+    if kind == message::IDENTIFIERS {
+        shared::put_in_force(&mut table[0..1024], place);
+        return;
+    }
+    let number = text::little(place, 106, 4);
+    shared::put_last(&mut table[0..1024], number);
+}
+
+// An event of that kind, whose notice is in `place`.
+pub fn happens(table: &mut [u8], out: &mut [u8], at: usize, kind: usize, place: &[u8]) -> Told
+    requires { ⌜ Table (now table) × (at + 944 ≤ length (now out)) × (kind < 2) × (length (now place) ≡ place-size kind) ⌝ }
+    ensures { λ r. ⌜ (r .at ≤ at + 944) × Went (now (table .entry)) (now (out .entry)) at (happens-event (event-in kind (now (place .entry))) ∷ []) (r .at) (now (table .exit)) (now (out .exit)) × (r .taken ≡ takers kind 0 (decode (now (table .entry)) .sessions)) × (r .taken < 16) ⌝ }
+{
+    let told = tell(table, out, at, kind, place);
+    note(table, kind, place);
+    told
 }

@@ -1,6 +1,6 @@
 -- `table::is_closed` meets its contract. Assumes nothing.
 use borrow.Author.Needs.{needs}
-use mathlib.Core.Path.{_≡_, sym, ap, _∙_}
+use mathlib.Core.Path.{sym, ap, _∙_}
 use Rattle.model.specs.Session.{is-closed}
 use Rattle.table.proofs.Regions.{part-good, part-is}
 use Rattle.table.proofs.is_closed.Statement.{statement}

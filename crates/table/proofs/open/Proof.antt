@@ -1,6 +1,6 @@
 -- `table::open` meets its contract. Assumes nothing.
 use borrow.Author.Needs.{needs}
-use mathlib.Core.Path.{_≡_, refl, sym, ap, _∙_}
+use mathlib.Core.Path.{refl, sym, ap, _∙_}
 use Rattle.model.specs.Session.{is-closed}
 use Rattle.model.specs.World.{opens}
 use Rattle.model.specs.Steps.{opening}

@@ -1,6 +1,5 @@
 -- `table::start` meets its contract. The invariant: the sessions so far are closed. Assumes nothing.
 use borrow.Author.Needs.{needs}
-use native.Mathlib.Omega.{arith}
 use Prim.Native.Nat.{_-_}
 use Rattle.table.proofs.Starts.{Closed, closed-none, closed-next, closed-all}
 use Rattle.table.proofs.start.Statement.{statement}

@@ -1,7 +1,6 @@
 -- `table::tick` meets its contract. The invariant: the walk over the sessions, and the room that is left. Assumes nothing.
 use borrow.Author.Needs.{needs}
-use mathlib.Core.Path.{_≡_, refl}
-use Prim.Native.Nat.{ℕ, _+_, _-_, _*_, _≤_}
+use Prim.Native.Nat.{_+_, _-_, _*_, _≤_}
 use native.Mathlib.Omega.{arith}
 use Rattle.model.specs.Steps.{tick}
 use Rattle.model.specs.World.{ticks, each}

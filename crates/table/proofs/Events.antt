@@ -1,0 +1,102 @@
+-- An event: who takes it, and what it leaves to all sessions. Assumes nothing.
+use mathlib.Core.Path.{_≡_, sym, ap, subst, _∙_}
+use Prim.Native.Nat.{ℕ, suc, _+_, _*_, _^_, _≤_, _<_}
+use native.Mathlib.Nat.{add-zero, add-suc, suc-add, pow-suc}
+use native.Mathlib.Omega.{arith}
+use mathlib.Core.Bool.{Bool, true, false, cond}
+use mathlib.Core.List.{List, [], _∷_}
+use lib.ListN.{length, take, drop, drop-of-length-le}
+use Rattle.model.specs.Bytes.{little}
+use Rattle.model.specs.Records.{Settings, settings-of}
+use Rattle.model.specs.Session.{Session, closed}
+use Rattle.model.specs.Steps.{event, step, takes}
+use Rattle.model.specs.World.{World, happens, each}
+use Rattle.model.specs.Calls.{takers}
+use Rattle.frame.specs.Layout.{result-of}
+use Rattle.notices.specs.Places.{notice-in, event-in}
+use Rattle.shared.specs.Shared.{settings-part, in-force-of, last-of, Holds}
+use Rattle.region.specs.Region.{session-of, Good, Steps}
+use Rattle.table.specs.Table.{shared-area, regions, decode, Table, Becomes, noted}
+use Rattle.table.proofs.Regions.{part, put, region-at, length-regions, put-regions, front, front-size, front-past, front-shared, front-regions, front-table, table-means}
+use Rattle.table.proofs.Walks.{takers-next, steps-with}
+
+-- ==== who takes it
+
+at-most : (b : Bool) (n : ℕ) → cond b n 0 ≤ n
+at-most true n = omega arith
+at-most false n = omega arith
+
+takers-few : (kind s : ℕ) (xs : List Session) → takers kind s xs + 2 ^ s ≤ 2 ^ (s + length xs)
+takers-few kind s [] = rw add-zero (omega arith)
+takers-few kind s (x ∷ xs) =
+    let few = at-most (takes kind x) (2 ^ s) in
+    let rest : takers kind (suc s) xs + 2 ^ suc s ≤ 2 ^ (suc s + length xs) = takers-few kind (suc s) xs in
+    let twice : 2 ^ suc s ≡ 2 ^ s * 2 = pow-suc 2 s in
+    let far : 2 ^ (s + suc (length xs)) ≡ 2 ^ (suc s + length xs) = ap (λ (n : ℕ). 2 ^ n) (add-suc s (length xs) ∙ sym (suc-add s (length xs))) in
+    omega arith
+
+pub takers-below : (kind : ℕ) (t : List ℕ) → takers kind 0 (decode t .sessions) < 16
+unfolding decode
+takers-below kind t =
+    let f = takers-few kind 0 (regions session-of t) in
+    let e : 2 ^ (0 + length (regions session-of t)) ≡ 16 = ap (λ (n : ℕ). 2 ^ (0 + n)) (length-regions session-of t) in
+    omega arith
+
+-- a walk that adds them up: what is left to add is all of it
+pub taken-next : (kind : ℕ) (t r : List ℕ) (s taken share sum : ℕ) (b : Bool) → Table t → s < 4 → Good r → b ≡ takes kind (session-of (part t s))
+    → share ≡ cond b (2 ^ s) 0 → taken + takers kind s (drop s (regions session-of t)) ≡ sum
+    → taken + share + takers kind (s + 1) (drop (s + 1) (regions session-of (put t s r))) ≡ sum
+taken-next kind t r s taken share sum b h few g eb es e =
+    let next = takers-next (regions session-of t) s (session-of (part t s)) (session-of r)
+    (rw (length-regions session-of t) few) (region-at session-of t s closed few) kind in
+    let new = ap (λ (l : List Session). takers kind (s + 1) (drop (s + 1) l)) (put-regions t s r (h .size) few (g .size) session-of) in
+    let mine : share ≡ cond (takes kind (session-of (part t s))) (2 ^ s) 0 = es ∙ ap (λ (z : Bool). cond z (2 ^ s) 0) eb in
+    omega (arith, next, new, mine, e)
+
+pub taken-all : (kind : ℕ) (t : List ℕ) (s taken sum : ℕ) → 4 ≤ s → taken + takers kind s (drop s (regions session-of t)) ≡ sum → taken ≡ sum
+taken-all kind t s taken sum h e =
+    let n = length-regions session-of t in
+    sym (add-zero taken) ∙ ap (λ (l : List Session). taken + takers kind s l) (sym (drop-of-length-le (regions session-of t) {i = s} (omega arith))) ∙ e
+
+-- ==== a session's step
+
+pub event-steps : {r o o′ : List ℕ} {at to : ℕ} {st : Settings} (t₀ : List ℕ) (s kind : ℕ) (place : List ℕ) (x : Session) → st ≡ decode t₀ .settings
+    → Steps s (step st (event (notice-in kind place)) x) r o at to o′ → Steps s (each (decode t₀) (happens (event-in kind place)) s x) r o at to o′
+unfolding decode
+event-steps t₀ s kind place x e w = steps-with s (event (notice-in kind place)) x e w
+
+-- ==== what is left to all sessions
+
+front-means : (t a payload x : List ℕ) (n : ℕ) → Table t → Holds payload x n a
+    → Becomes t (record { settings = settings-of payload; in-force = x; last = n; sessions = decode t .sessions; events = 0 }) (front t a)
+unfolding decode
+front-means t a payload x n h k =
+    let l = h .size in
+    let s = k .area .size in
+    record {
+      table = front-table t a h (k .area);
+      size = front-size t a l s;
+      past = front-past t a l s;
+      meaning = table-means (front t a) payload x n (regions session-of t) (subst (Holds payload x n) (sym (front-shared t a l s)) k) (front-regions t a l s session-of);
+    }
+
+module _ (t a : List ℕ) (kind : ℕ) (place : List ℕ) (h : Table t) where
+  pub noted-identifier : kind ≡ 0 → Holds (settings-part (shared-area t)) place (last-of (shared-area t)) a → Becomes t (noted (decode t) (event-in kind place)) (front t a)
+  unfolding decode
+  noted-identifier e k = rw e (front-means t a _ _ _ h k)
+
+  pub noted-number : (n : ℕ) → kind ≡ 1 → n ≡ little (take 4 (drop 106 place)) → Holds (settings-part (shared-area t)) (in-force-of (shared-area t)) n a
+      → Becomes t (noted (decode t) (event-in kind place)) (front t a)
+  unfolding decode result-of
+  noted-number n e f k =
+      rw e (front-means t a _ _ _ h (subst (λ (m : ℕ). Holds (settings-part (shared-area t)) (in-force-of (shared-area t)) m a) f k))
+
+-- ==== one after another
+
+pub becomes-then : {t t₁ t₂ : List ℕ} {w : World} (f : World → World) → Becomes t w t₁ → Becomes t₁ (f (decode t₁)) t₂ → Becomes t (f w) t₂
+becomes-then f a b = record {
+  table = b .table;
+  size = b .size ∙ a .size;
+  past = b .past ∙ a .past;
+  meaning = b .meaning ∙ ap f (a .meaning);
+}

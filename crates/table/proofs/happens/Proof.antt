@@ -1,0 +1,25 @@
+-- `table::happens` meets its contract. Assumes nothing.
+use borrow.Author.Needs.{needs}
+use Rattle.model.specs.World.{World}
+use Rattle.notices.specs.Places.{event-in}
+use Rattle.table.specs.Table.{noted}
+use Rattle.table.proofs.Alone.{went-one}
+use Rattle.table.proofs.Events.{takers-below, becomes-then}
+use Rattle.table.proofs.happens.Statement.{statement}
+use Rattle.table.proofs.happens.Tie as tie
+
+returns : tie.Need-returns
+returns c =
+    let n = c .before .before in
+    let k = n .before .before .before .before .before .before in
+    let a = k .before .before .before .before .before .before .args in
+    let e = k .tell .ensures in
+    let took = e .1 in (
+      e .0,
+      went-one (becomes-then (λ (w : World). noted w (event-in (a .kind) (a .place .now))) (e .2) (n .note .ensures)) (e .3),
+      took,
+      rw took (takers-below (a .kind) (a .table .now)),
+    )
+
+pub happens-spec : {M : Type 1} → statement M
+happens-spec = tie.close (tie.spec (λ c κs. search needs) (λ c κs. search needs) (λ c. search needs) (λ c. search needs) returns)
