@@ -1,0 +1,3 @@
+pub mod Calls
+pub mod Determined
+pub mod Traces
