@@ -17,7 +17,8 @@ use Rattle.model.specs.World.{World, uncounted, Moment, begins, opens, hangs-up
 use Rattle.model.specs.Calls.{Call, start, open-session, hang-up-session, moments, output, consumed-of, taken-of, answered, step}
 use Rattle.model.specs.Row.{Tagged}
 use Rattle.model.proofs.RowLaws.{said-none}
-use Rattle.table.specs.Table.{decode, Becomes, Went}
+use Rattle.text.proofs.Puts.{put-nothing}
+use Rattle.table.specs.Table.{decode, Table, Becomes, Went}
 use Rattle.refusal.specs.Numbers.{number}
 use Rattle.controller.specs.declared.Answer.{Answer}
 use Rattle.controller.specs.Contract.{Said, said, numbers, Outcome}
@@ -68,6 +69,13 @@ module _ (c : Call) (t o : List ℕ) where
         formed = λ _. w .table .table .formed;
         kept = λ ne. absurd (ne (ap (λ (x : Answer). x .number) p));
       }
+
+-- no moment has passed
+pub nothing-passed : (t o : List ℕ) → Table t → Went t o 0 [] 0 t o
+nothing-passed t o h = record {
+  table = record { table = h; size = refl; past = refl; meaning = still t };
+  bytes = put-nothing o 0;
+}
 
 -- ==== calls that emit nothing
 

@@ -12,11 +12,11 @@ use Rattle.model.specs.Records.{read-settings, read-tool}
 use Rattle.model.specs.Session.{is-closed}
 use Rattle.model.specs.World.{World, session-at}
 use Rattle.model.specs.Calls.{Call, start, open-session, hang-up-session, bytes, one-tick, tool, Lent, lent-tests, is-none, is-tightening, refusal, answered, step}
-use Rattle.table.specs.Table.{decode, table-formed, Table}
+use Rattle.table.specs.Table.{decode, Table}
 use Rattle.refusal.specs.Numbers.{lent, number}
 use Rattle.refusal.proofs.Numbers.{start-passes}
 use Rattle.controller.specs.declared.Answer.{Answer}
-use Rattle.controller.specs.Contract.{Outcome, said}
+use Rattle.controller.specs.Contract.{Outcome}
 use Rattle.controller.specs.Trace.{Made, Trace, none, and, Never, History}
 
 -- the first of the four numbers is the refusal's

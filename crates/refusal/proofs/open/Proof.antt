@@ -1,8 +1,7 @@
 -- `refusal::open` meets its contract. Assumes nothing.
 use borrow.Author.Needs.{needs}
 use borrow.Author.Tests.{le-leb, lt-leb, not-true, not-false}
-use mathlib.Core.Path.{_≡_, sym, ap, _∙_}
-use mathlib.Core.Bool.{not}
+use mathlib.Core.Path.{sym, _∙_}
 use native.Mathlib.Omega.{arith}
 use Rattle.model.specs.Calls.{refusal}
 use Rattle.refusal.proofs.Numbers.{is-ready, lent-gives, own-gives, open-own}

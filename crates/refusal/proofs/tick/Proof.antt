@@ -1,7 +1,7 @@
 -- `refusal::tick` meets its contract. Assumes nothing.
 use borrow.Author.Needs.{needs}
 use borrow.Author.Tests.{lt-ltb, le-ltb, not-true, not-false}
-use mathlib.Core.Path.{_≡_, sym, _∙_}
+use mathlib.Core.Path.{sym, _∙_}
 use Rattle.model.specs.Calls.{refusal}
 use Rattle.refusal.proofs.tick.Statement.{statement}
 use Rattle.refusal.proofs.tick.Tie as tie
