@@ -5,4 +5,5 @@ pub mod Cases
 pub mod Clauses
 pub mod RowLaws
 pub mod Sessions
+pub mod Cuts
 pub mod Erase

@@ -13,4 +13,5 @@ pub mod Hearing
 pub mod Steps
 pub mod World
 pub mod Calls
+pub mod Reading
 pub mod Program

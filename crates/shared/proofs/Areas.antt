@@ -15,7 +15,7 @@ use Rattle.shared.specs.Shared.{settings-part, in-force-of, last-of, mar
 
 -- ==== numbers, written and read
 
-four : (v : ℕ) → v < 4_294_967_296 → little (in-bytes 4 v) ≡ v
+pub four : (v : ℕ) → v < 4_294_967_296 → little (in-bytes 4 v) ≡ v
 unfolding in-bytes
 four v h = omega arith
 

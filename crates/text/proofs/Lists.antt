@@ -128,12 +128,6 @@ take-over n a b h =
     let e : n ≡ length a + (n - length a) = omega arith in
     ap (λ (m : ℕ). take m (a ++ b)) e ∙ take-append-add a b (n - length a)
 
--- a list cut to n, and more: the same as all of it, cut to n
-pub take-again : (n : ℕ) (a b : List ℕ) → take n (take n a ++ b) ≡ take n (a ++ b)
-take-again zero a b = refl
-take-again (suc n) [] b = refl
-take-again (suc n) (x ∷ a) b = ap (λ (z : List ℕ). x ∷ z) (take-again n a b)
-
 -- what is left of the first m elements, past the first k
 pub drop-take : (k m : ℕ) (l : List ℕ) → k ≤ m → drop k (take m l) ≡ take (m - k) (drop k l)
 drop-take zero m l h = rw sub-zero

@@ -1,0 +1,123 @@
+-- How the outcome of a call is put together: of a refusal, and of what was done. Assumes nothing.
+use mathlib.Core.Path.{_≡_, refl, sym, ap, _∙_}
+use Prim.Native.Nat.{ℕ, zero, suc, _≤_}
+use native.Mathlib.Nat.{zero-add}
+use native.Mathlib.Omega.{arith}
+use mathlib.Core.Bool.{Bool, true, false, cond}
+use mathlib.Core.List.{List, [], _∷_, _++_}
+use mathlib.Core.Option.{some}
+use lib.Dec.{eqb}
+use lib.ListN.{length}
+use lib.Seq.{sets}
+use Rattle.model.specs.Limits.{output-least}
+use Rattle.model.specs.Records.{Settings, payload, settings-of, read-settings}
+use Rattle.model.specs.Session.{Session, closed, opened, started, Emission}
+use Rattle.model.specs.Steps.{opening, hang-up, elsewhere, step as session-step}
+use Rattle.model.specs.World.{World, uncounted, Moment, begins, opens, hangs-up, each, begun, next, emits, emitted}
+use Rattle.model.specs.Calls.{Call, start, open-session, hang-up-session, moments, output, consumed-of, taken-of, answered, step}
+use Rattle.model.specs.Row.{Tagged}
+use Rattle.model.proofs.RowLaws.{said-none}
+use Rattle.text.proofs.Puts.{put-nothing}
+use Rattle.table.specs.Table.{decode, Table, Becomes, Went}
+use Rattle.refusal.specs.Numbers.{number}
+use Rattle.controller.specs.declared.Answer.{Answer}
+use Rattle.controller.specs.Contract.{Said, said, numbers, Outcome}
+
+-- the table keeps no count of events
+still : (t : List ℕ) → decode t ≡ uncounted (decode t)
+unfolding decode
+still t = refl
+
+module _ (c : Call) (t o : List ℕ) where
+  abbrev outcome : ℕ → Said
+  outcome n = answered (decode t) c n
+
+  said-is : (n : ℕ) → n ≡ number t (length o) c → said c t o ≡ outcome n
+  unfolding step
+  said-is n e = ap outcome (sym e)
+
+  -- a refusal: nothing is altered
+  pub refuse : {n : ℕ} {r : Answer} → n ≡ number t (length o) c → (n ≡ 0 → ⊥) → r ≡ record { number = n; consumed = 0; written = 0; taken = 0 } → Outcome c t o r t o
+  refuse {n = zero} e ne p = absurd (ne refl)
+  refuse {n = suc n} {r = r} e ne p =
+      let s = said-is (suc n) e in
+      record {
+        answer = p ∙ sym (ap (λ (x : Said). numbers (x .1)) s);
+        meaning = still t ∙ sym (ap (λ (x : Said). uncounted (x .0)) s);
+        output = sym (ap (λ (x : Said). sets o 0 (output (x .2))) s);
+        fits = rw p (omega arith);
+        size = refl;
+        past = refl;
+        formed = λ z. absurd (omega (arith, ap (λ (x : Answer). x .number) p));
+        kept = λ _. refl;
+      }
+
+  -- the moments of the call have passed, and what they emit stands in the output
+  pub finish : {n : ℕ} {r : Answer} (at consumed taken : ℕ) {t′ o′ : List ℕ} → n ≡ number t (length o) c → n ≡ 0
+      → r ≡ record { number = 0; consumed = consumed; written = at; taken = taken } → consumed ≡ consumed-of c → taken ≡ taken-of (decode t) c
+      → Went t o 0 (moments (decode t) c) at t′ o′ → at ≤ output-least → Outcome c t o r t′ o′
+  finish {n} {r} at consumed taken e z p ec et w h =
+      let s = said-is 0 (sym z ∙ e) in
+      let ew : at ≡ length (output (emitted (decode t) (moments (decode t) c))) = w .bytes .place ∙ zero-add _ in
+      record {
+        answer = p ∙ (λ i. record { number = 0; consumed = ec i; written = ew i; taken = et i }) ∙ sym (ap (λ (x : Said). numbers (x .1)) s);
+        meaning = w .table .meaning ∙ sym (ap (λ (x : Said). uncounted (x .0)) s);
+        output = w .bytes .output ∙ sym (ap (λ (x : Said). sets o 0 (output (x .2))) s);
+        fits = rw p h;
+        size = w .table .size;
+        past = w .table .past;
+        formed = λ _. w .table .table .formed;
+        kept = λ ne. absurd (ne (ap (λ (x : Answer). x .number) p));
+      }
+
+-- no moment has passed
+pub nothing-passed : (t o : List ℕ) → Table t → Went t o 0 [] 0 t o
+nothing-passed t o h = record {
+  table = record { table = h; size = refl; past = refl; meaning = still t };
+  bytes = put-nothing o 0;
+}
+
+-- ==== calls that emit nothing
+
+-- what a session says where it has nothing to say
+opening-silent : (st : Settings) (b : Bool) (x : Session) → (session-step st (cond b opening elsewhere) x) .1 ≡ []
+opening-silent st true closed = refl
+opening-silent st true (opened idle run) = refl
+opening-silent st true (started idle run subs) = refl
+opening-silent st false closed = refl
+opening-silent st false (opened idle run) = refl
+opening-silent st false (started idle run subs) = refl
+
+hang-up-silent : (st : Settings) (b : Bool) (x : Session) → (session-step st (cond b hang-up elsewhere) x) .1 ≡ []
+hang-up-silent st true closed = refl
+hang-up-silent st true (opened idle run) = refl
+hang-up-silent st true (started idle run subs) = refl
+hang-up-silent st false closed = refl
+hang-up-silent st false (opened idle run) = refl
+hang-up-silent st false (started idle run subs) = refl
+
+module _ (w : World) where
+  open-silent : (s : ℕ) → emits w (opens s) ≡ []
+  open-silent s = said-none (each w (opens s)) (λ n. opening-silent (w .settings) (eqb n s)) 0 (w .sessions)
+
+  hung-up-silent : (s : ℕ) → emits w (hangs-up s) ≡ []
+  hung-up-silent s = said-none (each w (hangs-up s)) (λ n. hang-up-silent (w .settings) (eqb n s)) 0 (w .sessions)
+
+  start-silent : (st : Settings) → emits w (begins st) ≡ []
+  start-silent st = said-none (each w (begins st)) (λ n. hang-up-silent (w .settings) true) 0 (w .sessions)
+
+-- a moment that only the table shows
+quietly : (t o : List ℕ) (m : Moment) {t′ : List ℕ} → emits (decode t) m ≡ [] → Becomes t (uncounted (next (decode t) m)) t′ → Went t o 0 (m ∷ []) 0 t′ o
+quietly t o m e b =
+    let n : output (emits (decode t) m ++ []) ≡ [] = ap (λ (es : List (Tagged Emission)). output (es ++ [])) e in
+    record { table = b; bytes = record { output = sym (ap (sets o 0) n); place = sym (zero-add _ ∙ ap length n) } }
+
+pub opened-quietly : (t o : List ℕ) (s : ℕ) {t′ : List ℕ} → Becomes t (uncounted (next (decode t) (opens s))) t′ → Went t o 0 (moments (decode t) (open-session s)) 0 t′ o
+opened-quietly t o s b = quietly t o (opens s) (open-silent (decode t) s) b
+
+pub hung-up-quietly : (t o : List ℕ) (s : ℕ) {t′ : List ℕ} → Becomes t (uncounted (next (decode t) (hangs-up s))) t′ → Went t o 0 (moments (decode t) (hang-up-session s)) 0 t′ o
+hung-up-quietly t o s b = quietly t o (hangs-up s) (hung-up-silent (decode t) s) b
+
+pub started-quietly : (t o slice : List ℕ) {t′ : List ℕ} → read-settings slice ≡ some (settings-of (payload slice))
+    → Becomes t (begun (settings-of (payload slice)) 0) t′ → Went t o 0 (moments (decode t) (start slice)) 0 t′ o
+started-quietly t o slice e b = rw e (quietly t o (begins (settings-of (payload slice))) (start-silent (decode t) (settings-of (payload slice))) b)

@@ -1,0 +1,77 @@
+-- A tool record by its kind: how long its payload is, and which event it is. Assumes nothing.
+use mathlib.Core.Path.{_≡_, refl, sym, ap, subst, _∙_}
+use Prim.Native.Nat.{ℕ, _+_, _≤_}
+use native.Mathlib.Omega.{arith}
+use mathlib.Core.Bool.{Bool, true, false, cond}
+use mathlib.Core.List.{List, [], _∷_}
+use mathlib.Core.Option.{Option, none, some}
+use lib.ListN.{length}
+use Rattle.model.specs.Records.{payload, good-record, identifier-in, tightening-of, tightening-items, scanned-items, Tool, tightening, read-tool}
+use Rattle.model.specs.Events.{identifiers, tightenings, identified, tightened}
+use Rattle.model.specs.World.{Moment, happens}
+use Rattle.model.specs.Calls.{tool, reported, moments, takers, taken-by, taken-of}
+use Rattle.frame.specs.Layout.{result-of}
+use Rattle.notices.specs.Places.{event-in}
+use Rattle.record.specs.declared.Kind.{Kind}
+use Rattle.record.specs.declared.Kind.the-variants.{Bad, Tightening, Scanned}
+use Rattle.record.specs.Tools.{tool-in}
+use Rattle.table.specs.Table.{decode, Table, Went}
+use Rattle.refusal.proofs.Numbers.{good-length}
+use Rattle.controller.proofs.Calls.{nothing-passed}
+
+-- what the event of a tool record does
+abbrev pub Reports : (slice t o : List ℕ) (at taken : ℕ) (t′ o′ : List ℕ) → Type 0
+Reports slice t o at taken t′ o′ = (at ≤ 944) × Went t o 0 (moments (decode t) (tool slice)) at t′ o′ × (taken ≡ taken-of (decode t) (tool slice))
+
+module _ (kind : Kind) (slice : List ℕ) (e : tool-in kind slice ≡ read-tool slice) where
+  -- the tool record that is read
+  read : {x : Kind} → kind ≡ x → tool-in x slice ≡ read-tool slice
+  read k = ap (λ (x : Kind). tool-in x slice) (sym k) ∙ e
+
+  -- ==== how long the payload is
+
+  abbrev by-tests : Bool → Bool → Option Tool
+  by-tests a b = cond a (tool-in Tightening slice) (cond b (tool-in Scanned slice) none)
+
+  pub tightening-size : {p : List ℕ} → p ≡ payload slice → kind ≡ Tightening → length p ≡ 106
+  unfolding read-tool
+  tightening-size q k = ap length q ∙ go (good-record 1 tightening-items slice) (good-record 2 scanned-items slice) refl (read k)
+    where
+      go : (a b : Bool) → good-record 1 tightening-items slice ≡ a → tool-in Tightening slice ≡ by-tests a b → length (payload slice) ≡ 106
+      go true b p q = good-length 1 tightening-items slice p
+      go false true p q = let z : _≡_ {A = ℕ} 0 1 = cc in absurd (omega arith)
+      go false false p q = let z : _≡_ {A = ℕ} 0 1 = cc in absurd (omega arith)
+
+  pub scan-size : {p : List ℕ} → p ≡ payload slice → kind ≡ Scanned → length p ≡ 25
+  unfolding read-tool
+  scan-size q k = ap length q ∙ go (good-record 1 tightening-items slice) (good-record 2 scanned-items slice) refl (read k)
+    where
+      go : (a b : Bool) → good-record 2 scanned-items slice ≡ b → tool-in Scanned slice ≡ by-tests a b → length (payload slice) ≡ 25
+      go false true p q = good-length 2 scanned-items slice p
+      go true b p q = let z : _≡_ {A = ℕ} 0 1 = cc in absurd (omega arith)
+      go false false p q = let z : _≡_ {A = ℕ} 0 1 = cc in absurd (omega arith)
+
+  -- ==== what it does, by its kind
+
+  module _ (t o : List ℕ) where
+    as-reported : {ms : List Moment} {at taken : ℕ} {t′ o′ : List ℕ} (r : Option Tool) → r ≡ read-tool slice → ms ≡ reported (decode t) r
+        → taken ≡ taken-by (decode t) r → at ≤ 0 + 944 → Went t o 0 ms at t′ o′ → Reports slice t o at taken t′ o′
+    as-reported {at = at} {t′ = t′} {o′ = o′} r q m k h w =
+        (omega arith, subst (λ (x : List Moment). Went t o 0 x at t′ o′) (m ∙ ap (reported (decode t)) q) w, k ∙ ap (taken-by (decode t)) q)
+
+    pub bad-reported : kind ≡ Bad → Table t → Reports slice t o 0 0 t o
+    bad-reported k h = as-reported none (read k) refl refl (omega arith) (nothing-passed t o h)
+
+    pub tightening-reported : (r : List ℕ) {p : List ℕ} {at taken : ℕ} {t′ o′ : List ℕ} → kind ≡ Tightening → p ≡ payload slice
+        → happens (tightened (result-of r)) ∷ [] ≡ reported (decode t) (some (tightening (identifier-in p) (tightening-of p)))
+        → at ≤ 0 + 944 → Went t o 0 (happens (event-in tightenings r) ∷ []) at t′ o′ → taken ≡ takers tightenings 0 (decode t .sessions)
+        → Reports slice t o at taken t′ o′
+    tightening-reported r k q m h w n =
+        as-reported (tool-in Tightening slice) (read k)
+        (m ∙ ap (λ (bs : List ℕ). reported (decode t) (some (tightening (identifier-in bs) (tightening-of bs)))) q) n h w
+
+    pub scan-reported : {p : List ℕ} {at taken : ℕ} {t′ o′ : List ℕ} → kind ≡ Scanned → p ≡ payload slice
+        → at ≤ 0 + 944 → Went t o 0 (happens (event-in identifiers p) ∷ []) at t′ o′ → taken ≡ takers identifiers 0 (decode t .sessions)
+        → Reports slice t o at taken t′ o′
+    scan-reported k q h w n =
+        as-reported (tool-in Scanned slice) (read k) (ap (λ (bs : List ℕ). happens (identified bs) ∷ []) q) n h w

@@ -1,0 +1,70 @@
+-- `controller::report` meets its contract. Assumes nothing.
+use borrow.Author.Needs.{needs}
+use native.Mathlib.Omega.{arith}
+use Rattle.controller.proofs.Tools.{tightening-size, scan-size, bad-reported, tightening-reported, scan-reported}
+use Rattle.controller.proofs.report.Statement.{statement}
+use Rattle.controller.proofs.report.Tie as tie
+
+result-requires : tie.Need-result-requires
+result-requires c κs =
+    let k = c .before in
+    let p = k .before .before in
+    let s = p .before .before .before .before in
+    let a = s .args in
+    (s .pre .0 .0, tightening-size (a .kind) (a .slice .now) (s .pre .0 .2) (p .payload .ensures) (k .enum-told2 .given .1), s .pre .1 (k .enum-told2 .given .1))
+
+happens-requires-2 : tie.Need-happens-requires-2
+happens-requires-2 c κs =
+    let k = c .before .before in
+    let p = k .before .before in
+    let s = p .before .before .before .before in
+    let a = s .args in
+    let h = s .pre .0 .1 in
+    (s .pre .0 .0, omega arith, omega arith, scan-size (a .kind) (a .slice .now) (s .pre .0 .2) (p .payload .ensures) (k .enum-told3 .given .1))
+
+returns : tie.Need-returns
+returns c =
+    let s = c .before .before .before .before .before .before in
+    let a = s .args in
+    bad-reported (a .kind) (a .slice .now) (s .pre .0 .2) (a .table .now) (a .output .now) (c .enum-told .given .1) (s .pre .0 .0)
+
+returns-2 : tie.Need-returns-2
+returns-2 c =
+    let h = c .before .before .before .before in
+    let r = h .before .before .before .before in
+    let k = r .before .before in
+    let p = k .before .before in
+    let s = p .before .before .before .before in
+    let a = s .args in
+    tightening-reported (a .kind) (a .slice .now) (s .pre .0 .2) (a .table .now) (a .output .now) (r .result .result) (k .enum-told2 .given .1) (p .payload .ensures)
+    (r .result .ensures) (h .happens .ensures .0) (h .happens .ensures .1) (h .happens .ensures .2)
+
+returns-3 : tie.Need-returns-3
+returns-3 c =
+    let h = c .before .before .before .before in
+    let k = h .before .before .before in
+    let p = k .before .before in
+    let s = p .before .before .before .before in
+    let a = s .args in
+    scan-reported (a .kind) (a .slice .now) (s .pre .0 .2) (a .table .now) (a .output .now) (k .enum-told3 .given .1) (p .payload .ensures)
+    (h .happens2 .ensures .0) (h .happens2 .ensures .1) (h .happens2 .ensures .2)
+
+pub report-spec : {M : Type 1} → statement M
+report-spec =
+    tie.close
+    (tie.spec
+    (λ c κs. search needs)
+    (λ c. search needs)
+    (λ c. search needs)
+    result-requires
+    (λ c. search needs)
+    (λ c κs. search needs)
+    (λ c. search needs)
+    happens-requires-2
+    returns
+    (λ c. search needs)
+    (λ c. search needs)
+    returns-2
+    (λ c. search needs)
+    (λ c. search needs)
+    returns-3)

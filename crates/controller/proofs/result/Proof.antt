@@ -1,0 +1,57 @@
+-- `controller::result` meets its contract. Assumes nothing.
+use borrow.Author.Needs.{needs}
+use mathlib.Core.Path.{refl, sym, ap, _∙_}
+use Prim.Native.Nat.{ℕ, _+_}
+use native.Mathlib.Omega.{arith}
+use denote.Ref.{now}
+use lib.ListN.{take, drop}
+use lib.Seq.{length-take-le}
+use Rattle.model.specs.Events.{identifier-of}
+use Rattle.table.specs.Table.{decode}
+use Rattle.controller.proofs.Results.{meant-length, result-put, next-number}
+use Rattle.controller.proofs.result.Statement.{statement}
+use Rattle.controller.proofs.result.Tie as tie
+
+copy-requires-2 : tie.Need-copy-requires-2
+copy-requires-2 c κs =
+    let m = c .before in
+    let f = m .before in
+    let s = f .before .before .before .before .before .before .before in
+    let p = s .args .payload .now in
+    let l = meant-length (take 25 (drop 0 p)) (now (f .in-force .result)) (m .meant .ensures) (length-take-le 25 p (omega (arith, s .pre .1))) (f .in-force .ensures .1) in
+    omega (arith, l)
+
+returns : tie.Need-returns
+returns c =
+    let u = c .before in
+    let l = u .before .before in
+    let k = l .before .before in
+    let m = k .before .before in
+    let f = m .before in
+    let j = f .before .before .before in
+    let s = j .before .before .before .before in
+    let p = s .args .payload .now in
+    let h = l .last .ensures in
+    result-put _ p (now (m .meant .result)) (l .last .result + 1) (j .copy .ensures) (k .copy2 .ensures) (u .put-little .ensures .1) refl (s .pre .1)
+    (meant-length (take 25 (drop 0 p)) (now (f .in-force .result)) (m .meant .ensures) (length-take-le 25 p (omega (arith, s .pre .1))) (f .in-force .ensures .1))
+    (next-number (l .last .result) (h .1) (λ e. s .pre .2 (sym (h .0) ∙ e))) (decode (s .args .table .now))
+    (m .meant .ensures ∙ ap (identifier-of (take 25 (drop 0 p))) (f .in-force .ensures .0)) (ap (λ (n : ℕ). n + 1) (h .0))
+
+pub result-spec : {M : Type 1} → statement M
+result-spec =
+    tie.close
+    (tie.spec
+    (λ c. search needs)
+    (λ c κs. search needs)
+    (λ c. search needs)
+    (λ c. search needs)
+    (λ c. search needs)
+    (λ c κs. search needs)
+    (λ c κs. search needs)
+    (λ c. search needs)
+    copy-requires-2
+    (λ c κs. search needs)
+    (λ c. search needs)
+    (λ c. search needs)
+    (λ c κs. search needs)
+    returns)

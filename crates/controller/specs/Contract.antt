@@ -1,0 +1,43 @@
+-- 01, "What the product holds": the contract of a call, one record for every call. Assumes nothing: these are definitions.
+use mathlib.Core.Path.{_≡_}
+use Prim.Native.Nat.{ℕ, _≤_}
+use mathlib.Core.Bool.{true}
+use mathlib.Core.List.{List}
+use lib.ListN.{length, drop}
+use lib.Seq.{sets}
+use Rattle.model.specs.Limits.{table-least, output-least}
+use Rattle.model.specs.Session.{Emission}
+use Rattle.model.specs.World.{World, uncounted}
+use Rattle.model.specs.Calls.{Call, output, step}
+use Rattle.model.specs.Calls as model
+use Rattle.model.specs.Row.{Tagged}
+use Rattle.table.specs.Table.{decode, table-formed}
+use Rattle.refusal.specs.Numbers.{lent}
+use Rattle.controller.specs.declared.Answer.{Answer}
+
+-- the world that a call leaves, its answer, and what goes out
+abbrev pub Said : Type 0
+Said = World × model.Answer × List (Tagged Emission)
+
+-- the model's step, from what the lent table means
+abbrev pub said : Call → List ℕ → List ℕ → Said
+said c t o = step (lent t (length o)) (decode t) c
+
+-- the four numbers
+abbrev pub numbers : model.Answer → Answer
+numbers a = record { number = a .number; consumed = a .consumed; written = a .written; taken = a .taken }
+
+-- the call c, lent the table t and the output o, answers r and leaves the table t′ and the output o′. (A start is lent no output:
+-- there o is empty)
+pub record Outcome (c : Call) (t o : List ℕ) (r : Answer) (t′ o′ : List ℕ) : Type 0 where
+  pub answer : r ≡ numbers ((said c t o) .1)
+  pub meaning : decode t′ ≡ uncounted ((said c t o) .0)
+  -- the records stand from the output's start on, and past them it is as it was
+  pub output : o′ ≡ sets o 0 (output ((said c t o) .2))
+  pub fits : r .written ≤ output-least
+  pub size : length t′ ≡ length t
+  pub past : drop table-least t′ ≡ drop table-least t
+  -- done
+  pub formed : r .number ≡ 0 → table-formed t′ ≡ true
+  -- refused
+  pub kept : (r .number ≡ 0 → ⊥) → t′ ≡ t

@@ -1,0 +1,35 @@
+-- 01, "What the product holds": a history of calls in which only these calls write the table. Assumes nothing: these are definitions.
+use mathlib.Core.Path.{_≡_}
+use Prim.Native.Nat.{ℕ}
+use mathlib.Core.List.{List, [], _∷_}
+use Rattle.model.specs.Calls.{Call, start}
+use Rattle.controller.specs.declared.Answer.{Answer}
+use Rattle.controller.specs.Contract.{Outcome}
+
+-- a call that was made: the output that it was lent, its answer, and the output that it left
+pub record Made : Type 0 where
+  pub call : Call
+  pub output : List ℕ
+  pub answer : Answer
+  pub output-left : List ℕ
+
+-- t is lent to the first call, and what a call leaves of it to the next; t′ is what the last one leaves. The output may be another one
+-- each time, and too short
+pub data Trace : List ℕ → List Made → List ℕ → Type 0 where
+  none : {t : List ℕ} → Trace t [] t
+  and : {t t₁ t₂ : List ℕ} {m : Made} {ms : List Made}
+      → Outcome (m .call) t (m .output) (m .answer) t₁ (m .output-left) → Trace t₁ ms t₂ → Trace t (m ∷ ms) t₂
+
+-- none of the answers has that number
+abbrev pub Never : ℕ → List Made → Type 0
+Never n [] = Unit {0}
+Never n (m ∷ ms) = (m .answer .number ≡ n → ⊥) × Never n ms
+
+-- a history that begins with a start that is done
+pub record History (t : List ℕ) (ms : List Made) (t′ : List ℕ) : Type 0 where
+  pub before : List ℕ
+  pub settings : List ℕ
+  pub answer : Answer
+  pub begins : Outcome (start settings) before [] answer t []
+  pub done : answer .number ≡ 0
+  pub then : Trace t ms t′

@@ -1,0 +1,156 @@
+// The calls of the product.
+ghost use mathlib.Core.Path.{_≡_};
+ghost use mathlib.Core.List.{[], _∷_};
+ghost use mathlib.Core.Option.{some};
+ghost use Prim.Native.Nat.{_≤_, _<_};
+ghost use lib.ListN.{length, drop};
+ghost use Rattle.model.specs.Limits.{number-greatest};
+ghost use Rattle.model.specs.Records.{identifier-in, tightening-of, tightening, read-tool};
+ghost use Rattle.model.specs.Events.{tightened};
+ghost use Rattle.model.specs.World.{happens};
+ghost use Rattle.model.specs.Calls.{
+  start as start-call,
+  open-session,
+  hang-up-session,
+  one-tick,
+  tool,
+  reported,
+  moments,
+  taken-of,
+};
+ghost use Rattle.frame.specs.Layout.{result-of};
+ghost use Rattle.record.specs.Tools.{tool-in};
+ghost use Rattle.table.specs.Table.{decode, Table, Went};
+ghost use Rattle.controller.specs.Contract.{Outcome};
+use record::Kind;
+use table::Told;
+
+// 01, "What the product holds": what each call answers.
+pub struct Answer {
+    pub number: u64,
+    pub consumed: u64,
+    pub written: u64,
+    pub taken: u64,
+}
+
+// The number of a refusal: nothing is done.
+fn refused(number: u64) -> Answer
+    ensures { λ r. ⌜ r ≡ record { number = number; consumed = 0; written = 0; taken = 0 } ⌝ }
+{
+    Answer {
+        number,
+        consumed: 0,
+        written: 0,
+        taken: 0,
+    }
+}
+
+fn done(consumed: u64, written: u64, taken: u64) -> Answer
+    ensures { λ r. ⌜ r ≡ record { number = 0; consumed = consumed; written = written; taken = taken } ⌝ }
+{
+    Answer {
+        number: 0,
+        consumed,
+        written,
+        taken,
+    }
+}
+
+pub fn start(table: &mut [u8], settings: &[u8]) -> Answer
+    ensures { λ r. ⌜ Outcome (start-call (now (settings .entry))) (now (table .entry)) [] r (now (table .exit)) [] ⌝ }
+{
+    let n = refusal::start(table, settings);
+    if n != 0 {
+        return refused(n);
+    }
+    table::start(table, record::payload(settings));
+    done(0, 0, 0)
+}
+
+pub fn open(table: &mut [u8], output: &mut [u8], session: u64) -> Answer
+    ensures { λ r. ⌜ Outcome (open-session session) (now (table .entry)) (now (output .entry)) r (now (table .exit)) (now (output .exit)) ⌝ }
+{
+    let n = refusal::open(table, output.len(), session);
+    if n != 0 {
+        return refused(n);
+    }
+    table::open(table, session);
+    done(0, 0, 0)
+}
+
+pub fn hang_up(table: &mut [u8], output: &mut [u8], session: u64) -> Answer
+    ensures { λ r. ⌜ Outcome (hang-up-session session) (now (table .entry)) (now (output .entry)) r (now (table .exit)) (now (output .exit)) ⌝ }
+{
+    let n = refusal::hang_up(table, output.len(), session);
+    if n != 0 {
+        return refused(n);
+    }
+    table::hang_up(table, session);
+    done(0, 0, 0)
+}
+
+pub fn tick(table: &mut [u8], output: &mut [u8]) -> Answer
+    ensures { λ r. ⌜ Outcome one-tick (now (table .entry)) (now (output .entry)) r (now (table .exit)) (now (output .exit)) ⌝ }
+{
+    let n = refusal::tick(table, output.len());
+    if n != 0 {
+        return refused(n);
+    }
+    let at = table::tick(table, output, 0);
+    done(0, at as u64, 0)
+}
+
+// ---- received bytes
+
+// What a call left of the bytes that it was given, for the next call.
+pub fn rest(bytes: &[u8], answer: Answer) -> &[u8]
+    ensures { λ r. ⌜ now r ≡ drop (answer .consumed) (now (bytes .entry)) ⌝ }
+{
+    let consumed = answer.consumed as usize;
+    text::rest(bytes, consumed)
+}
+
+// ---- a tool record
+
+// A tightening as it is kept: the tool record's payload with the identifier that is meant now, and its number, the next one.
+fn result<'a>(table: &'a [u8], payload: &'a [u8]) -> [u8; 110]
+    requires { ⌜ Table (now table) × (length (now payload) ≡ 106) × (decode (now table) .last ≡ number-greatest → ⊥) ⌝ }
+    ensures { λ r. ⌜ happens (tightened (result-of r)) ∷ [] ≡ reported (decode (now (table .entry))) (some (tightening (identifier-in (now (payload .entry))) (tightening-of (now (payload .entry))))) ⌝ }
+{
+    let mut place = [0; 110];
+    text::copy(payload, &mut place, 0);
+    let identifier = record::meant(&payload[0..25], table::in_force(table));
+    text::copy(identifier, &mut place, 0);
+    let number = table::last(table) + 1;
+    text::put_little(&mut place, 106, 4, number);
+    place
+}
+
+// The event of a tool record, if it is good.
+fn report(table: &mut [u8], output: &mut [u8], slice: &[u8], kind: Kind) -> Told
+    requires { ⌜ Table (now table) × (2_048 ≤ length (now output)) × (tool-in kind (now slice) ≡ read-tool (now slice)) ⌝ }
+    requires { ⌜ (kind ≡ Kind.Tightening → decode (now table) .last ≡ number-greatest → ⊥) ⌝ }
+    ensures { λ r. ⌜ (r .at ≤ 944) × Went (now (table .entry)) (now (output .entry)) 0 (moments (decode (now (table .entry))) (tool (now (slice .entry)))) (r .at) (now (table .exit)) (now (output .exit)) × (r .taken ≡ taken-of (decode (now (table .entry))) (tool (now (slice .entry)))) ⌝ }
+{
+    let payload = record::payload(slice);
+    match kind {
+        Kind::Bad => Told { at: 0, taken: 0 },
+        Kind::Tightening => {
+            let place = result(table, payload);
+            table::happens(table, output, 0, message::TIGHTENINGS, &place)
+        }
+        Kind::Scanned => table::happens(table, output, 0, message::IDENTIFIERS, payload),
+    }
+}
+
+pub fn tool_record(table: &mut [u8], output: &mut [u8], slice: &[u8]) -> Answer
+    ensures { λ r. ⌜ Outcome (tool (now (slice .entry))) (now (table .entry)) (now (output .entry)) r (now (table .exit)) (now (output .exit)) ⌝ }
+{
+    let kind = record::tool_kind(slice);
+    let n = refusal::tool_record(table, output.len(), kind);
+    if n != 0 {
+        return refused(n);
+    }
+    let told = report(table, output, slice, kind);
+    done(0, told.at as u64, told.taken)
+}
