@@ -14,7 +14,7 @@ use Rattle.model.specs.Records.{Settings, payload, settings-of, read-settings}
 use Rattle.model.specs.Session.{Session, closed, opened, started, Emission}
 use Rattle.model.specs.Steps.{opening, hang-up, elsewhere, step as session-step}
 use Rattle.model.specs.World.{World, uncounted, Moment, begins, opens, hangs-up, each, begun, next, emits, emitted}
-use Rattle.model.specs.Calls.{Call, start, open-session, hang-up-session, moments, output, consumed-of, taken-of, answered, step}
+use Rattle.model.specs.Calls.{Call, start, open-session, hang-up-session, bytes, refusal, moments, output, consumed-of, taken-of, answered, step}
 use Rattle.model.specs.Row.{Tagged}
 use Rattle.model.proofs.RowLaws.{said-none}
 use Rattle.text.proofs.Puts.{put-nothing}
@@ -69,6 +69,11 @@ module _ (c : Call) (t o : List ℕ) where
         formed = λ _. w .table .table .formed;
         kept = λ ne. absurd (ne (ap (λ (x : Answer). x .number) p));
       }
+
+-- received bytes are refused where a hang-up would be
+pub bytes-number : {n : ℕ} (t : List ℕ) (room s : ℕ) (bs : List ℕ) → n ≡ number t room (hang-up-session s) → n ≡ number t room (bytes s bs)
+unfolding refusal
+bytes-number t room s bs e = e
 
 -- no moment has passed
 pub nothing-passed : (t o : List ℕ) → Table t → Went t o 0 [] 0 t o
