@@ -103,7 +103,7 @@ module _ (w : World) where
   hung-up-silent : (s : ℕ) → emits w (hangs-up s) ≡ []
   hung-up-silent s = said-none (each w (hangs-up s)) (λ n. hang-up-silent (w .settings) (eqb n s)) 0 (w .sessions)
 
-  start-silent : (st : Settings) → emits w (begins st) ≡ []
+  pub start-silent : (st : Settings) → emits w (begins st) ≡ []
   start-silent st = said-none (each w (begins st)) (λ n. hang-up-silent (w .settings) true) 0 (w .sessions)
 
 -- a moment that only the table shows
