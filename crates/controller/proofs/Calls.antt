@@ -14,7 +14,7 @@ use Rattle.model.specs.Records.{Settings, payload, settings-of, read-settings}
 use Rattle.model.specs.Session.{Session, closed, opened, started, Emission}
 use Rattle.model.specs.Steps.{opening, hang-up, elsewhere, step as session-step}
 use Rattle.model.specs.World.{World, uncounted, Moment, begins, opens, hangs-up, each, begun, next, emits, emitted}
-use Rattle.model.specs.Calls.{Call, start, open-session, hang-up-session, bytes, refusal, moments, output, consumed-of, taken-of, answered, step}
+use Rattle.model.specs.Calls.{Call, start, open-session, hang-up-session, moments, output, consumed-of, taken-of, answered, step}
 use Rattle.model.specs.Row.{Tagged}
 use Rattle.model.proofs.RowLaws.{said-none}
 use Rattle.text.proofs.Puts.{put-nothing}
@@ -70,11 +70,6 @@ module _ (c : Call) (t o : List ℕ) where
         kept = λ ne. absurd (ne (ap (λ (x : Answer). x .number) p));
       }
 
--- received bytes are refused where a hang-up would be
-pub bytes-number : {n : ℕ} (t : List ℕ) (room s : ℕ) (bs : List ℕ) → n ≡ number t room (hang-up-session s) → n ≡ number t room (bytes s bs)
-unfolding refusal
-bytes-number t room s bs e = e
-
 -- no moment has passed
 pub nothing-passed : (t o : List ℕ) → Table t → Went t o 0 [] 0 t o
 nothing-passed t o h = record {
@@ -108,7 +103,7 @@ module _ (w : World) where
   hung-up-silent : (s : ℕ) → emits w (hangs-up s) ≡ []
   hung-up-silent s = said-none (each w (hangs-up s)) (λ n. hang-up-silent (w .settings) (eqb n s)) 0 (w .sessions)
 
-  start-silent : (st : Settings) → emits w (begins st) ≡ []
+  pub start-silent : (st : Settings) → emits w (begins st) ≡ []
   start-silent st = said-none (each w (begins st)) (λ n. hang-up-silent (w .settings) true) 0 (w .sessions)
 
 -- a moment that only the table shows

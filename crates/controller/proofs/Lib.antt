@@ -3,3 +3,5 @@ pub mod Determined
 pub mod Traces
 pub mod Results
 pub mod Tools
+pub mod Erased
+pub mod Outputs
