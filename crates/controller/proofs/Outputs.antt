@@ -42,6 +42,10 @@ module _ (t : List ℕ) (n : ℕ) where
   room one-tick k e q h = let r = is-ready t n e .room in omega arith
   room (tool slice) k e q h = let r = tool-ready t n slice e .room in omega arith
 
+pub so-long : {c : Call} {t o : List ℕ} {r : Answer} {t′ o′ : List ℕ} → Outcome c t o r t′ o′ → r .written ≡ length (output ((said c t o) .2))
+unfolding step
+so-long {c = c} {t = t} {o = o} out = ap (λ (a : Answer). a .written) (out .answer) ∙ written-is (decode t) c (number t (length o) c)
+
 -- what a call says has a place
 pub record Stands (c : Call) (t o : List ℕ) (r : Answer) (o′ : List ℕ) : Type 0 where
   pub within : r .written ≤ length o
@@ -52,7 +56,7 @@ pub stands : {c : Call} {t o : List ℕ} {r : Answer} {t′ o′ : List ℕ} →
 unfolding step
 stands {c = c} {t = t} {o = o} {r = r} {t′ = t′} {o′ = o′} out =
     let bs = output ((said c t o) .2) in
-    let n : r .written ≡ length bs = ap (λ (a : Answer). a .written) (out .answer) ∙ written-is (decode t) c (number t (length o) c) in
+    let n : r .written ≡ length bs = so-long out in
     let h : r .written ≤ length o = go (number t (length o) c) refl n in
     record {
       within = h;
