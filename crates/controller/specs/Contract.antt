@@ -27,6 +27,9 @@ said c t o = step (lent t (length o)) (decode t) c
 abbrev pub numbers : model.Answer → Answer
 numbers a = record { number = a .number; consumed = a .consumed; written = a .written; taken = a .taken }
 
+abbrev pub model-answer : Answer → model.Answer
+model-answer r = record { number = r .number; consumed = r .consumed; written = r .written; taken = r .taken }
+
 -- the call c, lent the table t and the output o, answers r and leaves the table t′ and the output o′. (A start is lent no output:
 -- there o is empty)
 pub record Outcome (c : Call) (t o : List ℕ) (r : Answer) (t′ o′ : List ℕ) : Type 0 where
