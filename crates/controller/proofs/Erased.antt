@@ -1,5 +1,5 @@
 -- The table keeps no event numbers: what it means has none. Assumes nothing.
-use mathlib.Core.Path.{_≡_, refl, sym, ap, ap₂, _∙_}
+use mathlib.Core.Path.{_≡_, refl, sym, ap, ap₂}
 use Prim.Native.Nat.{ℕ, zero, suc}
 use mathlib.Core.List.{List, [], _∷_, map}
 use lib.ListN.{take, drop}
@@ -11,7 +11,6 @@ use Rattle.model.specs.Session.{started}
 use Rattle.model.specs.Session as model-session
 use Rattle.model.specs.Limits.{session-count}
 use Rattle.model.specs.Records.{settings-of}
-use Rattle.model.specs.World.{World}
 use Rattle.model.proofs.Erase.{erase, erase-sub, erase-session, erase-world}
 use Rattle.text.specs.Cells.{cells}
 use Rattle.session.specs.declared.Form.{Form}

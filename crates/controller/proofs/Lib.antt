@@ -5,3 +5,5 @@ pub mod Results
 pub mod Tools
 pub mod Erased
 pub mod Outputs
+pub mod Modelled
+pub mod Uncut

@@ -1,18 +1,18 @@
 -- 01, "What the product holds": 2,048 bytes of output suffice. Whatever a call writes stands in the output that it was lent, whole, and
 -- past that the output is as it was. Assumes nothing.
-use mathlib.Core.Path.{_≡_, refl, sym, ap, subst, _∙_}
+use mathlib.Core.Path.{_≡_, refl, sym, ap, _∙_}
 use Prim.Native.Nat.{ℕ, zero, suc, _+_, _≤_}
 use native.Mathlib.Nat.{zero-add}
 use native.Mathlib.Omega.{arith}
-use mathlib.Core.List.{List, [], _∷_, _++_}
+use mathlib.Core.List.{List, [], _++_}
 use mathlib.Core.Option.{Option, none, some}
 use lib.ListN.{length, take, drop}
 use lib.Seq.{sets}
 use Rattle.model.specs.Limits.{output-least}
-use Rattle.model.specs.Records.{Settings, read-settings, read-tool}
+use Rattle.model.specs.Records.{Settings, read-settings}
 use Rattle.model.specs.Session.{Emission}
 use Rattle.model.specs.World.{World, emitted}
-use Rattle.model.specs.Calls.{Call, start, open-session, hang-up-session, bytes, one-tick, tool, settled, moments, output, refusal, answered, step}
+use Rattle.model.specs.Calls.{Call, start, open-session, hang-up-session, bytes, one-tick, tool, settled, moments, output, answered, step}
 use Rattle.model.specs.Row.{Tagged}
 use Rattle.text.proofs.Lists.{take-sets, drop-sets-after}
 use Rattle.table.specs.Table.{decode}
