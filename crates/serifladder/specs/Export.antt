@@ -5,11 +5,11 @@ use mathlib.Core.Bool.{true}
 use mathlib.Core.List.{List}
 use lib.ListN.{length, drop}
 use lib.Seq.{sets}
-use Rattle.model.specs.Limits.{table-least, output-least}
+use Rattle.model.specs.Limits.{output-least}
 use Rattle.model.specs.World.{uncounted}
 use Rattle.model.specs.Calls.{Call, Returned, returned}
 use Rattle.model.specs.Calls as model
-use Rattle.table.specs.Table.{decode, table-formed}
+use Rattle.table.specs.Table.{table-used, decode, table-formed}
 use Rattle.refusal.specs.Numbers.{lent}
 use Rattle.controller.specs.declared.Answer.{Answer}
 
@@ -31,7 +31,7 @@ pub record Exported (c : Call) (t o a : List ℕ) (r : ℕ) (t′ o′ a′ : Li
   pub output : o′ ≡ sets o 0 ((told c t o a) .to-output)
   pub fits : length ((told c t o a) .to-output) ≤ output-least
   pub size : length t′ ≡ length t
-  pub past : drop table-least t′ ≡ drop table-least t
+  pub past : drop table-used t′ ≡ drop table-used t
   -- done
   pub formed : r ≡ 0 → table-formed t′ ≡ true
   -- refused, or not made
