@@ -1,19 +1,23 @@
 -- Whatever calls are made, whatever they are lent: their answers and what they write are those of the model's run of the same calls.
 -- Assumes nothing.
-use mathlib.Core.Path.{_≡_, refl, ap, ap₂, _∙_}
+use mathlib.Core.Path.{_≡_, refl, sym, ap, ap₂, _∙_}
 use Prim.Native.Nat.{ℕ}
 use mathlib.Core.Bool.{Bool, true}
-use mathlib.Core.List.{List, _∷_, map}
+use mathlib.Core.List.{List, [], _∷_, map}
+use mathlib.Core.Option.{Option}
 use lib.ListN.{length, take}
-use Rattle.model.specs.World.{World, uncounted}
-use Rattle.model.specs.Calls.{Call, Lent, output, step, run}
+use Rattle.model.specs.Records.{Settings, payload, settings-of}
+use Rattle.model.specs.World.{World, uncounted, begun, after}
+use Rattle.model.specs.Calls.{Call, start, Lent, settled, output, answered, step, run}
 use Rattle.model.proofs.Erase.{erase-world, step-without-numbers, observed}
 use Rattle.table.specs.Table.{decode, Table}
+use Rattle.refusal.specs.Numbers.{number}
+use Rattle.refusal.proofs.Numbers.{start-passes}
 use Rattle.controller.specs.declared.Answer.{Answer}
 use Rattle.controller.specs.Contract.{Said, said, model-answer, Outcome}
-use Rattle.controller.specs.Trace.{Made, Trace, none, and, shown, lendings}
+use Rattle.controller.specs.Trace.{Made, Trace, none, and, History, shown, lendings}
 use Rattle.controller.proofs.Outputs.{stands}
-use Rattle.controller.proofs.Traces.{table-left}
+use Rattle.controller.proofs.Traces.{number-is, table-left, table-begun}
 
 -- a well formed table of so many bytes is lent, and an output of so many
 abbrev pub lending : ℕ → ℕ → Lent
@@ -47,3 +51,18 @@ modelled {t = t} w h e (and {t₁ = t₁} {m = m} {ms = ms} out rest) =
     let q = step (lending (length t) (length (m .output))) w (m .call) in
     let ih : map shown ms ≡ observed (run (q .0) (lendings (length t₁) ms)) = modelled (q .0) (table-left h out) (k .world) rest in
     λ i. (k .answer i, k .bytes i) ∷ (ih ∙ ap (λ (n : ℕ). observed (run (q .0) (lendings n ms))) (out .size)) i
+
+-- what a start that is done leaves means the begun world
+begun-meaning : {t slice : List ℕ} {r : Answer} {t′ : List ℕ} → Outcome (start slice) t [] r t′ [] → r .number ≡ 0
+    → decode t′ ≡ begun (settings-of (payload slice)) 0
+unfolding step
+begun-meaning {t = t} {slice = slice} {r = r} out e =
+    let z : number t 0 (start slice) ≡ 0 = sym (number-is out) ∙ e in
+    let p = start-passes t slice z in
+    out .meaning ∙ ap (λ (n : ℕ). uncounted ((answered (decode t) (start slice) n) .0)) z
+    ∙ ap (λ (o : Option Settings). uncounted (after (decode t) (settled o))) (p .1)
+
+-- A HISTORY IS A RUN OF THE MODEL, from the begun world on
+pub history-modelled : {t t′ : List ℕ} {ms : List Made} (h : History t ms t′)
+    → map shown ms ≡ observed (run (begun (settings-of (payload (h .settings))) 0) (lendings (length t) ms))
+history-modelled h = modelled (begun (settings-of (payload (h .settings))) 0) (table-begun (h .begins) (h .done)) (begun-meaning (h .begins) (h .done)) (h .then)
