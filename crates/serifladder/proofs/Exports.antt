@@ -14,10 +14,10 @@ use Rattle.model.specs.Calls.{Call, Returned, answer-bytes, output, step}
 use Rattle.model.specs.Calls as model
 use Rattle.table.specs.Table.{decode}
 use Rattle.refusal.specs.Numbers.{lent}
-use Rattle.controller.specs.Contract.{said, Outcome}
+use Rattle.controller.specs.Contract.{said, model-answer, Outcome}
 use Rattle.controller.specs.declared.Answer.{Answer}
 use Rattle.controller.proofs.Outputs.{so-long}
-use Rattle.serifladder.specs.Export.{as-answer, told, Exported}
+use Rattle.serifladder.specs.Export.{told, Exported}
 
 still : (t : List ℕ) → decode t ≡ uncounted (decode t)
 unfolding decode
@@ -47,11 +47,11 @@ module _ (c : Call) (t o a : List ℕ) where
       }
 
   -- the call's outcome, with the answer y
-  pub made : {r : ℕ} {t′ o′ a′ : List ℕ} (y : Answer) → answer-least ≤ length a → Outcome c t o y t′ o′ → r ≡ y .number → a′ ≡ sets a 0 (answer-bytes (as-answer y))
+  pub made : {r : ℕ} {t′ o′ a′ : List ℕ} (y : Answer) → answer-least ≤ length a → Outcome c t o y t′ o′ → r ≡ y .number → a′ ≡ sets a 0 (answer-bytes (model-answer y))
       → Exported c t o a r t′ o′ a′
   made {r} y h w er ea =
       let e : told c t o a ≡ made-so = ap (λ (b : Bool). cond b not-made-so made-so) (le-ltb (length a) answer-least h) in
-      let same : as-answer y ≡ (said c t o) .1 = ap as-answer (w .answer) in
+      let same : model-answer y ≡ (said c t o) .1 = ap model-answer (w .answer) in
       let z : (r ≡ 0) → y .number ≡ 0 = λ q. sym er ∙ q in
       record {
         number = er ∙ ap (λ (x : Answer). x .number) (w .answer) ∙ sym (ap (λ (x : Returned). x .number) e);

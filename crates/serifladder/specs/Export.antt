@@ -8,14 +8,8 @@ use lib.Seq.{sets}
 use Rattle.model.specs.Limits.{output-least}
 use Rattle.model.specs.World.{uncounted}
 use Rattle.model.specs.Calls.{Call, Returned, returned}
-use Rattle.model.specs.Calls as model
 use Rattle.table.specs.Table.{table-used, decode, table-formed}
 use Rattle.refusal.specs.Numbers.{lent}
-use Rattle.controller.specs.declared.Answer.{Answer}
-
--- the model's answer with these four numbers
-abbrev pub as-answer : Answer → model.Answer
-as-answer x = record { number = x .number; consumed = x .consumed; written = x .written; taken = x .taken }
 
 -- what the model has C told, from what the lent table means
 abbrev pub told : Call → List ℕ → List ℕ → List ℕ → Returned

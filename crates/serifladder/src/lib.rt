@@ -13,7 +13,8 @@ ghost use Rattle.model.specs.Calls.{
   tool,
   answer-bytes,
 };
-ghost use Rattle.serifladder.specs.Export.{as-answer, Exported};
+ghost use Rattle.controller.specs.Contract.{model-answer};
+ghost use Rattle.serifladder.specs.Export.{Exported};
 use controller::Answer;
 
 // What C is told where the answer is too short for the four numbers: nothing is done.
@@ -24,7 +25,7 @@ const ANSWER_SIZE: usize = 32;
 // The four numbers, 8 bytes each, and the first of them.
 fn give(answer: &mut [u8], x: Answer) -> u64
     requires { ⌜ 32 ≤ length (now answer) ⌝ }
-    ensures { λ r. ⌜ (r ≡ x .number) × (now (answer .exit) ≡ sets (now (answer .entry)) 0 (answer-bytes (as-answer x))) ⌝ }
+    ensures { λ r. ⌜ (r ≡ x .number) × (now (answer .exit) ≡ sets (now (answer .entry)) 0 (answer-bytes (model-answer x))) ⌝ }
 {
     let a = text::put_little(answer, 0, 8, x.number);
     let b = text::put_little(answer, a, 8, x.consumed);
