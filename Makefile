@@ -30,8 +30,9 @@ test: tools
 	@$(MAKE) --silent --no-print-directory -C tests vectors
 	@rt ci
 
-# The further must-fail edits of tests/wrong, each in its crate, in a copy of the tree.
+# The further must-fail edits of tests/wrong, each in its crate, in a copy of the tree; before them, that docs/MUST-FAIL.md names all edits.
 wrong: tools
+	@python3 tests/wrong/check.py
 	@rm -rf target/wrong && mkdir -p target/wrong
 	@cp -r crates crates.txt target/wrong/
 	@for crate in tests/wrong/*/; do \
