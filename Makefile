@@ -21,7 +21,7 @@ tools:
 run: tools
 	@rt check | grep '^rt:'
 	@echo "each of these public functions is proved to answer what its ensures says:"
-	@grep -oE '^ *pub fn [a-z0-9_]+' crates/*/src/*.rt | sed -E 's#crates/([a-z]+)/.*: *pub fn (.*)#  \1::\2#'
+	@grep -oE '^ *pub (extern "C" )?fn [a-z0-9_]+' crates/*/src/*.rt | sed -E 's#crates/([a-z]+)/.*fn (.*)#  \1::\2#'
 
 # The layout, then the guide's frames and the stories through the implementation in C, then every proof and the must-fail edits.
 # rt ci comes last: its own last line is the gate's.
@@ -30,8 +30,9 @@ test: tools
 	@$(MAKE) --silent --no-print-directory -C tests vectors
 	@rt ci
 
-# The further must-fail edits of tests/wrong, each in its crate, in a copy of the tree.
+# The further must-fail edits of tests/wrong, each in its crate, in a copy of the tree; before them, that docs/MUST-FAIL.md names all edits.
 wrong: tools
+	@python3 tests/wrong/check.py
 	@rm -rf target/wrong && mkdir -p target/wrong
 	@cp -r crates crates.txt target/wrong/
 	@for crate in tests/wrong/*/; do \
