@@ -31,26 +31,21 @@ size-few kind = go (eqb kind 0)
     go true = omega arith
     go false = omega arith
 
-module _ (size held n : ℕ) (h : held * size ≤ n) (p : 0 < held) where
-  pub others-fit : size + (held - 1) * size ≤ n
-  others-fit = go held h p
-    where
-      go : (m : ℕ) → m * size ≤ n → 0 < m → size + (m - 1) * size ≤ n
-      go zero h p = absurd (omega arith)
-      go (suc m) h p = rw sub-one (let e = suc-mul m size in omega arith)
-
-  pub first-fits : size ≤ n
-  first-fits = let h = others-fit in omega arith
+pub first-fits : (size held n : ℕ) → held * size ≤ n → 0 < held → size ≤ n
+first-fits size zero n h p = absurd (omega arith)
+first-fits size (suc m) n h p = let e = suc-mul m size in omega arith
 
 -- ==== the first is gone
 
-pub popped : (kind held : ℕ) (places : List ℕ) → held * place-size kind ≤ length places → 0 < held
-    → notices-in kind (held - 1) (sets places 0 (take ((held - 1) * place-size kind) (drop (place-size kind) places)))
+popped : (kind held : ℕ) (places : List ℕ) → held * place-size kind ≤ length places → 0 < held
+    → notices-in kind (held - 1) (sets places 0 (take (length places - place-size kind) (drop (place-size kind) places)))
     ≡ shifted true (notices-in kind held places)
 unfolding notices-in
 popped kind zero places h p = absurd (omega arith)
 popped kind (suc n) places h p =
-    rw sub-one (ap (shifted true) (cells-pop (notice-in kind) (place-size kind) places n h))
+    let size = place-size kind in
+    let e = suc-mul n size in
+    rw sub-one (ap (shifted true) (cells-pop (notice-in kind) size places n (length places - size) (omega arith) (omega arith)))
 
 -- by the flag of a step
 module _ (kind held : ℕ) (places : List ℕ) where
@@ -59,7 +54,7 @@ module _ (kind held : ℕ) (places : List ℕ) where
   not-shifted false e = refl
 
   pub is-shifted : (b : Bool) (size : ℕ) → b ≡ true → size ≡ place-size kind → held * place-size kind ≤ length places → 0 < held
-      → notices-in kind (cond b (held - 1) held) (sets places 0 (take ((held - 1) * size) (drop size places))) ≡ shifted b (notices-in kind held places)
+      → notices-in kind (cond b (held - 1) held) (sets places 0 (take (length places - size) (drop size places))) ≡ shifted b (notices-in kind held places)
   is-shifted true size e z h p = rw z (popped kind held places h p)
   is-shifted false size e z h p = absurd (true≢false (sym e))
 

@@ -47,7 +47,8 @@ fn put_copy(
     frame::put_0061(out, at, s, revision, no_acknowledge, settings, place)
 }
 
-// The first notice is gone, and the others shift down, where they do.
+// The first notice is gone, and the others shift down, where they do: all the places behind the first, so that it costs the same
+// however many wait.
 fn shift_down(places: &mut [u8], kind: usize, held: u64, shift: bool)
     requires { ⌜ (held * place-size kind ≤ length (now places)) × (shift ≡ true → 0 < held) ⌝ }
     ensures { λ _. ⌜ notices-in kind (cond shift (held - 1) held) (now (places .exit)) ≡ shifted shift (notices-in kind held (now (places .entry))) ⌝ }
@@ -56,7 +57,7 @@ fn shift_down(places: &mut [u8], kind: usize, held: u64, shift: bool)
         return;
     }
     let size = place_size(kind);
-    let others = (held - 1) as usize * size;
+    let others = places.len() - size;
     text::shift(places, 0, size, others);
 }
 

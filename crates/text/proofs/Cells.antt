@@ -120,17 +120,16 @@ module _ {A : Type 0} (f : List ℕ → A) (k : ℕ) (l : List ℕ) where
       ∙ cells-take f k i (i * k) l (omega arith) in
       cells-snoc f k i (sets l (i * k) p) ∙ ap₂ (λ (a : List A) (b : List ℕ). a ++ (f b ∷ [])) old new
 
-  -- the first is gone, and the n others moved down
-  pub cells-pop : (n : ℕ) → suc n * k ≤ length l → f (take k l) ∷ cells f k n (sets l 0 (take (n * k) (drop k l))) ≡ cells f k (suc n) l
+  -- the first is gone, and m elements behind it moved down, the n other cells among them
+  pub cells-pop : (n m : ℕ) → n * k ≤ m → k + m ≤ length l → f (take k l) ∷ cells f k n (sets l 0 (take m (drop k l))) ≡ cells f k (suc n) l
   unfolding cells
-  cells-pop n h =
-      let g : n * k + k ≤ length l = rw suc-mul at h in
-      let ys = take (n * k) (drop k l) in
-      let ly : length ys ≡ n * k = length-take-le (n * k) (drop k l) (rw length-drop (omega arith)) in
-      let front : take (n * k) (sets l 0 ys) ≡ ys =
-      ap (λ (m : ℕ). take m (sets l 0 ys)) (sym ly ∙ sym (zero-add (length ys))) ∙ take-sets ys l 0 (omega arith) in
+  cells-pop n m few fits =
+      let ys = take m (drop k l) in
+      let ly : length ys ≡ m = length-take-le m (drop k l) (rw length-drop (omega arith)) in
+      let front : take m (sets l 0 ys) ≡ ys =
+      ap (λ (i : ℕ). take i (sets l 0 ys)) (sym ly ∙ sym (zero-add (length ys))) ∙ take-sets ys l 0 (omega arith) in
       ap (λ (z : List A). f (take k l) ∷ z)
-      (sym (cells-take f k n (n * k) (sets l 0 ys) (omega arith)) ∙ ap (cells f k n) front ∙ cells-take f k n (n * k) (drop k l) (omega arith))
+      (sym (cells-take f k n m (sets l 0 ys) few) ∙ ap (cells f k n) front ∙ cells-take f k n m (drop k l) few)
 
 -- ---- areas after a run of stores
 module _ (a k : ℕ) (l ys : List ℕ) (len : length ys ≡ k) (fits : a + k ≤ length l) where

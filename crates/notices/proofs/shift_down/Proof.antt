@@ -1,10 +1,10 @@
 -- `notices::shift_down` meets its contract. Assumes nothing.
 use borrow.Author.Needs.{needs}
 use borrow.Author.Tests.{not-true, not-false}
-use Prim.Native.Nat.{_+_, _-_, _*_, _≤_, _<_}
+use Prim.Native.Nat.{_*_, _≤_, _<_}
 use native.Mathlib.Omega.{arith}
 use lib.ListN.{length}
-use Rattle.notices.proofs.Places.{others-fit, not-shifted, is-shifted}
+use Rattle.notices.proofs.Places.{first-fits, not-shifted, is-shifted}
 use Rattle.notices.proofs.shift_down.Statement.{statement}
 use Rattle.notices.proofs.shift_down.Tie as tie
 
@@ -15,12 +15,12 @@ module _ (c : tie.Else1) where
   one : 0 < c .before .before .args .held
   one = c .before .before .pre .1 (not-false _ (c .if1 .left))
 
--- the others are there
+-- the first place is there
 module _ (c : tie.After-place-size) where
-  fit : let s = c .before .before .before in c .place-size .result + (s .args .held - 1) * c .place-size .result ≤ length (s .args .places .now)
+  fit : let s = c .before .before .before in c .place-size .result ≤ length (s .args .places .now)
   fit =
       let s = c .before .before .before in
-      others-fit (c .place-size .result) (s .args .held) (length (s .args .places .now)) (rw (c .place-size .ensures) (s .pre .0)) (one (c .before))
+      first-fits (c .place-size .result) (s .args .held) (length (s .args .places .now)) (rw (c .place-size .ensures) (s .pre .0)) (one (c .before))
 
 returns-2 : tie.Need-returns-2
 returns-2 c =
@@ -37,7 +37,6 @@ shift-down-spec =
     (tie.spec
     returns
     (λ c κs. search needs)
-    (λ c. let h = one (c .before) in search needs)
     (λ c. let h = fit c in search needs)
     (λ c κs. let h = fit (c .before) in search needs)
     (λ c. search needs)
