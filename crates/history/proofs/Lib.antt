@@ -1,0 +1,5 @@
+pub mod Subscriptions
+pub mod Signals
+pub mod Sessions
+pub mod Calls
+pub mod Turns

@@ -1,0 +1,3 @@
+pub mod Turns
+pub mod Reading
+pub mod Demand
