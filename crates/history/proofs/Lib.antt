@@ -3,3 +3,4 @@ pub mod Signals
 pub mod Sessions
 pub mod Calls
 pub mod Turns
+pub mod Frames

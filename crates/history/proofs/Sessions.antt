@@ -473,7 +473,7 @@ module _ (st : Settings) (k : ℕ) (R : Reading) where
           (λ kind h. dealt-does st (λ kind. beats) subs (l .3) kind h (newest kind) k k (suc i) run (beats-does (newest kind) st k (room-of kind) (getD subs kind unsubscribed))) refl
 
   -- bytes; b: a NUL ends the run
-  longer-read : (run : Run) (bs : List ℕ) → longer empty-run (R .run) ≡ run → longer empty-run (R .run ++ bs) ≡ longer run bs
+  pub longer-read : (run : Run) (bs : List ℕ) → longer empty-run (R .run) ≡ run → longer empty-run (R .run ++ bs) ≡ longer run bs
   longer-read run bs e = sym (longer-longer empty-run (R .run) bs) ∙ ap (λ (r : Run). longer r bs) e
 
   abbrev piece : List ℕ → Bool → Piece

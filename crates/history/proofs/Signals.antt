@@ -100,7 +100,7 @@ copies-silent st D xs =
 
 -- ==== what is silent may be left out
 
-frames-append : (xs ys : List Emission) → frames-in (xs ++ ys) ≡ frames-in xs ++ frames-in ys
+pub frames-append : (xs ys : List Emission) → frames-in (xs ++ ys) ≡ frames-in xs ++ frames-in ys
 frames-append [] ys = refl
 frames-append (reply f ∷ xs) ys = ap (f ∷_) (frames-append xs ys)
 frames-append (copy c ∷ xs) ys = ap (c .what .frame ∷_) (frames-append xs ys)

@@ -43,7 +43,7 @@ passed false false false true e n h = absurd (omega arith)
 passed false false false false true n h = absurd (omega arith)
 passed false false false false false n h = (refl, refl)
 
-open-passed : (l : Lent) (w : World) (t : ℕ) → refusal l w (open-session t) ≡ 0 → is-closed (session-at w t) ≡ true
+pub open-passed : (l : Lent) (w : World) (t : ℕ) → refusal l w (open-session t) ≡ 0 → is-closed (session-at w t) ≡ true
 unfolding refusal
 open-passed l w t h =
     not-false (is-closed (session-at w t))
