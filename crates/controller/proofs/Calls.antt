@@ -3,22 +3,21 @@ use mathlib.Core.Path.{_≡_, refl, sym, ap, _∙_}
 use Prim.Native.Nat.{ℕ, zero, suc, _≤_}
 use native.Mathlib.Nat.{zero-add}
 use native.Mathlib.Omega.{arith}
-use mathlib.Core.Bool.{Bool, true, false, cond}
 use mathlib.Core.List.{List, [], _∷_, _++_}
 use mathlib.Core.Option.{some}
-use lib.Dec.{eqb}
 use lib.ListN.{length}
 use lib.Seq.{sets}
 use Rattle.model.specs.Limits.{output-least}
 use Rattle.model.specs.Records.{Settings, payload, settings-of, read-settings}
 use Rattle.model.specs.Session.{Session, closed, opened, started, Emission}
-use Rattle.model.specs.Steps.{opening, hang-up, elsewhere, step as session-step}
+use Rattle.model.specs.Steps.{hang-up, step as session-step}
 use Rattle.model.specs.World.{World, uncounted, Moment, begins, opens, hangs-up, each, begun, next, emits, emitted}
 use Rattle.model.specs.Calls.{Call, start, open-session, hang-up-session, moments, output, consumed-of, taken-of, answered, step}
 use Rattle.model.specs.Row.{Tagged}
 use Rattle.model.proofs.RowLaws.{said-none}
 use Rattle.text.proofs.Puts.{put-nothing}
 use Rattle.table.specs.Table.{decode, Table, Becomes, Went}
+use Rattle.table.proofs.Alone.{opens-silent, hangs-up-silent}
 use Rattle.refusal.specs.Numbers.{number}
 use Rattle.controller.specs.declared.Answer.{Answer}
 use Rattle.controller.specs.Contract.{Said, said, numbers, Outcome}
@@ -79,32 +78,13 @@ nothing-passed t o h = record {
 
 -- ==== calls that emit nothing
 
--- what a session says where it has nothing to say
-opening-silent : (st : Settings) (b : Bool) (x : Session) → (session-step st (cond b opening elsewhere) x) .1 ≡ []
-opening-silent st true closed = refl
-opening-silent st true (opened idle run) = refl
-opening-silent st true (started idle run subs) = refl
-opening-silent st false closed = refl
-opening-silent st false (opened idle run) = refl
-opening-silent st false (started idle run subs) = refl
-
-hang-up-silent : (st : Settings) (b : Bool) (x : Session) → (session-step st (cond b hang-up elsewhere) x) .1 ≡ []
-hang-up-silent st true closed = refl
-hang-up-silent st true (opened idle run) = refl
-hang-up-silent st true (started idle run subs) = refl
-hang-up-silent st false closed = refl
-hang-up-silent st false (opened idle run) = refl
-hang-up-silent st false (started idle run subs) = refl
-
-module _ (w : World) where
-  open-silent : (s : ℕ) → emits w (opens s) ≡ []
-  open-silent s = said-none (each w (opens s)) (λ n. opening-silent (w .settings) (eqb n s)) 0 (w .sessions)
-
-  hung-up-silent : (s : ℕ) → emits w (hangs-up s) ≡ []
-  hung-up-silent s = said-none (each w (hangs-up s)) (λ n. hang-up-silent (w .settings) (eqb n s)) 0 (w .sessions)
-
-  start-silent : (st : Settings) → emits w (begins st) ≡ []
-  start-silent st = said-none (each w (begins st)) (λ n. hang-up-silent (w .settings) true) 0 (w .sessions)
+pub start-silent : (w : World) (st : Settings) → emits w (begins st) ≡ []
+start-silent w st = said-none (each w (begins st)) (λ n. go) 0 (w .sessions)
+  where
+    go : (x : Session) → (session-step (w .settings) hang-up x) .1 ≡ []
+    go closed = refl
+    go (opened idle run) = refl
+    go (started idle run subs) = refl
 
 -- a moment that only the table shows
 quietly : (t o : List ℕ) (m : Moment) {t′ : List ℕ} → emits (decode t) m ≡ [] → Becomes t (uncounted (next (decode t) m)) t′ → Went t o 0 (m ∷ []) 0 t′ o
@@ -113,10 +93,10 @@ quietly t o m e b =
     record { table = b; bytes = record { output = sym (ap (sets o 0) n); place = sym (zero-add _ ∙ ap length n) } }
 
 pub opened-quietly : (t o : List ℕ) (s : ℕ) {t′ : List ℕ} → Becomes t (uncounted (next (decode t) (opens s))) t′ → Went t o 0 (moments (decode t) (open-session s)) 0 t′ o
-opened-quietly t o s b = quietly t o (opens s) (open-silent (decode t) s) b
+opened-quietly t o s b = quietly t o (opens s) (opens-silent (decode t) s) b
 
 pub hung-up-quietly : (t o : List ℕ) (s : ℕ) {t′ : List ℕ} → Becomes t (uncounted (next (decode t) (hangs-up s))) t′ → Went t o 0 (moments (decode t) (hang-up-session s)) 0 t′ o
-hung-up-quietly t o s b = quietly t o (hangs-up s) (hung-up-silent (decode t) s) b
+hung-up-quietly t o s b = quietly t o (hangs-up s) (hangs-up-silent (decode t) s) b
 
 pub started-quietly : (t o slice : List ℕ) {t′ : List ℕ} → read-settings slice ≡ some (settings-of (payload slice))
     → Becomes t (begun (settings-of (payload slice)) 0) t′ → Went t o 0 (moments (decode t) (start slice)) 0 t′ o

@@ -5,9 +5,10 @@ use mathlib.Core.Path.{_≡_, sym, ap, _∙_}
 use Prim.Native.Nat.{ℕ}
 use mathlib.Core.List.{List}
 use lib.ListN.{length, drop}
+use lib.Seq.{drop-drop}
 use Rattle.model.specs.Limits.{table-least}
 use Rattle.model.specs.Calls.{Call}
-use Rattle.table.specs.Table.{decode}
+use Rattle.table.specs.Table.{table-used, decode}
 use Rattle.controller.specs.declared.Answer.{Answer}
 use Rattle.controller.specs.Contract.{Outcome}
 
@@ -16,7 +17,7 @@ pub record Same (r : Answer) (t o : List ℕ) (r₂ : Answer) (t₂ o₂ : List 
   pub meaning : decode t ≡ decode t₂
   pub output : o ≡ o₂
   pub size : length t ≡ length t₂
-  pub past : drop table-least t ≡ drop table-least t₂
+  pub past : drop table-used t ≡ drop table-used t₂
   pub kept : (r .number ≡ 0 → ⊥) → t ≡ t₂
 
 pub determined : {c : Call} {t o : List ℕ} {r r₂ : Answer} {t′ o′ t₂ o₂ : List ℕ}
@@ -31,3 +32,7 @@ determined {r = r} {r₂ = r₂} a b =
       past = a .past ∙ sym (b .past);
       kept = λ n. a .kept n ∙ sym (b .kept (λ z. n (ap (λ (x : Answer). x .number) e ∙ z)));
     }
+
+-- no byte past 16,384 is altered
+pub past-least : {c : Call} {t o : List ℕ} {r : Answer} {t′ o′ : List ℕ} → Outcome c t o r t′ o′ → drop table-least t′ ≡ drop table-least t
+past-least {t = t} {t′ = t′} out = sym (drop-drop 11_264 table-used t′) ∙ ap (drop 11_264) (out .past) ∙ drop-drop 11_264 table-used t

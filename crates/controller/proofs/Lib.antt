@@ -3,3 +3,7 @@ pub mod Determined
 pub mod Traces
 pub mod Results
 pub mod Tools
+pub mod Erased
+pub mod Outputs
+pub mod Modelled
+pub mod Uncut

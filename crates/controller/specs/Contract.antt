@@ -5,13 +5,13 @@ use mathlib.Core.Bool.{true}
 use mathlib.Core.List.{List}
 use lib.ListN.{length, drop}
 use lib.Seq.{sets}
-use Rattle.model.specs.Limits.{table-least, output-least}
+use Rattle.model.specs.Limits.{output-least}
 use Rattle.model.specs.Session.{Emission}
 use Rattle.model.specs.World.{World, uncounted}
 use Rattle.model.specs.Calls.{Call, output, step}
 use Rattle.model.specs.Calls as model
 use Rattle.model.specs.Row.{Tagged}
-use Rattle.table.specs.Table.{decode, table-formed}
+use Rattle.table.specs.Table.{table-used, decode, table-formed}
 use Rattle.refusal.specs.Numbers.{lent}
 use Rattle.controller.specs.declared.Answer.{Answer}
 
@@ -27,6 +27,9 @@ said c t o = step (lent t (length o)) (decode t) c
 abbrev pub numbers : model.Answer → Answer
 numbers a = record { number = a .number; consumed = a .consumed; written = a .written; taken = a .taken }
 
+abbrev pub model-answer : Answer → model.Answer
+model-answer r = record { number = r .number; consumed = r .consumed; written = r .written; taken = r .taken }
+
 -- the call c, lent the table t and the output o, answers r and leaves the table t′ and the output o′. (A start is lent no output:
 -- there o is empty)
 pub record Outcome (c : Call) (t o : List ℕ) (r : Answer) (t′ o′ : List ℕ) : Type 0 where
@@ -36,7 +39,8 @@ pub record Outcome (c : Call) (t o : List ℕ) (r : Answer) (t′ o′ : List �
   pub output : o′ ≡ sets o 0 (output ((said c t o) .2))
   pub fits : r .written ≤ output-least
   pub size : length t′ ≡ length t
-  pub past : drop table-least t′ ≡ drop table-least t
+  -- past the bytes that are used, and so past 16,384
+  pub past : drop table-used t′ ≡ drop table-used t
   -- done
   pub formed : r .number ≡ 0 → table-formed t′ ≡ true
   -- refused

@@ -1,10 +1,13 @@
 -- 01, "What the product holds": a history of calls in which only these calls write the table. Assumes nothing: these are definitions.
 use mathlib.Core.Path.{_≡_}
 use Prim.Native.Nat.{ℕ}
+use mathlib.Core.Bool.{true}
 use mathlib.Core.List.{List, [], _∷_}
-use Rattle.model.specs.Calls.{Call, start}
+use lib.ListN.{length, take}
+use Rattle.model.specs.Calls.{Call, start, Lent}
+use Rattle.model.specs.Calls as model
 use Rattle.controller.specs.declared.Answer.{Answer}
-use Rattle.controller.specs.Contract.{Outcome}
+use Rattle.controller.specs.Contract.{Outcome, model-answer}
 
 -- a call that was made: the output that it was lent, its answer, and the output that it left
 pub record Made : Type 0 where
@@ -33,3 +36,14 @@ pub record History (t : List ℕ) (ms : List Made) (t′ : List ℕ) : Type 0 wh
   pub begins : Outcome (start settings) before [] answer t []
   pub done : answer .number ≡ 0
   pub then : Trace t ms t′
+
+-- ==== what a history shows, and the model's run of the same calls
+
+-- a call's answer, and the records that it wrote
+abbrev pub shown : Made → model.Answer × List ℕ
+shown m = (model-answer (m .answer), take (m .answer .written) (m .output-left))
+
+-- as each call was lent a well formed table of so many bytes, and its output
+abbrev pub lendings : ℕ → List Made → List (Lent × Call)
+lendings size [] = []
+lendings size (m ∷ ms) = (record { table = size; well-formed = true; output = length (m .output) }, m .call) ∷ lendings size ms

@@ -12,6 +12,7 @@ ghost use Rattle.model.specs.Calls.{
   start as start-call,
   open-session,
   hang-up-session,
+  bytes as bytes-call,
   one-tick,
   tool,
   reported,
@@ -101,6 +102,18 @@ pub fn tick(table: &mut [u8], output: &mut [u8]) -> Answer
 }
 
 // ---- received bytes
+
+// They are refused where a hang-up would be.
+pub fn bytes(table: &mut [u8], output: &mut [u8], session: u64, slice: &[u8]) -> Answer
+    ensures { λ r. ⌜ Outcome (bytes-call session (now (slice .entry))) (now (table .entry)) (now (output .entry)) r (now (table .exit)) (now (output .exit)) ⌝ }
+{
+    let n = refusal::hang_up(table, output.len(), session);
+    if n != 0 {
+        return refused(n);
+    }
+    let at = table::receive(table, output, 0, session, slice);
+    done(run::consumed(slice) as u64, at as u64, 0)
+}
 
 // What a call left of the bytes that it was given, for the next call.
 pub fn rest(bytes: &[u8], answer: Answer) -> &[u8]

@@ -253,6 +253,24 @@ module _ (l : Lent) (s : ℕ) where
           ap (read-rest calls (b ∷ bs)) (one-step l w s 0 (b ∷ bs) e) ∙ ap (and-then (emitted w ms)) (ih (after w ms)) ∙ sym (one-call w b bs e)
       go (suc n) e ih = refused-reading (suc calls) w n (b ∷ bs) e ∙ sym (refused-bytes w n (b ∷ bs) e)
 
+  -- a call, and then what it left
+  pub read-on : (w : World) (b : ℕ) (bs : List ℕ) → read-all l w s (b ∷ bs) ≡ (let r = step l w (bytes s (b ∷ bs)) in and-then (r .2) (read-all l (r .0) s (drop ((r .1) .consumed) (b ∷ bs))))
+  unfolding read-within
+  read-on w b bs = go (number l w s) refl
+    where
+      whole : Outcome → Read
+      whole r = and-then (r .2) (read-all l (r .0) s (drop ((r .1) .consumed) (b ∷ bs)))
+
+      go : (n : ℕ) → number l w s ≡ n → read-all l w s (b ∷ bs) ≡ whole (step l w (bytes s (b ∷ bs)))
+      go zero e =
+          let rest = drop (consumed-by (cut (b ∷ bs))) (b ∷ bs) in
+          let v = after w (piece-moments w s (cut (b ∷ bs))) in
+          let h : length rest ≤ length bs = rw length-drop (omega (arith, consumes b bs)) in
+          ap (read-rest (length bs) (b ∷ bs)) (one-step l w s 0 (b ∷ bs) e)
+          ∙ ap (and-then (emitted w (piece-moments w s (cut (b ∷ bs))))) (reading (length bs) v rest h ∙ sym (reading (length rest) v rest (omega arith)))
+          ∙ sym (ap whole (one-step l w s 0 (b ∷ bs) e))
+      go (suc n) e = sym (ap whole (one-step l w s (suc n) (b ∷ bs) e))
+
 -- ==== CUTS DO NOT MATTER
 
 -- two slices, and their bytes in one

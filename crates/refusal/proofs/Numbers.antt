@@ -15,6 +15,7 @@ use Rattle.model.specs.Records.{payload, Item, is-record, payload-length, parts
 use Rattle.model.specs.Session.{is-closed}
 use Rattle.model.specs.World.{session-at}
 use Rattle.model.specs.Calls.{start, open-session, hang-up-session, bytes, one-tick, tool, lent-tests, refusal, is-none}
+use Rattle.model.specs.Calls as model
 use Rattle.table.specs.Table.{decode, table-formed, Table}
 use Rattle.record.specs.declared.Kind.{Kind}
 use Rattle.record.specs.declared.Kind.the-variants.{Bad, Tightening, Scanned}
@@ -162,6 +163,11 @@ tool-passes t n kind e =
   where
     nonzero : (k : ℕ) → suc k ≡ 0 → ⊥
     nonzero k z = omega arith
+
+-- what is lent will do, whatever the record's kind
+pub tool-ready : (t : List ℕ) (n : ℕ) (slice : List ℕ) → number t n (tool slice) ≡ 0 → Ready t n
+unfolding refusal
+tool-ready t n slice e = is-ready t n (none-applies t n (is-none (read-tool slice) gives 7 ∷ cond (model.is-tightening (read-tool slice)) (eqb (decode t .last) number-greatest) false gives 8 ∷ []) e .0)
 
 -- good settings, and a table that is long enough
 pub start-passes : (t slice : List ℕ) → number t 0 (start slice) ≡ 0

@@ -7,19 +7,19 @@ use mathlib.Core.Bool.{Bool, true, false, _&&_, and-eq-true-iff}
 use mathlib.Core.List.{List, [], _∷_}
 use lib.Dec.{lit≤}
 use lib.ListN.{length, getD, set, drop, replicate, length-drop, drop-of-length-le}
-use lib.Seq.{length-take-le}
+use lib.Seq.{drop-drop, length-take-le}
 use borrow.Rule.Slice.PartMut.{putMid, midOf, mid-len, same-len-mid}
 use Rattle.model.specs.Limits.{table-least}
 use Rattle.model.specs.Bytes.{all}
 use Rattle.model.specs.Records.{settings-of}
 use Rattle.model.specs.Session.{Session, closed}
-use Rattle.model.specs.World.{session-at}
+use Rattle.model.specs.World.{World, session-at}
 use Rattle.text.specs.Cells.{cells}
 use Rattle.text.proofs.Lists.{drop-next, all-at, drop-after}
 use Rattle.text.proofs.Cells.{area-same, area-before, part-put, part-at, length-cells}
 use Rattle.shared.specs.Shared.{settings-part, in-force-of, last-of, shared-formed, Area, Holds}
 use Rattle.region.specs.Region.{session-of, region-formed, Good}
-use Rattle.table.specs.Table.{shared-area, regions, decode, table-formed, Table, Becomes}
+use Rattle.table.specs.Table.{shared-area, table-used, regions, decode, table-formed, Table, Becomes}
 
 -- the region of session s, and the table with ys for it, as lending `&mut table[a..a + 1024]` has them
 abbrev pub part : List ℕ → ℕ → List ℕ
@@ -135,8 +135,8 @@ module _ (t : List ℕ) (s : ℕ) (ys : List ℕ) (long : table-least ≤ length
   pub put-size : length (put t s ys) ≡ length t
   put-size = same-len-mid at (at + 1_024 - at) t ys (len ∙ sym (length-part t s long h))
 
-  pub put-past : drop table-least (put t s ys) ≡ drop table-least t
-  put-past = drop-after t ys at (at + 1_024 - at) table-least len-part fits (omega (arith, part-size s))
+  pub put-past : drop table-used (put t s ys) ≡ drop table-used t
+  put-past = drop-after t ys at (at + 1_024 - at) table-used len-part fits (omega (arith, part-size s))
 
   pub put-shared : shared-area (put t s ys) ≡ shared-area t
   put-shared = area-before at (at + 1_024 - at) t ys len-part fits 0 1_024 (omega arith)
@@ -156,8 +156,8 @@ module _ (t ys : List ℕ) (long : table-least ≤ length t) (len : length ys �
   pub front-size : length (front t ys) ≡ length t
   front-size = same-len-mid 0 1_024 t ys (len ∙ sym (length-shared t long))
 
-  pub front-past : drop table-least (front t ys) ≡ drop table-least t
-  front-past = drop-after t ys 0 1_024 table-least len front-fits (lit≤ tt)
+  pub front-past : drop table-used (front t ys) ≡ drop table-used t
+  front-past = drop-after t ys 0 1_024 table-used len front-fits (lit≤ tt)
 
   pub front-shared : shared-area (front t ys) ≡ ys
   front-shared = area-same 0 1_024 t ys len front-fits
@@ -203,6 +203,11 @@ put-means t s r ss h b g e =
       meaning = table-means (put t s r) (settings-part (shared-area t)) (in-force-of (shared-area t)) (last-of (shared-area t)) ss
           (holds-as-before t (put t s r) h (put-shared t s r l b n)) (put-regions t s r l b n session-of ∙ e);
     }
+
+-- ==== what is past 16,384 bytes is past those that are used
+
+pub past-least : {t t′ : List ℕ} {w : World} → Becomes t w t′ → drop table-least t′ ≡ drop table-least t
+past-least {t} {t′} b = sym (drop-drop 11_264 table-used t′) ∙ ap (drop 11_264) (b .past) ∙ drop-drop 11_264 table-used t
 
 -- ==== a table of zeros is none that a start has made
 

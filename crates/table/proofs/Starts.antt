@@ -14,7 +14,7 @@ use Rattle.model.specs.Session.{closed}
 use Rattle.model.specs.World.{begun}
 use Rattle.shared.specs.Shared.{Holds}
 use Rattle.region.specs.Region.{session-of, region-formed, Good}
-use Rattle.table.specs.Table.{regions, Becomes}
+use Rattle.table.specs.Table.{table-used, regions, Becomes}
 use Rattle.table.proofs.Regions.{length-regions, table-of, table-means, put, put-size, put-past, put-regions, front, front-size, front-past, front-shared, front-regions}
 
 -- the first s of a list are x: one more, and all of them
@@ -30,7 +30,7 @@ module _ {A : Type 0} (x : A) where
 pub record Closed (t₀ t : List ℕ) (s : ℕ) : Type 0 where
   pub within : s ≤ 4
   pub size : length t ≡ length t₀
-  pub past : drop table-least t ≡ drop table-least t₀
+  pub past : drop table-used t ≡ drop table-used t₀
   pub sessions : take s (regions session-of t) ≡ replicate s closed
   pub formed : take s (regions region-formed t) ≡ replicate s true
 

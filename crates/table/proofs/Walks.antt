@@ -7,7 +7,6 @@ use mathlib.Core.Bool.{cond}
 use mathlib.Core.List.{List, [], _∷_, _++_, append-assoc, append-nil}
 use lib.ListN.{length, getD, set, take, drop, drop-of-length-le}
 use lib.Seq.{take-all, take-suc-set, drop-cons, drop-set-lt}
-use Rattle.model.specs.Limits.{table-least}
 use Rattle.model.specs.Records.{Settings}
 use Rattle.model.specs.Session.{Session, closed, Emission}
 use Rattle.model.specs.Steps.{Local, step, takes}
@@ -19,7 +18,7 @@ use Rattle.text.proofs.Puts.{Left, left-all, left-put, left-none, left-as}
 use Rattle.region.specs.Region.{session-of, out-bytes, Steps}
 use Rattle.region.proofs.Outputs.{output-append}
 use Rattle.shared.specs.Shared.{settings-part, in-force-of, last-of}
-use Rattle.table.specs.Table.{shared-area, regions, decode, Table, Becomes}
+use Rattle.table.specs.Table.{shared-area, table-used, regions, decode, Table, Becomes}
 use Rattle.table.proofs.Regions.{part, put, region-at, length-regions, put-size, put-past, put-shared, put-regions, put-table, table-means, holds-as-before}
 
 -- ==== the sessions from s on, one later: l are the sessions, of which x stands at s; y takes its place
@@ -54,7 +53,7 @@ module _ (act : ℕ → Session → Session × List Emission) where
     pub within : s ≤ 4
     pub table : Table t
     pub size : length t ≡ length t₀
-    pub past : drop table-least t ≡ drop table-least t₀
+    pub past : drop table-used t ≡ drop table-used t₀
     pub shared : shared-area t ≡ shared-area t₀
     pub sessions : take s (regions session-of t) ++ row act s (drop s (regions session-of t)) ≡ row act 0 (regions session-of t₀)
     pub bytes : Left o₀ at₀ (output (said act 0 (regions session-of t₀))) o at (output (said act s (drop s (regions session-of t))))

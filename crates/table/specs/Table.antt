@@ -1,7 +1,7 @@
 -- The lent table: what all sessions share, then a region for each session. 01, "What the product holds"; docs/TABLE.md has the map.
 -- Assumes nothing: these are definitions.
 use mathlib.Core.Path.{_≡_}
-use Prim.Native.Nat.{ℕ, _≤_}
+use Prim.Native.Nat.{ℕ, _+_, _*_, _≤_}
 use mathlib.Core.Bool.{Bool, true, _&&_}
 use mathlib.Core.List.{List}
 use lib.ListN.{length, take, drop}
@@ -28,6 +28,10 @@ shared-area t = take shared-size (drop 0 t)
 abbrev pub regions : {A : Type 0} → (List ℕ → A) → List ℕ → List A
 regions f t = cells f region-size session-count (drop shared-size t)
 
+-- so many bytes are used, of those that are lent
+abbrev pub table-used : ℕ
+table-used = shared-size + session-count * region-size
+
 -- ==== its meaning (it keeps no count of events)
 
 unfoldable pub decode : List ℕ → World
@@ -50,11 +54,11 @@ pub record Table (t : List ℕ) : Type 0 where
 
 -- ==== what a call makes of it
 
--- 01, "What the product holds": t has become t′, which means w, is as long as t was, and past what is used has the same bytes
+-- 01, "What the product holds": t has become t′, which means w, is as long as t was, and has the same bytes past those that are used
 pub record Becomes (t : List ℕ) (w : World) (t′ : List ℕ) : Type 0 where
   pub table : Table t′
   pub size : length t′ ≡ length t
-  pub past : drop table-least t′ ≡ drop table-least t
+  pub past : drop table-used t′ ≡ drop table-used t
   pub meaning : decode t′ ≡ w
 
 -- 01, "Frames we write" and "House records": what an event leaves to all sessions, besides its notices

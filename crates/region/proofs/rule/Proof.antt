@@ -15,7 +15,7 @@ announce-requires : tie.Need-announce-requires
 announce-requires c κs =
     let d = c .before .before .before .before in
     let s = d .before .before .before .before .before in
-    (s .pre .4, data-few (s .args .run .now) _ (s .pre .3) (d .rest .ensures))
+    (s .pre .4, data-few (s .args .run .now) _ (s .pre .3) (d .data-field .ensures))
 
 reply-requires : tie.Need-reply-requires
 reply-requires c κs =
@@ -27,7 +27,7 @@ reply-requires c κs =
     let a = s .args in
     let p = s .pre in
     let st = settings-of (a .settings .now) in
-    let e = ruled st (a .x) (a .run .now) (a .count) (g .is-granted .ensures) (h .read-header .ensures) (f .rest .ensures) (d .decide .ensures) in
+    let e = ruled st (a .x) (a .run .now) (a .count) (g .is-granted .ensures) (h .read-header .ensures) (f .data-field .ensures) (d .decide .ensures) in
     (p .0, p .1, p .2, λ m. mirror-whole st (a .x) (record { kept = a .run .now; count = a .count }) (sym e ∙ m))
 
 returns : tie.Need-returns
@@ -42,10 +42,10 @@ returns c =
     let a = s .args in
     let st = settings-of (a .settings .now) in
     record {
-      decides = ruled st (a .x) (a .run .now) (a .count) (g .is-granted .ensures) (h .read-header .ensures) (f .rest .ensures) (d .decide .ensures);
+      decides = ruled st (a .x) (a .run .now) (a .count) (g .is-granted .ensures) (h .read-header .ensures) (f .data-field .ensures) (d .decide .ensures);
       within = y .reply .ensures .0;
       bytes = y .reply .ensures .1;
-      knows = subst (λ (bs : List ℕ). Knows (announced (d .decide .result) bs) (a .place .now) (n .announce .result) (n .announce .last .0)) (f .rest .ensures) (n .announce .ensures);
+      knows = subst (λ (bs : List ℕ). Knows (announced (d .decide .result) bs) (a .place .now) (n .announce .result) (n .announce .last .0)) (f .data-field .ensures) (n .announce .ensures);
     }
 
 pub rule-spec : {M : Type 1} → statement M

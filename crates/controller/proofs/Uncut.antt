@@ -1,0 +1,76 @@
+-- 01, "Runs and headers": received bytes, handed on call by call, are read as the model reads them uncut; so that how they were cut
+-- does not matter. Assumes nothing.
+use mathlib.Core.Path.{_≡_, refl, sym, ap, ap₂, _∙_}
+use Prim.Native.Nat.{ℕ, _≤_}
+use mathlib.Core.List.{List, _∷_, _++_}
+use lib.ListN.{length, drop}
+use borrow.Author.Tests.{le-ltb}
+use Rattle.model.specs.Limits.{output-least}
+use Rattle.model.specs.World.{World}
+use Rattle.model.specs.Calls as model
+use Rattle.model.specs.Calls.{bytes, output, refusal, step}
+use Rattle.model.specs.Reading.{Read, read-within, read-all}
+use Rattle.model.proofs.Cuts.{read-on, cut-anywhere}
+use Rattle.model.proofs.Erase.{erase-world}
+use Rattle.region.proofs.Outputs.{output-append}
+use Rattle.table.specs.Table.{decode, Table}
+use Rattle.controller.specs.declared.Answer.{Answer}
+use Rattle.controller.specs.Contract.{Said}
+use Rattle.controller.specs.Reading.{Reads, nothing-left, and-on}
+use Rattle.controller.proofs.Traces.{table-left}
+use Rattle.controller.proofs.Modelled.{lending, one-call}
+use Rattle.controller.proofs.Erased.{decode-erased}
+
+-- an output that is long enough is as good as any other
+room-enough : (size room s : ℕ) (bs : List ℕ) (w : World) → output-least ≤ room → step (lending size room) w (bytes s bs) ≡ step (lending size output-least) w (bytes s bs)
+unfolding step refusal
+room-enough size room s bs w h = rw (le-ltb room output-least h)
+
+-- what was read, and the model's reading
+pub record Read-as (m : Read) (size : ℕ) (out t′ : List ℕ) : Type 0 where
+  pub world : decode t′ ≡ erase-world (m .world)
+  pub bytes : out ≡ output (m .emissions)
+  pub table : Table t′
+  pub same-size : length t′ ≡ size
+
+pub as-uncut : {s : ℕ} {t bs out t′ : List ℕ} (w : World) → Table t → decode t ≡ erase-world w → Reads s t bs out t′
+    → Read-as (read-all (lending (length t) output-least) w s bs) (length t) out t′
+unfolding read-within
+as-uncut w h e nothing-left = record { world = e; bytes = refl; table = h; same-size = refl }
+as-uncut {s = s} {t = t} w h e (and-on {t₁ = t₁} {o = o} {bs = bs} {b = b} {r = r} room out rest) =
+    let l = lending (length t) output-least in
+    let q = step l w (bytes s (b ∷ bs)) in
+    let same : step (lending (length t) (length o)) w (bytes s (b ∷ bs)) ≡ q = room-enough (length t) (length o) s (b ∷ bs) w room in
+    let k = one-call w h e out in
+    let next : decode t₁ ≡ erase-world (q .0) = k .world ∙ ap (λ (x : Said). erase-world (x .0)) same in
+    let left : r .consumed ≡ (q .1) .consumed = ap (λ (a : model.Answer). a .consumed) (k .answer) ∙ ap (λ (x : Said). (x .1) .consumed) same in
+    let ih = as-uncut (q .0) (table-left h out) next rest in
+    let m : read-all (lending (length t₁) output-least) (q .0) s (drop (r .consumed) (b ∷ bs)) ≡ read-all l (q .0) s (drop ((q .1) .consumed) (b ∷ bs)) =
+    ap₂ (λ (size n : ℕ). read-all (lending size output-least) (q .0) s (drop n (b ∷ bs))) (out .size) left in
+    record {
+      world = ih .world ∙ ap (λ (x : Read). erase-world (x .world)) m ∙ ap (λ (x : Read). erase-world (x .world)) (sym (read-on l s w b bs));
+      bytes =
+          ap₂ _++_ (k .bytes ∙ ap (λ (x : Said). output (x .2)) same) (ih .bytes ∙ ap (λ (x : Read). output (x .emissions)) m)
+          ∙ sym (output-append (q .2) _) ∙ ap (λ (x : Read). output (x .emissions)) (sym (read-on l s w b bs));
+      table = ih .table;
+      same-size = ih .same-size ∙ out .size;
+    }
+
+-- CUTS DO NOT MATTER: two slices one after the other, or their bytes in one, leave a table of the same meaning, and have the same
+-- records written
+pub cut-anywhere-same : {s : ℕ} {t xs ys out₁ out₂ out t₁ t₂ t′ : List ℕ} → Table t → Reads s t xs out₁ t₁ → Reads s t₁ ys out₂ t₂ → Reads s t (xs ++ ys) out t′
+    → (decode t₂ ≡ decode t′) × (out₁ ++ out₂ ≡ out)
+cut-anywhere-same {s = s} {t = t} {xs = xs} {ys = ys} {t₁ = t₁} h a b c =
+    let l = lending (length t) output-least in
+    let w = decode t in
+    let first = as-uncut w h (decode-erased t) a in
+    let m = read-all l w s xs in
+    let second = as-uncut (m .world) (first .table) (first .world) b in
+    let whole = as-uncut w h (decode-erased t) c in
+    let n : read-all (lending (length t₁) output-least) (m .world) s ys ≡ read-all l (m .world) s ys =
+    ap (λ (size : ℕ). read-all (lending size output-least) (m .world) s ys) (first .same-size) in
+    let k = cut-anywhere l w s xs ys in (
+      second .world ∙ ap (λ (x : Read). erase-world (x .world)) n ∙ sym (ap (λ (x : Read). erase-world (x .world)) k) ∙ sym (whole .world),
+      ap₂ _++_ (first .bytes) (second .bytes ∙ ap (λ (x : Read). output (x .emissions)) n)
+          ∙ sym (output-append (m .emissions) _) ∙ sym (ap (λ (x : Read). output (x .emissions)) k) ∙ sym (whole .bytes),
+    )

@@ -1,0 +1,50 @@
+-- `controller::bytes` meets its contract. Assumes nothing.
+use borrow.Author.Needs.{needs}
+use mathlib.Core.Path.{refl, sym, _∙_}
+use native.Mathlib.Omega.{arith}
+use lib.ListN.{length}
+use Rattle.model.specs.Calls.{bytes}
+use Rattle.refusal.proofs.Numbers.{hang-up-passes, bytes-refused}
+use Rattle.controller.proofs.Calls.{refuse, finish}
+use Rattle.controller.proofs.bytes.Statement.{statement}
+use Rattle.controller.proofs.bytes.Tie as tie
+
+returns : tie.Need-returns
+returns c =
+    let n = c .before .before in
+    let a = n .before .before .before .before .before .args in
+    refuse (bytes (a .session) (a .slice .now)) (a .table .now) (a .output .now) (n .hang-up .ensures ∙ bytes-refused (a .table .now) (length (a .output .now)) (a .session) (a .slice .now)) (c .before .if1 .taken) (c .refused .ensures)
+
+receive-requires : tie.Need-receive-requires
+receive-requires c κs =
+    let i = c .before .before in
+    let n = i .before in
+    let a = n .before .before .before .before .before .args in
+    let p = hang-up-passes (a .table .now) (length (a .output .now)) (a .session) (sym (n .hang-up .ensures) ∙ i .if1 .left) in
+    let h = p .0 .room in
+    (p .0 .table, p .1, omega arith)
+
+returns-2 : tie.Need-returns-2
+returns-2 c =
+    let d = c .before .before .before .before .before .before in
+    let i = d .before .before .before in
+    let n = i .before in
+    let a = n .before .before .before .before .before .args in
+    finish (bytes (a .session) (a .slice .now)) (a .table .now) (a .output .now) (d .receive .result) (c .before .consumed .result) 0
+    (n .hang-up .ensures ∙ bytes-refused (a .table .now) (length (a .output .now)) (a .session) (a .slice .now)) (i .if1 .left) (c .done .ensures) (c .before .consumed .ensures) refl
+    (d .receive .ensures .1) (omega (arith, d .receive .ensures .0))
+
+pub bytes-spec : {M : Type 1} → statement M
+bytes-spec =
+    tie.close
+    (tie.spec
+    (λ c κs. search needs)
+    (λ c κs. search needs)
+    (λ c. search needs)
+    returns
+    receive-requires
+    (λ c κs. search needs)
+    (λ c κs. search needs)
+    (λ c. search needs)
+    (λ c. search needs)
+    returns-2)
