@@ -25,7 +25,7 @@ use Rattle.model.specs.Calls.{Call, start, open-session, hang-up-session, bytes
 use Rattle.model.proofs.RowLaws.{pick-append, length-row}
 use Rattle.model.proofs.Sessions.{session-next, session-emits}
 use Rattle.watch.specs.Marks.{Seen}
-use Rattle.watch.proofs.Course.{Queue, Eff, Rises}
+use Rattle.watch.specs.Course.{Queue, Eff, Rises}
 use Rattle.history.specs.Turns.{Turn, turn, is-done, is-start, opens, hangs-up, is-tick, given, accepted}
 use Rattle.history.specs.Reading.{run-with, run, ended, message, started as is-started, Wish, wish, is-some, asks-acknowledge, subscribed, closes, Shared, tool-event, identifier-event, event, shared-with, frame-for, in-sum, of-kind, takes-call, takes}
 use Rattle.history.specs.Demand.{copies-in, seen, seen-in}

@@ -25,7 +25,7 @@ use Rattle.model.specs.Calls.{Call, start, open-session, hang-up-session, bytes
 use Rattle.model.proofs.RowLaws.{pick-append, length-row}
 use Rattle.model.proofs.Sessions.{session-next, session-emits}
 use Rattle.watch.specs.Marks.{Every, taken, all-sent}
-use Rattle.watch.proofs.Course.{Queue, empty as none-waits, Course}
+use Rattle.watch.specs.Course.{Queue, empty as none-waits, Course}
 use Rattle.watch.proofs.Histories.{course-before}
 use Rattle.watch.proofs.Theorem.{few}
 use Rattle.history.specs.Turns.{Turn, turn, turns, is-start, opens, frames-in, frames-to}

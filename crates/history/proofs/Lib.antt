@@ -4,3 +4,5 @@ pub mod Sessions
 pub mod Calls
 pub mod Turns
 pub mod Frames
+pub mod Replies
+pub mod Product

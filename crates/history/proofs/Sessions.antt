@@ -26,7 +26,7 @@ use Rattle.model.specs.Steps.{end-run, end-run-opened, Local, opening, hang-up,
 use Rattle.model.proofs.RowLaws.{row-at, said-at, length-row}
 use Rattle.model.proofs.Cuts.{longer-longer}
 use Rattle.watch.specs.Marks.{Seen}
-use Rattle.watch.proofs.Course.{Eff, rest}
+use Rattle.watch.specs.Course.{Eff, rest}
 use Rattle.history.specs.Turns.{mid-of}
 use Rattle.history.specs.Reading.{subscribe, acknowledge, unsubscribe, run-with, ended, Wish, wish-of, is-some, asks-acknowledge, acknowledges, identifier-event, frame-for}
 use Rattle.history.specs.Demand.{copies-in, seen, seen-in}
@@ -411,11 +411,11 @@ real-message : (bs : List ℕ) → Real (message-of (longer empty-run bs))
 real-message bs =
     (λ e. drop-of-length-le (take 45 bs) {i = 20} (let h = length-take 45 bs in omega arith), ap decimal (header-mid (take 45 bs)))
 
-abbrev RealEnd : Option Message → Type 0
+abbrev pub RealEnd : Option Message → Type 0
 RealEnd none = Unit {0}
 RealEnd (some m) = Real m
 
-real-end : (bs : List ℕ) → RealEnd (read-run (longer empty-run bs))
+pub real-end : (bs : List ℕ) → RealEnd (read-run (longer empty-run bs))
 unfolding read-run
 real-end bs = go (is-message (longer empty-run bs))
   where

@@ -16,7 +16,7 @@ use Rattle.model.specs.Events.{Event, kind-of, Notice}
 use Rattle.model.specs.Notices.{Room, the-newest, up-to, room-of, empty, busy, Subscription, unsubscribed, plain, acked, is-subscribed, has-room, takes, Deed, nothing, beats, news, asks, drops, acks, next-one, waits, clock-at, act}
 use Rattle.model.specs.Session.{frame-to}
 use Rattle.watch.specs.Marks.{Seen}
-use Rattle.watch.proofs.Course.{Queue, empty as none-waits, busy as waiting, Eff, rest, lone, first, keep, wait, swap, wipe, over, pass, beat, again, quit, quit-pass}
+use Rattle.watch.specs.Course.{Queue, empty as none-waits, busy as waiting, Eff, rest, lone, first, keep, wait, swap, wipe, over, pass, beat, again, quit, quit-pass}
 use Rattle.history.specs.Reading.{Wish, asks-acknowledge, is-some, frame-for}
 
 -- ==== a subscription as it is read

@@ -23,7 +23,7 @@ use Rattle.model.specs.Calls.{Call, start, open-session, hang-up-session, bytes
 use Rattle.model.proofs.RowLaws.{pick-append, length-row}
 use Rattle.model.proofs.Sessions.{session-next, session-emits}
 use Rattle.watch.specs.Marks.{Seen, Mark, Demand3, InTime}
-use Rattle.watch.proofs.Course.{Queue, empty as none-waits, Eff, Rises, Course, end, call}
+use Rattle.watch.specs.Course.{Queue, empty as none-waits, Eff, Rises, Course, end, call}
 use Rattle.watch.proofs.Theorem.{demand-3, goes-out-in-time}
 use Rattle.history.specs.Turns.{Turn, turn, turns, is-done, is-start, opens, hangs-up, is-tick, given, accepted}
 use Rattle.history.specs.Reading.{run-with, run, ended, message, Wish, wish, is-some, asks-acknowledge, subscribed, closes, Shared, tool-event, identifier-event, event, shared-with, shared, frame-for, in-sum, of-kind, takes-call, takes}

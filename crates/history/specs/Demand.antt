@@ -1,17 +1,17 @@
 -- Demand 3, of a history of calls: the marks of its turns, and what is asked of them. Assumes nothing: these are definitions.
-use Prim.Native.Nat.{ℕ, zero, suc, _+_, _*_, _≤_}
+use Prim.Native.Nat.{ℕ, zero, suc, _+_, _*_, _≤_, _<_}
 use mathlib.Core.Path.{_≡_}
 use mathlib.Core.Bool.{Bool, true, false, cond}
 use mathlib.Core.List.{List, [], _∷_, _++_, map}
 use mathlib.Core.Option.{Option, none, some}
-use lib.ListN.{length}
+use lib.ListN.{length, getD}
 use Rattle.model.specs.Records.{Settings}
 use Rattle.model.specs.Runs.{Message}
 use Rattle.model.specs.Events.{identifiers, tightenings}
 use Rattle.model.specs.Session.{Copy, Emission, reply, copy, close}
 use Rattle.model.specs.Row.{Tagged, pick}
-use Rattle.watch.specs.Marks.{Seen, Mark, taken, Every}
-use Rattle.history.specs.Turns.{Turn, is-start, opens, is-tick, frames-to}
+use Rattle.watch.specs.Marks.{Seen, Mark, all-sent, taken, Every}
+use Rattle.history.specs.Turns.{Turn, is-start, opens, is-tick, frames-to, mid-of}
 use Rattle.history.specs.Reading.{message, wish, is-some, asks-acknowledge, subscribed, closes, event, shared, frame-for, takes}
 
 -- ==== copies of notices
@@ -76,6 +76,23 @@ past-after past (x ∷ xs) = past-after (x ∷ past) xs
 abbrev pub FewFrames : Settings → ℕ → List Turn → Type 0
 FewFrames st s xs = (before : List Turn) (x : Turn) (during later : List Turn) → xs ≡ before ++ x ∷ (during ++ later) → opens s x ≡ true
     → let past = x ∷ past-after [] before in frames s during ≤ messages s past during + 6 * events-taken st s past during
+
+-- ==== 01, "Frames we write": which frames are copies is shown by their bytes
+
+-- the message number of a kind of notice
+abbrev pub notice : ℕ → ℕ
+notice kind = getD (0052 ∷ 0061 ∷ []) kind 0
+
+-- a reply has neither
+abbrev pub NoNotice : Emission → Type 0
+NoNotice (reply frame) = (mid-of frame ≡ notice identifiers → ⊥) × (mid-of frame ≡ notice tightenings → ⊥)
+NoNotice (copy c) = Unit {0}
+NoNotice close = Unit {0}
+
+-- what is counted as a copy has its kind's, and what is not counted has neither
+pub record ToldApart (st : Settings) (s : ℕ) (xs : List Turn) : Type 0 where
+  pub counted : (kind : ℕ) → kind < 2 → Every (λ x. mid-of (x .frame) ≡ notice kind) (all-sent (marks st s kind [] xs))
+  pub others : Every (λ x. Every NoNotice (pick s (x .out))) xs
 
 -- ==== no second start is done
 

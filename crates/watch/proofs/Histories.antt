@@ -10,7 +10,7 @@ use lib.Dec.{eqb}
 use lib.ListN.{length, length-append}
 use borrow.Author.Tests.{eq-eqb, ne-eqb}
 use Rattle.watch.specs.Marks.{Seen, Mark, copies-among, all-sent, copies, tick-count, ticks-open, or-later, frame-of, Every, taken}
-use Rattle.watch.proofs.Course.{Queue, empty, busy, Eff, Rises, Course, end, call}
+use Rattle.watch.specs.Course.{Queue, empty, busy, Eff, Rises, Course, end, call}
 use Rattle.watch.proofs.Calls.{Good, OpenAt, Gone, NotOpen, good-step, gone-step, Fate, shut, same, runs, ends, open-step, Start, not-yet, opens, single, start-step, Framed, all, framed-append, Says, frame-step, subscribed-step, credit, six, credit-step, Due, less, due-step, due-taken}
 
 pub copies-append : (n : ℕ) (xs ys : List Seen) → copies-among n (xs ++ ys) ≡ copies-among n xs + copies-among n ys

@@ -6,7 +6,7 @@ use mathlib.Core.List.{List, [], _∷_, _++_, append-assoc}
 use native.Mathlib.Omega.{arith}
 use lib.ListN.{length}
 use Rattle.watch.specs.Marks.{Seen, Mark, copies-among, all-sent, copies, tick-count, ticks-open, T, copies-due, First, frame-of, Every, taken, Demand3, InTime}
-use Rattle.watch.proofs.Course.{Queue, empty, busy, Course}
+use Rattle.watch.specs.Course.{Queue, empty, busy, Course}
 use Rattle.watch.proofs.Histories.{copies-append, copies-join, course-before, counted, framed, subscribers, bounded, taken-in-time}
 
 -- what comes after a call that closes does not count
