@@ -1,0 +1,75 @@
+-- DEMAND 3, OF THE PRODUCT: whatever calls are made after a start that is done, whatever they are lent, and only they write the table.
+-- Assumes nothing.
+use Prim.Native.Nat.{ℕ, zero, suc, _<_}
+use mathlib.Core.Path.{_≡_, refl, sym, _∙_, ap, ap₂, subst}
+use mathlib.Core.Bool.{Bool, true, false, _&&_}
+use mathlib.Core.List.{List, [], _∷_}
+use mathlib.Core.Option.{Option, none, some}
+use lib.Dec.{eqb}
+use lib.ListN.{length}
+use Rattle.model.specs.Records.{Settings, payload, settings-of, read-settings}
+use Rattle.model.specs.World.{World, uncounted, begun, after}
+use Rattle.model.specs.Calls.{Call, start, Lent, settled, Answer as ModelAnswer, answered, step}
+use Rattle.model.proofs.Erase.{erase-world}
+use Rattle.table.specs.Table.{decode, Table}
+use Rattle.refusal.specs.Numbers.{lent, number}
+use Rattle.refusal.proofs.Numbers.{start-passes}
+use Rattle.controller.specs.declared.Answer.{Answer}
+use Rattle.controller.specs.Contract.{Said, said, Outcome}
+use Rattle.controller.specs.Trace.{Made, Trace, none as no-call, and, History, lendings}
+use Rattle.controller.proofs.Traces.{number-is, table-left, table-begun}
+use Rattle.controller.proofs.Modelled.{lending, one-call}
+use Rattle.history.specs.Turns.{Turn, starts-call, turns}
+use Rattle.history.specs.Demand.{NoStart}
+use Rattle.history.specs.Product.{Shows, Tells, Once, Meets}
+use Rattle.history.proofs.Turns.{demand-3-of-runs, in-time-of-runs}
+use Rattle.history.proofs.Frames.{few-frames-of-runs}
+use Rattle.history.proofs.Replies.{told-apart-in-runs}
+
+-- ==== a trace is a run of the model, with the numbers of events
+
+told : {t t′ : List ℕ} {ms : List Made} (w : World) → Table t → decode t ≡ erase-world w → Trace t ms t′ → Tells ms (turns w (lendings (length t) ms))
+told w h e no-call = tt
+told {t = t} w h e (and {t₁ = t₁} {m = m} {ms = ms} out rest) =
+    let k = one-call w h e out in
+    let q = step (lending (length t) (length (m .output))) w (m .call) in (
+      record { call = refl; answer = sym (k .answer); bytes = sym (k .bytes) },
+      subst (λ (n : ℕ). Tells ms (turns (q .0) (lendings n ms))) (out .size) (told (q .0) (table-left h out) (k .world) rest),
+    )
+
+-- what a start leaves
+world-begun : {t slice : List ℕ} {r : Answer} {t′ : List ℕ} → Outcome (start slice) t [] r t′ [] → r .number ≡ 0
+    → decode t′ ≡ erase-world (begun (settings-of (payload slice)) 0)
+unfolding step
+world-begun {t = t} {slice = slice} out e =
+    let z : number t 0 (start slice) ≡ 0 = sym (number-is out) ∙ e in
+    out .meaning
+    ∙ ap (λ (n : ℕ). uncounted ((answered (decode t) (start slice) n) .0)) z
+    ∙ ap (λ (o : Option Settings). uncounted (after (decode t) (settled o))) ((start-passes t slice z) .1)
+
+-- no second start
+no-start : (ms : List Made) (xs : List Turn) → Tells ms xs → Once ms → NoStart xs
+no-start [] [] h o = tt
+no-start [] (x ∷ xs) h o = absurd h
+no-start (m ∷ ms) [] h o = absurd h
+no-start (m ∷ ms) (x ∷ xs) h o = (
+  ap₂ (λ (n : ℕ) (c : Call). eqb n 0 && starts-call c) (ap (λ (a : ModelAnswer). a .number) (h .0 .answer)) (h .0 .call) ∙ o .0,
+  no-start ms xs (h .1) (o .1),
+)
+
+pub demand-3-of-the-product : {t t′ : List ℕ} {ms : List Made} (h : History t ms t′) → Once ms → Meets (h .settings) ms
+demand-3-of-the-product {t = t} {ms = ms} h o =
+    let st = settings-of (payload (h .settings)) in
+    let cs = lendings (length t) ms in
+    let k = told (begun st 0) (table-begun (h .begins) (h .done)) (world-begun (h .begins) (h .done)) (h .then) in
+    let ns = no-start ms (turns (begun st 0) cs) k o in
+    record {
+      settings = st;
+      given = (start-passes (h .before) (h .settings) (sym (number-is (h .begins)) ∙ h .done)) .1;
+      turns = turns (begun st 0) cs;
+      tells = k;
+      told-apart = λ s u. told-apart-in-runs st cs ns s u;
+      notices = λ s u. demand-3-of-runs st cs ns s u;
+      in-time = λ s u. in-time-of-runs st cs ns s u;
+      few-frames = λ s u. few-frames-of-runs st s u cs ns;
+    }

@@ -1,0 +1,159 @@
+-- What a reader of the output makes of what goes out to a session: a close, a 0002, a 0005. Notices are none of these, nor is a 0004.
+-- Assumes nothing.
+use Prim.Native.Nat.{ℕ, zero, suc, _+_, _-_, _<_, _≤_, min}
+use mathlib.Core.Path.{_≡_, refl, sym, _∙_, ap, fun-ext}
+use mathlib.Core.Bool.{Bool, true, false, cond, _&&_, _||_}
+use mathlib.Core.List.{List, [], _∷_, _++_, map}
+use native.Mathlib.Omega.{arith}
+use lib.Dec.{eqb}
+use lib.ListN.{length}
+use borrow.Author.Tests.{ne-eqb}
+use Rattle.model.specs.Bytes.{places, decimal, digits}
+use Rattle.model.specs.Records.{Settings}
+use Rattle.model.specs.Events.{Event, identified, tightened, Notice}
+use Rattle.model.specs.Frames.{header, frame, frame-0002, frame-0004, frame-0005, frame-0052, frame-0061, event-frame}
+use Rattle.model.specs.Notices.{room-of, empty, busy, Subscription, unsubscribed, plain, acked, Deed, nothing, beats, news, asks, drops, acks, act}
+use Rattle.model.specs.Row.{Tagged, tag, said}
+use Rattle.model.specs.Session.{Copy, Emission, reply, copy, close, copies-to, deal}
+use Rattle.watch.specs.Marks.{Every}
+use Rattle.history.specs.Turns.{frames-in, orders-close, any, mid-of, is-0002, is-0005}
+
+pub record Signals : Type 0 where
+  pub closes : Bool
+  pub welcomes : Bool
+  pub accepts : ℕ → Bool
+
+abbrev pub signals : List Emission → Signals
+signals es = record {
+  closes = orders-close es;
+  welcomes = any is-0002 (frames-in es);
+  accepts = λ mid. any (is-0005 mid) (frames-in es);
+}
+
+abbrev pub silence : Signals
+silence = record { closes = false; welcomes = false; accepts = λ mid. false }
+
+-- ==== notices
+
+pub notice-mid : (st : Settings) (r : ℕ) (a : Bool) (e : Event) → 5 < mid-of (event-frame st r a e)
+unfolding frame-0052 frame-0061 frame header digits
+notice-mid st r a (identified x) = omega arith
+notice-mid st r a (tightened x) = omega arith
+
+abbrev Notices : List (Tagged Copy) → Type 0
+Notices cs = Every (λ (c : Tagged Copy). 5 < mid-of (c .what .frame)) cs
+
+notices-append : (xs ys : List (Tagged Copy)) → Notices xs → Notices ys → Notices (xs ++ ys)
+notices-append [] ys a b = b
+notices-append (x ∷ xs) ys a b = (a .0, notices-append xs ys (a .1) b)
+
+module _ (st : Settings) where
+  plain-notices : (i r : ℕ) (ns : List Notice) → Notices (tag i (copies-to st (plain r) ns))
+  plain-notices i r [] = tt
+  plain-notices i r (n ∷ ns) = (notice-mid st r true (n .event), plain-notices i r ns)
+
+  acked-notices : (i r : ℕ) (ns : List Notice) → Notices (tag i (copies-to st (acked r empty) ns))
+  acked-notices i r [] = tt
+  acked-notices i r (n ∷ ns) = (notice-mid st r false (n .event), acked-notices i r ns)
+
+  busy-notices : (i r : ℕ) (y : Notice) (c : ℕ) (q : List Notice) (ns : List Notice) → Notices (tag i (copies-to st (acked r (busy y c q)) ns))
+  busy-notices i r y c q [] = tt
+  busy-notices i r y c q (n ∷ ns) = (notice-mid st r false (n .event), busy-notices i r y c q ns)
+
+  deal-notices : (i j : ℕ) (d : Deed) (x : Subscription) → Notices (tag i (copies-to st x ((act (room-of j) d x) .1)))
+  deal-notices i j nothing unsubscribed = tt
+  deal-notices i j beats unsubscribed = tt
+  deal-notices i j (news n) unsubscribed = tt
+  deal-notices i j (asks r a) unsubscribed = tt
+  deal-notices i j drops unsubscribed = tt
+  deal-notices i j acks unsubscribed = tt
+  deal-notices i j d (plain r) = plain-notices i r ((act (room-of j) d (plain r)) .1)
+  deal-notices i j d (acked r empty) = acked-notices i r ((act (room-of j) d (acked r empty)) .1)
+  deal-notices i j d (acked r (busy y c q)) = busy-notices i r y c q ((act (room-of j) d (acked r (busy y c q))) .1)
+
+  pub dealt-notices : (D : ℕ → Deed) (i : ℕ) (xs : List Subscription) → Notices (said (deal st D) i xs)
+  dealt-notices D i [] = tt
+  dealt-notices D i (x ∷ xs) =
+      notices-append (tag i ((deal st D i x) .1)) (said (deal st D) (suc i) xs) (deal-notices i i (D i) x) (dealt-notices D (suc i) xs)
+
+notices-close : (cs : List (Tagged Copy)) → orders-close (map copy cs) ≡ false
+notices-close [] = refl
+notices-close (c ∷ cs) = notices-close cs
+
+notices-0002 : (cs : List (Tagged Copy)) → Notices cs → any is-0002 (frames-in (map copy cs)) ≡ false
+notices-0002 [] h = refl
+notices-0002 (c ∷ cs) h = rw (ne-eqb (mid-of (c .what .frame)) 2 (λ e. let u = h .0 in omega arith)) (notices-0002 cs (h .1))
+
+notices-0005 : (cs : List (Tagged Copy)) (mid : ℕ) → Notices cs → any (is-0005 mid) (frames-in (map copy cs)) ≡ false
+notices-0005 [] mid h = refl
+notices-0005 (c ∷ cs) mid h = rw (ne-eqb (mid-of (c .what .frame)) 5 (λ e. let u = h .0 in omega arith)) (notices-0005 cs mid (h .1))
+
+abbrev signals-of : Bool → Bool → (ℕ → Bool) → Signals
+signals-of c w a = record { closes = c; welcomes = w; accepts = a }
+
+-- copies are silent
+pub copies-silent : (st : Settings) (D : ℕ → Deed) (xs : List Subscription) → signals (map copy (said (deal st D) 0 xs)) ≡ silence
+copies-silent st D xs =
+    let h = dealt-notices st D 0 xs in
+    let cs = said (deal st D) 0 xs in
+    λ i. signals-of (notices-close cs i) (notices-0002 cs h i) ((fun-ext (λ mid. notices-0005 cs mid h)) i)
+
+-- ==== what is silent may be left out
+
+pub frames-append : (xs ys : List Emission) → frames-in (xs ++ ys) ≡ frames-in xs ++ frames-in ys
+frames-append [] ys = refl
+frames-append (reply f ∷ xs) ys = ap (f ∷_) (frames-append xs ys)
+frames-append (copy c ∷ xs) ys = ap (c .what .frame ∷_) (frames-append xs ys)
+frames-append (close ∷ xs) ys = frames-append xs ys
+
+any-append : (test : List ℕ → Bool) (xs ys : List (List ℕ)) → any test ys ≡ false → any test (xs ++ ys) ≡ any test xs
+any-append test [] ys h = h
+any-append test (x ∷ xs) ys h = rw (any-append test xs ys h)
+
+close-append : (xs ys : List Emission) → orders-close ys ≡ false → orders-close (xs ++ ys) ≡ orders-close xs
+close-append [] ys h = h
+close-append (reply f ∷ xs) ys h = close-append xs ys h
+close-append (copy c ∷ xs) ys h = close-append xs ys h
+close-append (close ∷ xs) ys h = refl
+
+pub silent-after : (xs ys : List Emission) → signals ys ≡ silence → signals (xs ++ ys) ≡ signals xs
+silent-after xs ys h =
+    λ i. signals-of (close-append xs ys (ap (λ (x : Signals). x .closes) h) i)
+    ((ap (any is-0002) (frames-append xs ys) ∙ any-append is-0002 (frames-in xs) (frames-in ys) (ap (λ (x : Signals). x .welcomes) h)) i)
+    ((fun-ext (λ mid. ap (any (is-0005 mid)) (frames-append xs ys) ∙ any-append (is-0005 mid) (frames-in xs) (frames-in ys) (ap (λ (x : Signals). x .accepts mid) h))) i)
+
+-- ==== replies
+
+abbrev pub signals-by : List ℕ → Signals
+signals-by f = record { closes = false; welcomes = cond (is-0002 f) true false; accepts = λ mid. cond (is-0005 mid f) true false }
+
+pub reply-first : (f : List ℕ) (es : List Emission) → signals es ≡ silence → signals (reply f ∷ es) ≡ signals-by f
+reply-first f es h =
+    ap {B = Signals} (λ (x : Signals). record { closes = x .closes; welcomes = cond (is-0002 f) true (x .welcomes); accepts = λ mid. cond (is-0005 mid f) true (x .accepts mid) }) h
+
+pub silent-0004 : (mid error : ℕ) → signals-by (frame-0004 mid error) ≡ silence
+unfolding frame-0004 frame header digits
+silent-0004 mid error = refl
+
+pub welcome-0002 : (st : Settings) → signals-by (frame-0002 st) ≡ record { closes = false; welcomes = true; accepts = λ mid. false }
+unfolding frame-0002 frame header digits
+welcome-0002 st = refl
+
+-- another message comes back
+pub silent-other : (f : List ℕ) → 5 < mid-of f → signals-by f ≡ silence
+silent-other f h =
+    λ i. signals-of false (cond ((ne-eqb (mid-of f) 2 (λ e. omega arith)) i) true false)
+    (λ mid. cond ((ne-eqb (mid-of f) 5 (λ e. omega arith)) i && eqb (decimal (places 21 24 f)) mid) true false)
+
+-- an acceptance
+abbrev pub accepting : ℕ → Signals
+accepting number = record { closes = false; welcomes = false; accepts = λ mid. eqb number mid }
+
+same-test : (b : Bool) → cond b true false ≡ b
+same-test true = refl
+same-test false = refl
+
+pub accepting-0005 : (number : ℕ) → decimal (digits 4 number) ≡ number → signals-by (frame-0005 number) ≡ accepting number
+unfolding frame-0005 frame header digits
+accepting-0005 number h =
+    λ i. signals-of false false ((fun-ext (λ mid. same-test (eqb (decimal (digits 4 number)) mid) ∙ ap (λ (n : ℕ). eqb n mid) h)) i)

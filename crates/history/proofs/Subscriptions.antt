@@ -1,0 +1,193 @@
+-- What a deed does to a subscription is one of the things that a call can do to the notices of its kind. One proof for every kind.
+-- Assumes nothing.
+use Prim.Native.Nat.{ℕ, zero, suc, _+_, _%_, _≤_, _<_}
+use mathlib.Core.Path.{_≡_, refl, sym, _∙_, ap}
+use mathlib.Core.Bool.{Bool, true, false, cond, _&&_, true≢false}
+use mathlib.Core.List.{List, [], _∷_, _++_, map, map-append}
+use mathlib.Core.Option.{Option, none, some}
+use native.Mathlib.Omega.{arith}
+use native.Mathlib.Nat.{le-refl}
+use lib.Dec.{ltb, eqb}
+use lib.ListN.{length, length-map}
+use borrow.Author.Tests.{eqb-true, eqb-false, ltb-true}
+use Rattle.model.specs.Limits.{given-up-at, copy-every}
+use Rattle.model.specs.Records.{Settings}
+use Rattle.model.specs.Events.{Event, kind-of, Notice}
+use Rattle.model.specs.Notices.{Room, the-newest, up-to, room-of, empty, busy, Subscription, unsubscribed, plain, acked, is-subscribed, has-room, takes, Deed, nothing, beats, news, asks, drops, acks, next-one, waits, clock-at, act}
+use Rattle.model.specs.Session.{frame-to}
+use Rattle.watch.specs.Marks.{Seen}
+use Rattle.watch.specs.Course.{Queue, empty as none-waits, busy as waiting, Eff, rest, lone, first, keep, wait, swap, wipe, over, pass, beat, again, quit, quit-pass}
+use Rattle.history.specs.Reading.{Wish, asks-acknowledge, is-some, frame-for}
+
+-- ==== a subscription as it is read
+
+abbrev pub wish-in : Subscription → Option Wish
+wish-in unsubscribed = none
+wish-in (plain revision) = some (record { revision = revision; no-acknowledge = true })
+wish-in (acked revision q) = some (record { revision = revision; no-acknowledge = false })
+
+pub is-some-wish : (x : Subscription) → is-some (wish-in x) ≡ is-subscribed x
+is-some-wish unsubscribed = refl
+is-some-wish (plain r) = refl
+is-some-wish (acked r q) = refl
+
+-- ==== its notices as they are watched: each with the bytes that the session is sent of it
+
+abbrev pub as-seen : Settings → Subscription → Notice → Seen
+as-seen st x n = record { id = n .id; frame = frame-to st x n }
+
+abbrev pub view : Settings → Subscription → Queue
+view st unsubscribed = none-waits
+view st (plain revision) = none-waits
+view st (acked revision empty) = none-waits
+view st (acked revision (busy n clock waits)) =
+    waiting (as-seen st (acked revision empty) n) clock (map (as-seen st (acked revision empty)) waits)
+
+abbrev pub is-newest : Room → Bool
+is-newest the-newest = true
+is-newest (up-to most) = false
+
+-- the subscription x becomes r .0, and of the notices r .1 copies are sent. From k events to k′; the frame of the event, if it
+-- is one; was it taken; does it close; is it a tick
+abbrev pub Done : Bool → Settings → ℕ → ℕ → Option (List ℕ) → Bool → Bool → Bool → Subscription → Subscription × List Notice → Type 0
+Done z st k k′ e o cl t x r =
+    Eff z k k′ e o (asks-acknowledge (wish-in x)) cl t (is-subscribed x) (is-subscribed (r .0)) (view st x) (view st (r .0)) (map (as-seen st x) (r .1))
+
+-- room for eight at most
+abbrev pub Few : Room → Type 0
+Few the-newest = Unit {0}
+Few (up-to most) = most ≤ 8
+
+pub few-rooms : (kind : ℕ) → Few (room-of kind)
+few-rooms zero = tt
+few-rooms (suc zero) = omega arith
+few-rooms (suc (suc kind)) = tt
+
+module _ (z : Bool) (st : Settings) (k : ℕ) where
+  pub unchanged : (k′ : ℕ) (e : Option (List ℕ)) (x : Subscription) → k ≤ k′ → Done z st k k′ e false false false x (x, [])
+  unchanged k′ e unsubscribed h = rest h
+  unchanged k′ e (plain r) h = rest h
+  unchanged k′ e (acked r empty) h = rest h
+  unchanged k′ e (acked r (busy n c q)) h = keep h
+
+  pub wiped : (t : Bool) (x : Subscription) → Done z st k k none false true t x (unsubscribed, [])
+  wiped t unsubscribed = rest (le-refl k)
+  wiped t (plain r) = rest (le-refl k)
+  wiped t (acked r empty) = rest (le-refl k)
+  wiped t (acked r (busy n c q)) = wipe (le-refl k)
+
+  clock-does : (b d : Bool) (r : ℕ) (n : Notice) (c : ℕ) (q : List Notice) → eqb (suc c) given-up-at ≡ b → eqb (suc c % copy-every) 0 ≡ d
+      → Done z st k k none false false true (acked r (busy n c q))
+      (cond b (next-one r q) (acked r (busy n (suc c) q), cond d (n ∷ []) []))
+  clock-does true d r n c [] u v = quit (le-refl k) (eqb-true (suc c) given-up-at u)
+  clock-does true d r n c (y ∷ q) u v = quit-pass (le-refl k) (eqb-true (suc c) given-up-at u)
+  clock-does false true r n c q u v = again (le-refl k) (eqb-false (suc c) given-up-at u) (eqb-true (suc c % copy-every) 0 v)
+  clock-does false false r n c q u v = beat (le-refl k) (eqb-false (suc c) given-up-at u) (eqb-false (suc c % copy-every) 0 v)
+
+  pub beats-does : (room : Room) (x : Subscription) → Done z st k k none false false true x (act room beats x)
+  beats-does room unsubscribed = rest (le-refl k)
+  beats-does room (plain r) = rest (le-refl k)
+  beats-does room (acked r empty) = rest (le-refl k)
+  beats-does room (acked r (busy n c q)) = clock-does (eqb (suc c) given-up-at) (eqb (suc c % copy-every) 0) r n c q refl refl
+
+  more-does : (b : Bool) (r : ℕ) (n : Notice) (c : ℕ) (q : List Notice) (e : Event) → (b ≡ true → length q < 7)
+      → Done z st k (suc k) (some (frame-to st (acked r (busy n c q)) (record { id = k; event = e }))) b false false (acked r (busy n c q))
+      (acked r (busy n c (cond b (q ++ record { id = k; event = e } ∷ []) q)), [])
+  more-does true r n c q e h =
+      rw (map-append (as-seen st (acked r empty)) q (record { id = k; event = e } ∷ []))
+      (wait {q = map (as-seen st (acked r empty)) q} refl (rw (length-map q (as-seen st (acked r empty))) (h refl)))
+  more-does false r n c q e h = keep (omega arith)
+
+  waits-does : (room : Room) → Few room → z ≡ is-newest room → (r : ℕ) (n : Notice) (c : ℕ) (q : List Notice) (e : Event)
+      → Done z st k (suc k) (some (frame-to st (acked r (busy n c q)) (record { id = k; event = e }))) (has-room room q) false false
+      (acked r (busy n c q)) (acked r (busy n c (waits room (record { id = k; event = e }) q)), [])
+  waits-does the-newest few new r n c q e = swap new refl
+  waits-does (up-to most) few new r n c q e =
+      more-does (ltb (suc (length q)) most) r n c q e (λ z. let y = ltb-true (suc (length q)) most z in omega arith)
+
+  -- b: is it an event of this kind
+  pub news-does : (room : Room) → Few room → z ≡ is-newest room → (kind : ℕ) (e : Event) (x : Subscription)
+      → Done z st k (suc k) (frame-for st kind (wish-in x) (some e)) (eqb kind (kind-of e) && takes room x) false false x
+      (act room (cond (eqb kind (kind-of e)) (news (record { id = k; event = e })) nothing) x)
+  news-does room few new kind e unsubscribed = go (eqb kind (kind-of e))
+    where
+      go : (b : Bool) → Done z st k (suc k) none (b && false) false false unsubscribed (act room (cond b (news (record { id = k; event = e })) nothing) unsubscribed)
+      go true = rest (omega arith)
+      go false = rest (omega arith)
+  news-does room few new kind e (plain r) = go (eqb kind (kind-of e))
+    where
+      go : (b : Bool) → Done z st k (suc k) (cond b (some (frame-to st (plain r) (record { id = k; event = e }))) none) (b && true) false false (plain r)
+          (act room (cond b (news (record { id = k; event = e })) nothing) (plain r))
+      go true = lone refl
+      go false = rest (omega arith)
+  news-does room few new kind e (acked r empty) = go (eqb kind (kind-of e))
+    where
+      go : (b : Bool) → Done z st k (suc k) (cond b (some (frame-to st (acked r empty) (record { id = k; event = e }))) none) (b && true) false false (acked r empty)
+          (act room (cond b (news (record { id = k; event = e })) nothing) (acked r empty))
+      go true = first refl
+      go false = rest (omega arith)
+  news-does room few new kind e (acked r (busy n c q)) = go (eqb kind (kind-of e))
+    where
+      go : (b : Bool) → Done z st k (suc k) (cond b (some (frame-to st (acked r (busy n c q)) (record { id = k; event = e }))) none) (b && has-room room q) false false
+          (acked r (busy n c q)) (act room (cond b (news (record { id = k; event = e })) nothing) (acked r (busy n c q)))
+      go true = waits-does room few new r n c q e
+      go false = keep (omega arith)
+
+  pub asks-does : (room : Room) (b : Bool) (r : ℕ) (a : Bool) (x : Subscription)
+      → Done z st k k none false false false x (act room (cond b (asks r a) nothing) x)
+  asks-does room false r a x = unchanged k none x (le-refl k)
+  asks-does room true r true unsubscribed = rest (le-refl k)
+  asks-does room true r false unsubscribed = rest (le-refl k)
+  asks-does room true r a (plain v) = rest (le-refl k)
+  asks-does room true r a (acked v empty) = rest (le-refl k)
+  asks-does room true r a (acked v (busy n c q)) = keep (le-refl k)
+
+  pub drops-does : (room : Room) (b : Bool) (x : Subscription) → Done z st k k none false b false x (act room (cond b drops nothing) x)
+  drops-does room false x = unchanged k none x (le-refl k)
+  drops-does room true x = wiped false x
+
+  pub acks-does : (room : Room) (b : Bool) (x : Subscription) → Done z st k k none false b false x (act room (cond b acks nothing) x)
+  acks-does room false x = unchanged k none x (le-refl k)
+  acks-does room true unsubscribed = rest (le-refl k)
+  acks-does room true (plain r) = rest (le-refl k)
+  acks-does room true (acked r empty) = rest (le-refl k)
+  acks-does room true (acked r (busy n c [])) = over (le-refl k)
+  acks-does room true (acked r (busy n c (y ∷ q))) = pass (le-refl k)
+
+-- ==== what is wished stays, but for the deeds that subscribe and unsubscribe
+
+module _ (room : Room) where
+  next-wish : (r : ℕ) (q : List Notice) → wish-in ((next-one r q) .0) ≡ wish-in (acked r empty)
+  next-wish r [] = refl
+  next-wish r (x ∷ q) = refl
+
+  pub beats-wish : (x : Subscription) → wish-in ((act room beats x) .0) ≡ wish-in x
+  beats-wish unsubscribed = refl
+  beats-wish (plain r) = refl
+  beats-wish (acked r empty) = refl
+  beats-wish (acked r (busy n c q)) = go (eqb (suc c) given-up-at)
+    where
+      go : (b : Bool) → wish-in ((cond b (next-one r q) (acked r (busy n (suc c) q), cond (eqb (suc c % copy-every) 0) (n ∷ []) [])) .0) ≡ wish-in (acked r empty)
+      go true = next-wish r q
+      go false = refl
+
+  pub news-wish : (b : Bool) (n : Notice) (x : Subscription) → wish-in ((act room (cond b (news n) nothing) x) .0) ≡ wish-in x
+  news-wish false n x = refl
+  news-wish true n unsubscribed = refl
+  news-wish true n (plain r) = refl
+  news-wish true n (acked r empty) = refl
+  news-wish true n (acked r (busy y c q)) = refl
+
+  pub acks-wish : (b : Bool) (x : Subscription) → wish-in ((act room (cond b acks nothing) x) .0) ≡ wish-in x
+  acks-wish false x = refl
+  acks-wish true unsubscribed = refl
+  acks-wish true (plain r) = refl
+  acks-wish true (acked r empty) = refl
+  acks-wish true (acked r (busy n c q)) = next-wish r q
+
+  pub asks-wish : (r : ℕ) (a : Bool) (x : Subscription) → is-subscribed x ≡ false
+      → wish-in ((act room (asks r a) x) .0) ≡ some (record { revision = r; no-acknowledge = a })
+  asks-wish r true unsubscribed h = refl
+  asks-wish r false unsubscribed h = refl
+  asks-wish r a (plain v) h = absurd (true≢false h)
+  asks-wish r a (acked v q) h = absurd (true≢false h)

@@ -1,0 +1,100 @@
+-- Demand 3, of a history of calls: the marks of its turns, and what is asked of them. Assumes nothing: these are definitions.
+use Prim.Native.Nat.{ℕ, zero, suc, _+_, _*_, _≤_, _<_}
+use mathlib.Core.Path.{_≡_}
+use mathlib.Core.Bool.{Bool, true, false, cond}
+use mathlib.Core.List.{List, [], _∷_, _++_, map}
+use mathlib.Core.Option.{Option, none, some}
+use lib.ListN.{length, getD}
+use Rattle.model.specs.Records.{Settings}
+use Rattle.model.specs.Runs.{Message}
+use Rattle.model.specs.Events.{identifiers, tightenings}
+use Rattle.model.specs.Session.{Copy, Emission, reply, copy, close}
+use Rattle.model.specs.Row.{Tagged, pick}
+use Rattle.watch.specs.Marks.{Seen, Mark, all-sent, taken, Every}
+use Rattle.history.specs.Turns.{Turn, is-start, opens, is-tick, frames-to, mid-of}
+use Rattle.history.specs.Reading.{message, wish, is-some, asks-acknowledge, subscribed, closes, event, shared, frame-for, takes}
+
+-- ==== copies of notices
+
+abbrev pub copies-in : List Emission → List (Tagged Copy)
+copies-in [] = []
+copies-in (reply frame ∷ es) = copies-in es
+copies-in (copy c ∷ es) = c ∷ copies-in es
+copies-in (close ∷ es) = copies-in es
+
+abbrev pub seen : Copy → Seen
+seen c = record { id = c .notice .id; frame = c .frame }
+
+-- those of that kind
+abbrev pub seen-in : ℕ → List Emission → List Seen
+seen-in kind es = map seen (pick kind (copies-in es))
+
+-- ==== what a turn is to the notices of that kind to session s
+
+abbrev pub mark : Settings → ℕ → ℕ → List Turn → Turn → Mark
+mark st s kind past x =
+    let g = shared st past in
+    record {
+      number = g .events;
+      event = frame-for st kind (wish s kind past) (event g past x);
+      took = takes s kind g past x;
+      subscribed = subscribed s kind past;
+      still = subscribed s kind (x ∷ past);
+      asked = asks-acknowledge (wish s kind past);
+      closes = closes s kind past x;
+      tick = is-tick x;
+      sent = seen-in kind (pick s (x .out));
+    }
+
+-- of these turns, after those
+abbrev pub marks : Settings → ℕ → ℕ → List Turn → List Turn → List Mark
+marks st s kind past [] = []
+marks st s kind past (x ∷ xs) = mark st s kind past x ∷ marks st s kind (x ∷ past) xs
+
+-- ==== an opening
+
+-- the frames that it gets
+abbrev pub frames : ℕ → List Turn → ℕ
+frames s [] = 0
+frames s (x ∷ xs) = length (frames-to s x) + frames s xs
+
+-- the messages that it sends
+abbrev pub messages : ℕ → List Turn → List Turn → ℕ
+messages s past [] = 0
+messages s past (x ∷ xs) = let r = messages s (x ∷ past) xs in cond (is-some (message s past x)) (suc r) r
+
+-- the events that it takes
+abbrev pub events-taken : Settings → ℕ → List Turn → List Turn → ℕ
+events-taken st s past xs = taken (marks st s identifiers past xs) + taken (marks st s tightenings past xs)
+
+-- the turns so far, when these come after those
+abbrev pub past-after : List Turn → List Turn → List Turn
+past-after past [] = past
+past-after past (x ∷ xs) = past-after (x ∷ past) xs
+
+-- one frame at most for each message that it sent and six for each event that it took, from its opening up to any later turn
+abbrev pub FewFrames : Settings → ℕ → List Turn → Type 0
+FewFrames st s xs = (before : List Turn) (x : Turn) (during later : List Turn) → xs ≡ before ++ x ∷ (during ++ later) → opens s x ≡ true
+    → let past = x ∷ past-after [] before in frames s during ≤ messages s past during + 6 * events-taken st s past during
+
+-- ==== 01, "Frames we write": which frames are copies is shown by their bytes
+
+-- the message number of a kind of notice
+abbrev pub notice : ℕ → ℕ
+notice kind = getD (0052 ∷ 0061 ∷ []) kind 0
+
+-- a reply has neither
+abbrev pub NoNotice : Emission → Type 0
+NoNotice (reply frame) = (mid-of frame ≡ notice identifiers → ⊥) × (mid-of frame ≡ notice tightenings → ⊥)
+NoNotice (copy c) = Unit {0}
+NoNotice close = Unit {0}
+
+-- what is counted as a copy has its kind's, and what is not counted has neither
+pub record ToldApart (st : Settings) (s : ℕ) (xs : List Turn) : Type 0 where
+  pub counted : (kind : ℕ) → kind < 2 → Every (λ x. mid-of (x .frame) ≡ notice kind) (all-sent (marks st s kind [] xs))
+  pub others : Every (λ x. Every NoNotice (pick s (x .out))) xs
+
+-- ==== no second start is done
+
+abbrev pub NoStart : List Turn → Type 0
+NoStart xs = Every (λ x. is-start x ≡ false) xs

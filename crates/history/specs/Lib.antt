@@ -1,0 +1,4 @@
+pub mod Turns
+pub mod Reading
+pub mod Demand
+pub mod Product

@@ -1,0 +1,45 @@
+-- Demand 3, of the product: of every history of calls that the contracts of the six calls allow. Assumes nothing: these are definitions.
+use Prim.Native.Nat.{ℕ, _<_}
+use mathlib.Core.Path.{_≡_}
+use mathlib.Core.Bool.{Bool, false, _&&_}
+use mathlib.Core.List.{List, [], _∷_}
+use mathlib.Core.Option.{some}
+use lib.Dec.{eqb}
+use lib.ListN.{take}
+use Rattle.model.specs.Records.{Settings, read-settings}
+use Rattle.model.specs.Events.{tightenings}
+use Rattle.model.specs.Calls.{output}
+use Rattle.watch.specs.Marks.{Every, Demand3, InTime}
+use Rattle.controller.specs.Contract.{model-answer}
+use Rattle.controller.specs.Trace.{Made}
+use Rattle.history.specs.Turns.{Turn, starts-call}
+use Rattle.history.specs.Demand.{marks, FewFrames, ToldApart}
+
+-- ==== the turns of a history are its calls, their answers and the bytes that they wrote
+
+pub record Shows (m : Made) (x : Turn) : Type 0 where
+  pub call : x .call ≡ m .call
+  pub answer : x .answer ≡ model-answer (m .answer)
+  pub bytes : output (x .out) ≡ take (m .answer .written) (m .output-left)
+
+abbrev pub Tells : List Made → List Turn → Type 0
+Tells [] [] = Unit {0}
+Tells [] (x ∷ xs) = ⊥
+Tells (m ∷ ms) [] = ⊥
+Tells (m ∷ ms) (x ∷ xs) = Shows m x × Tells ms xs
+
+-- no second start is done among them
+abbrev pub Once : List Made → Type 0
+Once ms = Every (λ m. (eqb (m .answer .number) 0 && starts-call (m .call)) ≡ false) ms
+
+-- ==== demand 3, for sessions 0 to 3 and both kinds of notice, of a history that began with those settings
+
+pub record Meets (slice : List ℕ) (ms : List Made) : Type 0 where
+  pub settings : Settings
+  pub given : read-settings slice ≡ some settings
+  pub turns : List Turn
+  pub tells : Tells ms turns
+  pub told-apart : (s : ℕ) → s < 4 → ToldApart settings s turns
+  pub notices : (s : ℕ) → s < 4 → (kind : ℕ) → kind < 2 → Demand3 (marks settings s kind [] turns)
+  pub in-time : (s : ℕ) → s < 4 → InTime (marks settings s tightenings [] turns)
+  pub few-frames : (s : ℕ) → s < 4 → FewFrames settings s turns

@@ -1,0 +1,10 @@
+// Demand 3 and the words in which it is read off a history are defined in specs/, and what is proved of every history stands in proofs/.
+// A crate needs a function: this one answers how many ticks a taken tightening may wait.
+ghost use mathlib.Core.Path.{_≡_};
+ghost use Rattle.history.specs.Turns.{longest-wait};
+
+pub fn longest_wait() -> u64
+    ensures { λ r. ⌜ r ≡ longest-wait ⌝ }
+{
+    840
+}

@@ -1,0 +1,302 @@
+-- What one call does to the notices of one kind to one session, of a notice that is open, gone, not sent yet or waiting. Assumes nothing.
+use Prim.Native.Nat.{ℕ, zero, suc, _+_, _-_, _*_, _/_, _%_, _≤_, _<_}
+use mathlib.Core.Path.{_≡_, refl, sym, _∙_, ap}
+use mathlib.Core.Bool.{Bool, true, false, cond, true≢false}
+use mathlib.Core.List.{List, [], _∷_, _++_}
+use mathlib.Core.Option.{Option, none, some}
+use mathlib.Core.Logic.{_⊎_, inl, inr}
+use native.Mathlib.Omega.{arith}
+use lib.Dec.{eqb}
+use lib.ListN.{length, length-append}
+use borrow.Author.Tests.{eqb-true, eqb-false, eq-eqb, ne-eqb}
+use Rattle.watch.specs.Marks.{Seen, copies-among, Every}
+use Rattle.watch.specs.Course.{Queue, empty, busy, Eff, rest, lone, first, keep, wait, swap, wipe, over, pass, beat, again, quit, quit-pass}
+
+-- ==== the numbers in a queue
+
+-- from lo on, each more than the one before, and below hi
+abbrev pub Above : ℕ → List Seen → ℕ → Type 0
+Above lo [] hi = lo ≤ hi
+Above lo (x ∷ q) hi = (lo ≤ x .id) × Above (suc (x .id)) q hi
+
+-- the clock runs, and those that wait are later than the open one
+abbrev pub Good : Queue → ℕ → Type 0
+Good empty k = Unit {0}
+Good (busy x c q) k = (c < 120) × Above (suc (x .id)) q k
+
+-- n is open, and its clock is c
+abbrev pub OpenAt : ℕ → ℕ → Queue → ℕ → Type 0
+OpenAt n c empty k = ⊥
+OpenAt n c (busy x d q) k = (x .id ≡ n) × (d ≡ c) × (d < 120) × Above (suc (x .id)) q k
+
+-- n is gone for good: all that there is, and all that will come, is later
+abbrev pub Gone : ℕ → Queue → ℕ → Type 0
+Gone n empty k = suc n ≤ k
+Gone n (busy x c q) k = (suc n ≤ x .id) × Above (suc (x .id)) q k
+
+abbrev pub NotOpen : ℕ → Queue → Type 0
+NotOpen n empty = Unit {0}
+NotOpen n (busy x c q) = x .id ≡ n → ⊥
+
+above-up : (lo : ℕ) (q : List Seen) {k k′ : ℕ} → k ≤ k′ → Above lo q k → Above lo q k′
+above-up lo [] h a = omega arith
+above-up lo (x ∷ q) h a = (a .0, above-up (suc (x .id)) q h (a .1))
+
+above-top : (lo : ℕ) (q : List Seen) {k : ℕ} → Above lo q k → lo ≤ k
+above-top lo [] a = a
+above-top lo (x ∷ q) a = let h = above-top (suc (x .id)) q (a .1) in omega arith
+
+above-snoc : (lo : ℕ) (q : List Seen) (x : Seen) {k : ℕ} → x .id ≡ k → Above lo q k → Above lo (q ++ x ∷ []) (suc k)
+above-snoc lo [] x e a = (omega arith, omega arith)
+above-snoc lo (y ∷ q) x e a = (a .0, above-snoc (suc (y .id)) q x e (a .1))
+
+one : (n i : ℕ) → i ≡ n → _≡_ {A = ℕ} (cond (eqb i n) 1 0) 1
+one n i e = rw (eq-eqb i n e)
+
+none-of : (n i : ℕ) → (i ≡ n → ⊥) → _≡_ {A = ℕ} (cond (eqb i n) 1 0) 0
+none-of n i h = rw (ne-eqb i n h)
+
+module _ {z : Bool} {k k′ : ℕ} where
+  -- the numbers stay in order
+  pub good-step : {e : Option (List ℕ)} {o a s t p p′ : Bool} {q q′ : Queue} {es : List Seen}
+      → Eff z k k′ e o a s t p p′ q q′ es → Good q k → Good q′ k′
+  good-step (rest h) g = tt
+  good-step (lone h) g = tt
+  good-step (first h) g = (omega arith, omega arith)
+  good-step (keep {x = x} {q = r} h) g = (g .0, above-up (suc (x .id)) r h (g .1))
+  good-step (wait {x = x} {q = r} h l) g = (g .0, rw h (above-snoc (suc (x .id)) r _ refl (g .1)))
+  good-step (swap {x = x} {q = r} z′ h) g = let u = above-top (suc (x .id)) r (g .1) in (g .0, (u, omega arith))
+  good-step (wipe h) g = tt
+  good-step (over h) g = tt
+  good-step (pass {y = y} {q = r} h) g = (omega arith, above-up (suc (y .id)) r h (g .1 .1))
+  good-step (beat {x = x} {q = r} h u v) g = (omega arith, above-up (suc (x .id)) r h (g .1))
+  good-step (again {x = x} {q = r} h u v) g = (omega arith, above-up (suc (x .id)) r h (g .1))
+  good-step (quit h u) g = tt
+  good-step (quit-pass {y = y} {q = r} h u) g = (omega arith, above-up (suc (y .id)) r h (g .1 .1))
+
+  -- once gone, never again
+  pub gone-step : (n : ℕ) {e : Option (List ℕ)} {o a s t p p′ : Bool} {q q′ : Queue} {es : List Seen}
+      → Eff z k k′ e o a s t p p′ q q′ es → Gone n q k → (copies-among n es ≡ 0) × Gone n q′ k′
+  gone-step n (rest h) g = (refl, omega arith)
+  gone-step n (lone h) g = (none-of n k (omega arith), omega arith)
+  gone-step n (first h) g = (none-of n k (omega arith), omega arith)
+  gone-step n (keep {x = x} {q = r} h) g = (refl, (g .0, above-up (suc (x .id)) r h (g .1)))
+  gone-step n (wait {x = x} {q = r} h l) g = (refl, (g .0, rw h (above-snoc (suc (x .id)) r _ refl (g .1))))
+  gone-step n (swap {x = x} {q = r} z′ h) g = let u = above-top (suc (x .id)) r (g .1) in (refl, (g .0, (u, omega arith)))
+  gone-step n (wipe {x = x} {q = r} h) g = let u = above-top (suc (x .id)) r (g .1) in (refl, omega arith)
+  gone-step n (over h) g = (refl, omega arith)
+  gone-step n (pass {y = y} {q = r} h) g = (none-of n (y .id) (omega arith), (omega arith, above-up (suc (y .id)) r h (g .1 .1)))
+  gone-step n (beat {x = x} {q = r} h u v) g = (refl, (g .0, above-up (suc (x .id)) r h (g .1)))
+  gone-step n (again {x = x} {q = r} h u v) g = (none-of n (x .id) (omega arith), (g .0, above-up (suc (x .id)) r h (g .1)))
+  gone-step n (quit h u) g = (refl, omega arith)
+  gone-step n (quit-pass {y = y} {q = r} h u) g =
+      (none-of n (y .id) (omega arith), (omega arith, above-up (suc (y .id)) r h (g .1 .1)))
+
+-- ==== a notice that is open with clock c: what becomes of it, by whether the call closes and whether it is a tick
+
+pub data Fate (n c : ℕ) (q′ : Queue) (k′ : ℕ) (es : List Seen) : Bool → Bool → Type 0 where
+  shut : {t : Bool} → copies-among n es ≡ 0 → Gone n q′ k′ → Fate n c q′ k′ es true t
+  same : copies-among n es ≡ 0 → OpenAt n c q′ k′ → Fate n c q′ k′ es false false
+  runs : copies-among n es + c / 20 ≡ suc c / 20 → OpenAt n (suc c) q′ k′ → Fate n c q′ k′ es false true
+  ends : suc c ≡ 120 → copies-among n es ≡ 0 → Gone n q′ k′ → Fate n c q′ k′ es false true
+
+module _ {z : Bool} {k k′ : ℕ} where
+  pub open-step : (n c : ℕ) {e : Option (List ℕ)} {o a s t p p′ : Bool} {q q′ : Queue} {es : List Seen}
+      → Eff z k k′ e o a s t p p′ q q′ es → OpenAt n c q k → Fate n c q′ k′ es s t
+  open-step n c (rest h) g = absurd g
+  open-step n c (lone h) g = absurd g
+  open-step n c (first h) g = absurd g
+  open-step n c (keep {x = x} {q = r} h) g = same refl (g .0, g .1, g .2, above-up (suc (x .id)) r h (g .3))
+  open-step n c (wait {x = x} {q = r} h l) g =
+      same refl (g .0, g .1, g .2, rw h (above-snoc (suc (x .id)) r _ refl (g .3)))
+  open-step n c (swap {x = x} {q = r} z′ h) g =
+      let u = above-top (suc (x .id)) r (g .3) in same refl (g .0, g .1, g .2, (u, omega arith))
+  open-step n c (wipe {x = x} {q = r} h) g = let u = above-top (suc (x .id)) r (g .3) in shut refl (omega arith)
+  open-step n c (over h) g = shut refl (omega arith)
+  open-step n c (pass {y = y} {q = r} h) g =
+      shut (none-of n (y .id) (omega arith)) (omega arith, above-up (suc (y .id)) r h (g .3 .1))
+  open-step n c (beat {x = x} {q = r} h u v) g =
+      runs (omega arith) (g .0, ap suc (g .1), omega arith, above-up (suc (x .id)) r h (g .3))
+  open-step n c (again {x = x} {q = r} h u v) g =
+      let z = one n _ (g .0) in
+      runs (omega arith) (g .0, ap suc (g .1), omega arith, above-up (suc (x .id)) r h (g .3))
+  open-step n c (quit h u) g = ends (omega arith) refl (omega arith)
+  open-step n c (quit-pass {y = y} {q = r} h u) g =
+      ends (omega arith) (none-of n (y .id) (omega arith)) (omega arith, above-up (suc (y .id)) r h (g .3 .1))
+
+-- ==== a notice that is not open
+
+pub data Start (n : ℕ) (q′ : Queue) (k′ : ℕ) (es : List Seen) : Bool → Type 0 where
+  not-yet : {a : Bool} → copies-among n es ≡ 0 → NotOpen n q′ → Start n q′ k′ es a
+  opens : copies-among n es ≡ 1 → OpenAt n 0 q′ k′ → Start n q′ k′ es true
+  single : copies-among n es ≡ 1 → Gone n q′ k′ → Start n q′ k′ es false
+
+by-test : {P : Type 0} (a b : ℕ) → (a ≡ b → P) → ((a ≡ b → ⊥) → P) → P
+by-test {P} a b f g = go (eqb a b) refl
+  where
+    go : (t : Bool) → eqb a b ≡ t → P
+    go true e = f (eqb-true a b e)
+    go false e = g (eqb-false a b e)
+
+module _ {z : Bool} {k k′ : ℕ} where
+  pub start-step : (n : ℕ) {e : Option (List ℕ)} {o a s t p p′ : Bool} {q q′ : Queue} {es : List Seen}
+      → Eff z k k′ e o a s t p p′ q q′ es → Good q k → NotOpen n q → Start n q′ k′ es a
+  start-step n (rest h) g u = not-yet refl tt
+  start-step n (lone {f = f} h) g u =
+      by-test k n (λ z. single (one n _ z) (omega arith)) (λ z. not-yet (none-of n _ z) tt)
+  start-step n (first {f = f} h) g u =
+      by-test k n (λ z. opens (one n _ z) (z, refl, omega arith, omega arith)) (λ z. not-yet (none-of n _ z) z)
+  start-step n (keep h) g u = not-yet refl u
+  start-step n (wait h l) g u = not-yet refl u
+  start-step n (swap z′ h) g u = not-yet refl u
+  start-step n (wipe h) g u = not-yet refl tt
+  start-step n (over h) g u = not-yet refl tt
+  start-step n (pass {y = y} {q = r} h) g u =
+      by-test (y .id) n (λ z. opens (one n _ z) (z, refl, omega arith, above-up (suc (y .id)) r h (g .1 .1)))
+      (λ z. not-yet (none-of n _ z) z)
+  start-step n (beat h u′ v) g u = not-yet refl u
+  start-step n (again {x = x} h u′ v) g u = not-yet (none-of n _ u) u
+  start-step n (quit h v) g u = not-yet refl tt
+  start-step n (quit-pass {y = y} {q = r} h v) g u =
+      by-test (y .id) n (λ z. opens (one n _ z) (z, refl, omega arith, above-up (suc (y .id)) r h (g .1 .1)))
+      (λ z. not-yet (none-of n _ z) z)
+
+-- ==== frames: F says which frame a notice has
+
+abbrev pub Framed : (ℕ → Option (List ℕ)) → List Seen → Type 0
+Framed F xs = Every (λ (x : Seen). F (x .id) ≡ some (x .frame)) xs
+
+abbrev pub all : Queue → List Seen
+all empty = []
+all (busy x c q) = x ∷ q
+
+pub framed-append : (F : ℕ → Option (List ℕ)) (xs ys : List Seen) → Framed F xs → Framed F ys → Framed F (xs ++ ys)
+framed-append F [] ys a b = b
+framed-append F (x ∷ xs) ys a b = (a .0, framed-append F xs ys (a .1) b)
+
+-- the event of this call, number k, has the frame that F says
+abbrev pub Says : (ℕ → Option (List ℕ)) → ℕ → Option (List ℕ) → Type 0
+Says F k none = Unit {0}
+Says F k (some f) = F k ≡ some f
+
+module _ {z : Bool} {k k′ : ℕ} where
+  pub frame-step : (F : ℕ → Option (List ℕ)) {e : Option (List ℕ)} {o a s t p p′ : Bool} {q q′ : Queue} {es : List Seen}
+      → Eff z k k′ e o a s t p p′ q q′ es → Says F k e → Framed F (all q) → Framed F es × Framed F (all q′)
+  frame-step F (rest h) u g = (tt, tt)
+  frame-step F (lone h) u g = ((u, tt), tt)
+  frame-step F (first h) u g = ((u, tt), (u, tt))
+  frame-step F (keep h) u g = (tt, g)
+  frame-step F (wait {q = r} h l) u g = (tt, (g .0, framed-append F r _ (g .1) (u, tt)))
+  frame-step F (swap z′ h) u g = (tt, (g .0, (u, tt)))
+  frame-step F (wipe h) u g = (tt, tt)
+  frame-step F (over h) u g = (tt, tt)
+  frame-step F (pass h) u g = ((g .1 .0, tt), g .1)
+  frame-step F (beat h y v) u g = (tt, g)
+  frame-step F (again h y v) u g = ((g .0, tt), g)
+  frame-step F (quit h y) u g = (tt, tt)
+  frame-step F (quit-pass h y) u g = ((g .1 .0, tt), g .1)
+
+  -- ==== a copy goes to a session that is subscribed before and after the call
+
+  pub subscribed-step : {e : Option (List ℕ)} {o a s t p p′ : Bool} {q q′ : Queue} {es : List Seen}
+      → Eff z k k′ e o a s t p p′ q q′ es → 0 < length es → (p ≡ true) × (p′ ≡ true)
+  subscribed-step (rest h) z = absurd (omega arith)
+  subscribed-step (lone h) z = (refl, refl)
+  subscribed-step (first h) z = (refl, refl)
+  subscribed-step (keep h) z = absurd (omega arith)
+  subscribed-step (wait h l) z = absurd (omega arith)
+  subscribed-step (swap z′ h) z = absurd (omega arith)
+  subscribed-step (wipe h) z = absurd (omega arith)
+  subscribed-step (over h) z = absurd (omega arith)
+  subscribed-step (pass h) z = (refl, refl)
+  subscribed-step (beat h u v) z = absurd (omega arith)
+  subscribed-step (again h u v) z = (refl, refl)
+  subscribed-step (quit h u) z = absurd (omega arith)
+  subscribed-step (quit-pass h u) z = (refl, refl)
+
+-- ==== how many copies may still come of what is queued
+
+abbrev pub credit : Queue → ℕ
+credit empty = 0
+credit (busy x c q) = (119 - c) / 20 + 6 * length q
+
+abbrev pub six : Bool → ℕ
+six true = 6
+six false = 0
+
+module _ {z : Bool} {k k′ : ℕ} where
+  pub credit-step : {e : Option (List ℕ)} {o a s t p p′ : Bool} {q q′ : Queue} {es : List Seen}
+      → Eff z k k′ e o a s t p p′ q q′ es → Good q k → length es + credit q′ ≤ credit q + six o
+  credit-step (rest h) g = omega arith
+  credit-step (lone h) g = omega arith
+  credit-step (first h) g = omega arith
+  credit-step (keep h) g = omega arith
+  credit-step (wait {f = f} {q = r} h l) g = omega (arith, length-append r (record { id = k; frame = f } ∷ []))
+  credit-step (swap z′ h) g = omega arith
+  credit-step (wipe h) g = omega arith
+  credit-step (over h) g = omega arith
+  credit-step (pass h) g = omega arith
+  credit-step (beat h u v) g = omega arith
+  credit-step (again h u v) g = omega arith
+  credit-step (quit h u) g = omega arith
+  credit-step (quit-pass h u) g = omega arith
+
+-- ==== what waits goes out in time
+
+-- n stands at place i
+abbrev pub Ahead : ℕ → ℕ → List Seen → Type 0
+Ahead n i [] = ⊥
+Ahead n zero (x ∷ q) = x .id ≡ n
+Ahead n (suc i) (x ∷ q) = Ahead n i q
+
+-- n waits, and is to go out within d ticks
+abbrev pub Due : ℕ → ℕ → Queue → Type 0
+Due n d empty = ⊥
+Due n d (busy x c q) = (i : ℕ) × Ahead n i q × (120 + 120 * i ≤ d + c) × (c < 120)
+
+ahead-more : (n i : ℕ) (q : List Seen) (x : Seen) → Ahead n i q → Ahead n i (q ++ x ∷ [])
+ahead-more n i [] x h = absurd h
+ahead-more n zero (y ∷ q) x h = h
+ahead-more n (suc i) (y ∷ q) x h = ahead-more n i q x h
+
+ahead-last : (q : List Seen) (x : Seen) → Ahead (x .id) (length q) (q ++ x ∷ [])
+ahead-last [] x = refl
+ahead-last (y ∷ q) x = ahead-last q x
+
+abbrev pub less : Bool → ℕ → ℕ
+less true d = d - 1
+less false d = d
+
+less-le : (t : Bool) (d : ℕ) → d ≤ suc (less t d)
+less-le true d = omega arith
+less-le false d = omega arith
+
+-- the next one goes out; n is it, or waits on
+promoted : (n d i : ℕ) (y : Seen) (q : List Seen) → Ahead n i (y ∷ q) → 120 * i ≤ d
+    → (0 < copies-among n (y ∷ [])) ⊎ Due n d (busy y 0 q)
+promoted n d zero y q h l = let e = one n (y .id) h in inl (omega arith)
+promoted n d (suc i) y q h l = inr (i, h, omega arith, omega arith)
+
+module _ {k k′ : ℕ} where
+  pub due-step : (n d : ℕ) {e : Option (List ℕ)} {o a s t p : Bool} {q q′ : Queue} {es : List Seen}
+      → Eff false k k′ e o a s t p true q q′ es → Due n d q → (0 < copies-among n es) ⊎ Due n (less t d) q′
+  due-step n d (rest h) g = absurd g
+  due-step n d (lone h) g = absurd g
+  due-step n d (first h) g = absurd g
+  due-step n d (keep h) g = inr g
+  due-step n d (wait {q = r} h l) g = inr (g .0, ahead-more n (g .0) r _ (g .1), g .2, g .3)
+  due-step n d (swap z h) g = absurd (true≢false (sym z))
+  due-step n d (over h) g = absurd (g .1)
+  due-step n d (pass {t = t} {y = y} {q = r} h) g = promoted n (less t d) (g .0) y r (g .1) (omega (arith, less-le t d))
+  due-step n d (beat h u v) g = inr (g .0, g .1, omega arith, omega arith)
+  due-step n d (again h u v) g = inr (g .0, g .1, omega arith, omega arith)
+  due-step n d (quit h u) g = absurd (g .1)
+  due-step n d (quit-pass {y = y} {q = r} h u) g = promoted n (d - 1) (g .0) y r (g .1) (omega arith)
+
+  -- an event that is taken is sent at once or waits
+  pub due-taken : {e : Option (List ℕ)} {a s t p p′ : Bool} {q q′ : Queue} {es : List Seen}
+      → Eff false k k′ e true a s t p p′ q q′ es → Good q k → (0 < copies-among k es) ⊎ Due k 840 q′
+  due-taken (lone h) g = let e = one k k refl in inl (omega arith)
+  due-taken (first h) g = let e = one k k refl in inl (omega arith)
+  due-taken (wait {f = f} {q = r} h l) g = inr (length r, ahead-last r (record { id = k; frame = f }), omega arith, g .0)
+  due-taken (swap z h) g = absurd (true≢false (sym z))

@@ -1,0 +1,164 @@
+-- What the calls of a whole history do to the notices of one kind to one session. Assumes nothing.
+use Prim.Native.Nat.{ℕ, zero, suc, _+_, _-_, _*_, _/_, _≤_, _<_, min}
+use mathlib.Core.Path.{_≡_, refl, sym, _∙_, ap, subst}
+use mathlib.Core.Bool.{Bool, true, false, cond}
+use mathlib.Core.List.{List, [], _∷_, _++_}
+use mathlib.Core.Option.{Option, none, some}
+use mathlib.Core.Logic.{_⊎_, inl, inr}
+use native.Mathlib.Omega.{arith}
+use lib.Dec.{eqb}
+use lib.ListN.{length, length-append}
+use borrow.Author.Tests.{eq-eqb, ne-eqb}
+use Rattle.watch.specs.Marks.{Seen, Mark, copies-among, all-sent, copies, tick-count, ticks-open, or-later, frame-of, Every, taken}
+use Rattle.watch.specs.Course.{Queue, empty, busy, Eff, Rises, Course, end, call}
+use Rattle.watch.proofs.Calls.{Good, OpenAt, Gone, NotOpen, good-step, gone-step, Fate, shut, same, runs, ends, open-step, Start, not-yet, opens, single, start-step, Framed, all, framed-append, Says, frame-step, subscribed-step, credit, six, credit-step, Due, less, due-step, due-taken}
+
+pub copies-append : (n : ℕ) (xs ys : List Seen) → copies-among n (xs ++ ys) ≡ copies-among n xs + copies-among n ys
+copies-append n [] ys = omega arith
+copies-append n (x ∷ xs) ys = go (eqb (x .id) n) (copies-append n xs ys)
+  where
+    go : (b : Bool) → copies-among n (xs ++ ys) ≡ copies-among n xs + copies-among n ys
+        → cond b (suc (copies-among n (xs ++ ys))) (copies-among n (xs ++ ys)) ≡ cond b (suc (copies-among n xs)) (copies-among n xs) + copies-among n ys
+    go true ih = omega arith
+    go false ih = ih
+
+pub copies-join : (n : ℕ) (xs ys : List Mark) → copies n (xs ++ ys) ≡ copies n xs + copies n ys
+copies-join n [] ys = omega arith
+copies-join n (m ∷ xs) ys =
+    let h = copies-join n xs ys in
+    omega (arith, copies-append n (m .sent) (all-sent (xs ++ ys)), copies-append n (m .sent) (all-sent xs))
+
+-- the first calls of a history are one
+pub course-before : {z : Bool} {k : ℕ} {q : Queue} (xs ys : List Mark) → Course z k q (xs ++ ys) → Course z k q xs
+course-before [] ys c = end
+course-before (m ∷ xs) ys (call e r f c) = call e r f (course-before xs ys c)
+
+-- ==== the arithmetic of one more call; `later` is what is sent after it, and t the ticks after it
+
+open-lt : (n c : ℕ) (q : Queue) (k : ℕ) → OpenAt n c q k → c < 120
+open-lt n c empty k g = absurd g
+open-lt n c (busy x d q) k g = omega arith
+
+open-more : (n d : ℕ) (q′ : Queue) (k′ : ℕ) (es : List Seen) {s b : Bool} (later t : ℕ) → d < 120 → Fate n d q′ k′ es s b
+    → ((d′ : ℕ) → OpenAt n d′ q′ k′ → later + d′ / 20 ≡ min 5 ((d′ + t) / 20)) → (Gone n q′ k′ → later ≡ 0)
+    → copies-among n es + later + d / 20 ≡ min 5 ((d + cond s 0 (cond b (suc t) t)) / 20)
+open-more n d q′ k′ es later t h (shut z g) ih lost = let y = lost g in omega arith
+open-more n d q′ k′ es later t h (same z g) ih lost = let y = ih d g in omega arith
+open-more n d q′ k′ es later t h (runs z g) ih lost = let y = ih (suc d) g in omega arith
+open-more n d q′ k′ es later t h (ends e z g) ih lost = let y = lost g in omega arith
+
+-- the call sends the first copy
+start-more : (n : ℕ) (q′ : Queue) (k′ : ℕ) (es : List Seen) {a : Bool} (later t : ℕ) → Start n q′ k′ es a → 0 < copies-among n es
+    → (OpenAt n 0 q′ k′ → later + 0 / 20 ≡ min 5 ((0 + t) / 20)) → (Gone n q′ k′ → later ≡ 0)
+    → copies-among n es + later ≡ cond a (1 + min 5 (t / 20)) 1
+start-more n q′ k′ es later t (not-yet z g) h up lost = absurd (omega arith)
+start-more n q′ k′ es later t (opens z g) h up lost = let y = up g in omega arith
+start-more n q′ k′ es later t (single z g) h up lost = let y = lost g in omega arith
+
+-- the call does not
+still-not : (n : ℕ) (q′ : Queue) (k′ : ℕ) (es : List Seen) {a : Bool} → Start n q′ k′ es a → copies-among n es ≡ 0 → NotOpen n q′
+still-not n q′ k′ es (not-yet z g) h = g
+still-not n q′ k′ es (opens z g) h = absurd (omega arith)
+still-not n q′ k′ es (single z g) h = absurd (omega arith)
+
+-- ==== the count
+
+pub gone : (n : ℕ) {z : Bool} {k : ℕ} {q : Queue} {ms : List Mark} → Course z k q ms → Gone n q k → copies n ms ≡ 0
+gone n end g = refl
+gone n (call {m = m} {ms = ms} e r f c) g =
+    let y = gone-step n f g in
+    let ih = gone n c (y .1) in
+    omega (arith, copies-append n (m .sent) (all-sent ms))
+
+-- n is open and its clock is d: what is still to come of it
+pub opened : (n d : ℕ) {z : Bool} {k : ℕ} {q : Queue} {ms : List Mark} → Course z k q ms → OpenAt n d q k
+    → copies n ms + d / 20 ≡ min 5 ((d + ticks-open ms) / 20)
+opened n d {k = k} {q = q} end g = let h = open-lt n d q k g in omega arith
+opened n d {k = k} {q = q} (call {k′ = k′} {q′ = q′} {m = m} {ms = ms} e r f c) g =
+    rw (copies-append n (m .sent) (all-sent ms))
+    (open-more n d q′ k′ (m .sent) (copies n ms) (ticks-open ms) (open-lt n d q k g) (open-step n d f g)
+    (λ d′. opened n d′ c) (gone n c))
+
+-- by the call that sends the first copy
+pub counted : (n : ℕ) {z : Bool} {k : ℕ} {q : Queue} (before : List Mark) (m : Mark) (later : List Mark)
+    → Course z k q (before ++ m ∷ later) → Good q k → NotOpen n q → copies n before ≡ 0 → 0 < copies-among n (m .sent)
+    → copies n (before ++ m ∷ later) ≡ cond (m .asked) (1 + min 5 (ticks-open later / 20)) 1
+counted n [] m later (call {k′ = k′} {q′ = q′} e r f c) g u z h =
+    rw (copies-append n (m .sent) (all-sent later))
+    (start-more n q′ k′ (m .sent) (copies n later) (ticks-open later) (start-step n f g u) h (opened n 0 c) (gone n c))
+counted n (b ∷ before) m later (call {k′ = k′} {q′ = q′} e r f c) g u z h =
+    let y = copies-append n (b .sent) (all-sent before) in
+    let x = still-not n q′ k′ (b .sent) (start-step n f g u) (omega arith) in
+    let ih = counted n before m later c (good-step f g) x (omega arith) h in
+    copies-append n (b .sent) (all-sent (before ++ m ∷ later)) ∙ omega arith
+
+-- ==== the bytes
+
+-- the events of the history have the frames that F says
+pub framed : (F : ℕ → Option (List ℕ)) {z : Bool} {k : ℕ} {q : Queue} {ms : List Mark} → Course z k q ms
+    → ((n : ℕ) → k ≤ n → frame-of n ms ≡ F n) → Framed F (all q) → Framed F (all-sent ms)
+framed F end u g = tt
+framed F (call {k = k} {k′ = k′} {m = m} {ms = ms} e r f c) u g =
+    let y = go (m .event) r (λ n l. sym (ap (λ (i : ℕ). or-later (eqb i n) (frame-of n ms) (m .event)) e) ∙ u n l) in
+    let x = frame-step F f (y .0) g in
+    framed-append F (m .sent) (all-sent ms) (x .0) (framed F c (y .1) (x .1))
+  where
+    go : (o : Option (List ℕ)) → Rises k k′ o → ((n : ℕ) → k ≤ n → or-later (eqb k n) (frame-of n ms) o ≡ F n)
+        → Says F k o × ((n : ℕ) → k′ ≤ n → frame-of n ms ≡ F n)
+    go none h v = (tt, λ n l. v n (omega arith))
+    go (some b) h v = (
+      sym (rw (eq-eqb k k refl) at (v k (omega arith))),
+      λ n l. rw (ne-eqb k n (omega arith)) at (v n (omega arith)),
+    )
+
+-- ==== only to subscribers
+
+pub subscribers : {z : Bool} {k : ℕ} {q : Queue} {ms : List Mark} → Course z k q ms
+    → Every (λ (m : Mark). 0 < length (m .sent) → (m .subscribed ≡ true) × (m .still ≡ true)) ms
+subscribers end = tt
+subscribers (call e r f c) = (λ h. subscribed-step f h, subscribers c)
+
+-- ==== six copies at most for each event that was taken, and what is still to come of those that were queued
+
+pub bounded : {z : Bool} {k : ℕ} {q : Queue} {ms : List Mark} → Course z k q ms → Good q k
+    → length (all-sent ms) ≤ credit q + 6 * taken ms
+bounded end g = omega arith
+bounded {q = q} (call {k′ = k′} {q′ = q′} {m = m} {ms = ms} e r f c) g =
+    more (m .took) (credit-step f g) (bounded c (good-step f g))
+  where
+    more : (o : Bool) → length (m .sent) + credit q′ ≤ credit q + six o
+        → length (all-sent ms) ≤ credit q′ + 6 * taken ms
+        → length (m .sent ++ all-sent ms) ≤ credit q + 6 * cond o (suc (taken ms)) (taken ms)
+    more true h ih = omega (arith, length-append (m .sent) (all-sent ms))
+    more false h ih = omega (arith, length-append (m .sent) (all-sent ms))
+
+-- ==== in time, of a kind of which all wait
+
+module _ (n : ℕ) where
+  late : (d : ℕ) (q : Queue) → Due n d q → d ≤ 0 → ⊥
+  late d empty g l = g
+  late d (busy x c q) g l = omega arith
+
+  pub in-time : (d : ℕ) {k : ℕ} {q : Queue} {ms : List Mark} → Course false k q ms → Due n d q → Every (λ (x : Mark). x .still ≡ true) ms
+      → d ≤ tick-count ms → 0 < copies n ms
+  in-time d {q = q} end g u l = absurd (late d q g l)
+  in-time d (call {k = k} {k′ = k′} {q = q} {q′ = q′} {m = m} {ms = ms} e r f c) g u l =
+      go (m .tick) (due-step n d (rw (u .0) at f) g) l (λ d′ h. in-time d′ c h (u .1))
+    where
+      go : (t : Bool) → (0 < copies-among n (m .sent)) ⊎ Due n (less t d) q′ → d ≤ cond t (suc (tick-count ms)) (tick-count ms)
+          → ((d′ : ℕ) → Due n d′ q′ → d′ ≤ tick-count ms → 0 < copies n ms)
+          → 0 < copies-among n (m .sent ++ all-sent ms)
+      go t (inl h) l ih = omega (arith, copies-append n (m .sent) (all-sent ms))
+      go true (inr h) l ih = let y = ih (d - 1) h (omega arith) in omega (arith, copies-append n (m .sent) (all-sent ms))
+      go false (inr h) l ih = let y = ih d h l in omega (arith, copies-append n (m .sent) (all-sent ms))
+
+-- taken by this call, sent within 840 ticks
+pub taken-in-time : {k : ℕ} {q : Queue} (before : List Mark) (m : Mark) (later : List Mark) → Course false k q (before ++ m ∷ later) → Good q k
+    → m .took ≡ true → Every (λ (x : Mark). x .still ≡ true) (m ∷ later) → 840 ≤ tick-count later → 0 < copies (m .number) (m ∷ later)
+taken-in-time [] m later (call {k = k} {q′ = q′} e r f c) g t u l =
+    subst (λ (n : ℕ). 0 < copies n (m ∷ later)) (sym e) (go (due-taken (rw t at f) g))
+  where
+    go : (0 < copies-among k (m .sent)) ⊎ Due k 840 q′ → 0 < copies k (m ∷ later)
+    go (inl h) = omega (arith, copies-append k (m .sent) (all-sent later))
+    go (inr h) = let y = in-time k 840 c h (u .1) l in omega (arith, copies-append k (m .sent) (all-sent later))
+taken-in-time (b ∷ before) m later (call e r f c) g t u l = taken-in-time before m later c (good-step f g) t u l

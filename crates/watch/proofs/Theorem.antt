@@ -1,0 +1,56 @@
+-- Demand 3 of every history of such calls that begins with nothing open and nothing waiting. Assumes nothing.
+use Prim.Native.Nat.{ℕ, zero, suc, _+_, _*_, _/_, _≤_, _<_, min}
+use mathlib.Core.Path.{_≡_, refl, sym, _∙_, ap, subst}
+use mathlib.Core.Bool.{Bool, true, false, cond}
+use mathlib.Core.List.{List, [], _∷_, _++_, append-assoc}
+use native.Mathlib.Omega.{arith}
+use lib.ListN.{length}
+use Rattle.watch.specs.Marks.{Seen, Mark, copies-among, all-sent, copies, tick-count, ticks-open, T, copies-due, First, frame-of, Every, taken, Demand3, InTime}
+use Rattle.watch.specs.Course.{Queue, empty, busy, Course}
+use Rattle.watch.proofs.Histories.{copies-append, copies-join, course-before, counted, framed, subscribers, bounded, taken-in-time}
+
+-- what comes after a call that closes does not count
+ticks-to : (xs : List Mark) (c : Mark) (ys : List Mark) → c .closes ≡ true → ticks-open (xs ++ c ∷ ys) ≡ ticks-open xs
+ticks-to [] c ys e = rw e
+ticks-to (x ∷ xs) c ys e = rw (ticks-to xs c ys e)
+
+same-for : (a : Bool) (x y p q r : ℕ) → x ≡ cond a (1 + p) 1 → y ≡ cond a (1 + q) 1 → p ≡ q → x ≡ y + r → r ≡ 0
+same-for true x y p q r u v w h = omega arith
+same-for false x y p q r u v w h = omega arith
+
+module _ {z : Bool} {k : ℕ} where
+  number-of : (n : ℕ) (before : List Mark) (m : Mark) (later : List Mark) → Course z k empty (before ++ m ∷ later) → First n before m
+      → {b : Bool} → m .asked ≡ b → copies n (before ++ m ∷ later) ≡ cond b (1 + min 5 (ticks-open later / 20)) 1
+  number-of n before m later c f a =
+      counted n before m later c tt tt (f .none-before) (f .sends) ∙ ap (λ (b : Bool). cond b (1 + min 5 (ticks-open later / 20)) 1) a
+
+  closed-once : (n : ℕ) (before : List Mark) (m : Mark) (between : List Mark) (c : Mark) (later : List Mark)
+      → Course z k empty ((before ++ m ∷ between) ++ c ∷ later) → First n before m → c .closes ≡ true → copies n (c ∷ later) ≡ 0
+  closed-once n before m between c later h f e =
+      let r : (before ++ m ∷ between) ++ c ∷ later ≡ before ++ m ∷ (between ++ c ∷ later) = append-assoc before (m ∷ between) (c ∷ later) in
+      same-for (m .asked) (copies n (before ++ m ∷ (between ++ c ∷ later))) (copies n (before ++ m ∷ between))
+      (min 5 (ticks-open (between ++ c ∷ later) / 20)) (min 5 (ticks-open between / 20)) (copies n (c ∷ later))
+      (number-of n before m (between ++ c ∷ later) (subst (Course z k empty) r h) f refl)
+      (number-of n before m between (course-before (before ++ m ∷ between) (c ∷ later) h) f refl)
+      (ap (λ (t : ℕ). min 5 (t / 20)) (ticks-to between c later e))
+      (ap (copies n) (sym r) ∙ copies-join n (before ++ m ∷ between) (c ∷ later))
+
+  -- DEMAND 3
+  pub demand-3 : {ms : List Mark} → Course z k empty ms → Demand3 ms
+  demand-3 {ms} c = record {
+    acknowledged = λ n before m later e f a.
+        ap (copies n) e ∙ number-of n before m later (subst (Course z k empty) e c) f a
+        ∙ (let t = ticks-open later in omega arith);
+    plain = λ n before m later e f a. ap (copies n) e ∙ number-of n before m later (subst (Course z k empty) e c) f a;
+    equal = framed (λ n. frame-of n ms) c (λ n l. refl) tt;
+    never-again = λ n before m between d later e f a. closed-once n before m between d later (subst (Course z k empty) e c) f a;
+    only-subscribed = subscribers c;
+  }
+
+  -- six copies at most for each event that was taken
+  pub few : {ms : List Mark} → Course z k empty ms → length (all-sent ms) ≤ 6 * taken ms
+  few c = let h = bounded c tt in omega arith
+
+pub goes-out-in-time : {k : ℕ} {ms : List Mark} → Course false k empty ms → InTime ms
+goes-out-in-time {k} c before m later e t u l =
+    taken-in-time before m later (subst (Course false k empty) e c) tt t u l
