@@ -1,0 +1,100 @@
+-- The size of the record that bytes begin with, and the records that they are cut into. Assumes nothing.
+use mathlib.Core.Path.{_≡_, refl, sym, ap, _∙_}
+use Prim.Native.Nat.{ℕ, zero, suc, _+_, _-_, _≤_, _<_}
+use native.Mathlib.Omega.{arith}
+use mathlib.Core.Bool.{Bool, true, false, cond, not, _&&_}
+use mathlib.Core.List.{List, [], _∷_}
+use lib.Dec.{leb, ltb}
+use lib.ListN.{length, take, drop, length-drop}
+use borrow.Author.Tests.{le-leb, lt-leb, ltb-true, ltb-false}
+use Rattle.model.specs.Limits.{payload-longest}
+use Rattle.model.specs.Bytes.{little, places}
+use Rattle.model.specs.Program.{slices}
+use Rattle.replay.specs.Whole.{whole-size, too-long}
+
+module _ (bs : List ℕ) where
+  abbrev payload : ℕ
+  payload = little (places 1 2 bs)
+
+  pub size-cut : length bs < 4 → 0 ≡ whole-size bs
+  unfolding whole-size
+  size-cut h = rw (lt-leb 4 (length bs) h)
+
+  pub size-too-long : payload-longest < payload → 0 ≡ whole-size bs
+  unfolding whole-size
+  size-too-long h = go (leb 4 (length bs)) (lt-leb payload payload-longest h)
+    where
+      go : (b : Bool) → leb payload payload-longest ≡ false → 0 ≡ cond (b && leb payload payload-longest && leb (4 + payload) (length bs)) (4 + payload) 0
+      go true e = rw e
+      go false e = refl
+
+  pub size-missing : length bs < 4 + payload → 0 ≡ whole-size bs
+  unfolding whole-size
+  size-missing h = go (leb 4 (length bs)) (leb payload payload-longest) (lt-leb (4 + payload) (length bs) h)
+    where
+      go : (b d : Bool) → leb (4 + payload) (length bs) ≡ false → 0 ≡ cond (b && d && leb (4 + payload) (length bs)) (4 + payload) 0
+      go true true e = rw e
+      go true false e = refl
+      go false d e = refl
+
+  pub size-whole : payload ≤ payload-longest → 4 + payload ≤ length bs → 4 + payload ≡ whole-size bs
+  unfolding whole-size
+  size-whole h g = rw (le-leb 4 (length bs) (omega arith), le-leb payload payload-longest h, le-leb (4 + payload) (length bs) g)
+
+  -- ==== a whole record, and what follows it
+
+  pub slices-next : (m : ℕ) → 0 < whole-size bs → slices (suc m) bs ≡ take (whole-size bs) bs ∷ slices m (drop (whole-size bs) bs)
+  unfolding whole-size
+  slices-next m h = go (leb 4 (length bs) && leb payload payload-longest && leb (4 + payload) (length bs)) h
+    where
+      go : (b : Bool) → 0 < cond b (4 + payload) 0
+          → elim b [ true ↦ take (4 + payload) bs ∷ slices m (drop (4 + payload) bs) | false ↦ [] ] ≡ take (cond b (4 + payload) 0) bs ∷ slices m (drop (cond b (4 + payload) 0) bs)
+      go true h = refl
+      go false h = absurd (omega arith)
+
+  pub slices-none : (m : ℕ) → whole-size bs ≡ 0 → slices m bs ≡ []
+  unfolding whole-size
+  slices-none zero e = refl
+  slices-none (suc m) e = go (leb 4 (length bs) && leb payload payload-longest && leb (4 + payload) (length bs)) e
+    where
+      go : (b : Bool) → cond b (4 + payload) 0 ≡ 0 → _≡_ {A = List (List ℕ)} (elim b [ true ↦ take (4 + payload) bs ∷ slices m (drop (4 + payload) bs) | false ↦ [] ]) []
+      go true e = absurd (omega arith)
+      go false e = refl
+
+-- as many turns as there are bytes are enough
+pub slices-enough : (m n : ℕ) (bs : List ℕ) → length bs ≤ m → length bs ≤ n → slices m bs ≡ slices n bs
+slices-enough zero n bs h g =
+    let e : whole-size bs ≡ 0 = sym (size-cut bs (omega arith)) in slices-none bs 0 e ∙ sym (slices-none bs n e)
+slices-enough (suc m) zero bs h g =
+    let e : whole-size bs ≡ 0 = sym (size-cut bs (omega arith)) in slices-none bs (suc m) e ∙ sym (slices-none bs 0 e)
+slices-enough (suc m) (suc n) bs h g = go (λ (ys : List ℕ). slices-enough m n ys) (whole-size bs) refl
+  where
+    go : ((ys : List ℕ) → length ys ≤ m → length ys ≤ n → slices m ys ≡ slices n ys) → (k : ℕ) → whole-size bs ≡ k → slices (suc m) bs ≡ slices (suc n) bs
+    go shorter zero e = slices-none bs (suc m) e ∙ sym (slices-none bs (suc n) e)
+    go shorter (suc k) e =
+        let p : 0 < whole-size bs = omega arith in
+        let d = length-drop (whole-size bs) bs in
+        slices-next bs m p
+        ∙ ap (λ (ss : List (List ℕ)). take (whole-size bs) bs ∷ ss) (shorter (drop (whole-size bs) bs) (omega arith) (omega arith))
+        ∙ sym (slices-next bs n p)
+
+pub slices-first : (bs : List ℕ) (size : ℕ) → size ≡ whole-size bs → 0 < size → slices (length bs) bs ≡ take size bs ∷ slices (length (drop size bs)) (drop size bs)
+slices-first bs size e h =
+    let rest = drop (whole-size bs) bs in
+    let p : 0 < whole-size bs = omega arith in
+    let d = length-drop (whole-size bs) bs in
+    rw e
+    (slices-enough (length bs) (suc (length bs)) bs (omega arith) (omega arith) ∙ slices-next bs (length bs) p
+    ∙ ap (λ (ss : List (List ℕ)). take (whole-size bs) bs ∷ ss) (slices-enough (length bs) (length rest) rest (omega arith) (omega arith)))
+
+pub is-short : (bs : List ℕ) → length bs < 4 → false ≡ too-long bs
+unfolding too-long
+is-short bs h = rw (lt-leb 4 (length bs) h)
+
+pub is-long : (bs : List ℕ) (n : ℕ) → n ≡ little (places 1 2 bs) → 4 ≤ length bs → ltb payload-longest n ≡ too-long bs
+unfolding too-long
+is-long bs n e h = rw (le-leb 4 (length bs) h, ← e) (go (ltb payload-longest n) refl)
+  where
+    go : (t : Bool) → ltb payload-longest n ≡ t → t ≡ not (leb n payload-longest)
+    go true q = rw (lt-leb n payload-longest (ltb-true payload-longest n q))
+    go false q = rw (le-leb n payload-longest (ltb-false payload-longest n q))

@@ -1,0 +1,122 @@
+-- What the program does with a record: the call that it stands for, and that received bytes are used up. Assumes nothing.
+use mathlib.Core.Path.{_≡_, refl, sym, ap, subst, _∙_}
+use Prim.Native.Nat.{ℕ, zero, suc, _+_, _-_, _≤_, _<_}
+use native.Mathlib.Omega.{arith}
+use mathlib.Core.Bool.{Bool, true, false, cond, _&&_, and-eq-true-iff}
+use mathlib.Core.List.{List, [], _∷_}
+use lib.Dec.{leb, ltb, eqb}
+use lib.ListN.{length, drop, length-drop}
+use lib.Seq.{sets, length-sets}
+use borrow.Author.Tests.{eq-eqb, ne-eqb, leb-true, ltb-true}
+use Rattle.model.specs.Bytes.{NUL, within}
+use Rattle.model.specs.Runs.{Piece, cut, consumed-by}
+use Rattle.model.specs.World.{World}
+use Rattle.model.specs.Calls.{Call, start, open-session, hang-up-session, bytes, one-tick, tool, consumed-of, answered, output, refusal, step}
+use Rattle.model.specs.Program.{call-of}
+use Rattle.table.specs.Table.{decode}
+use Rattle.refusal.specs.Numbers.{number}
+use Rattle.controller.specs.declared.Answer.{Answer}
+use Rattle.controller.specs.Contract.{said, Outcome}
+use Rattle.controller.proofs.Outputs.{so-long, stands}
+
+-- ==== the call of a record
+
+pub at-least : (least greatest n : ℕ) → within least greatest n ≡ true → least ≤ n
+at-least least greatest n e = leb-true least n (and-eq-true-iff (leb least n) (leb n greatest) .0 e .0)
+
+module _ (kind : ℕ) (slice : List ℕ) where
+  start-call : kind ≡ 3 → start slice ≡ call-of kind slice
+  start-call e = rw (eq-eqb kind 3 e)
+
+  pub open-call : (kind ≡ 3 → ⊥) → within 16 31 kind ≡ true → open-session (kind - 16) ≡ call-of kind slice
+  open-call h e = rw (ne-eqb kind 3 h, e)
+
+  pub hang-up-call : (kind ≡ 3 → ⊥) → within 16 31 kind ≡ false → within 32 47 kind ≡ true → hang-up-session (kind - 32) ≡ call-of kind slice
+  hang-up-call h e f = rw (ne-eqb kind 3 h, e, f)
+
+  pub tick-call : (kind ≡ 3 → ⊥) → within 16 31 kind ≡ false → within 32 47 kind ≡ false → within 48 63 kind ≡ false → kind ≡ 64 → one-tick ≡ call-of kind slice
+  tick-call h e f g k = rw (ne-eqb kind 3 h, e, f, g, eq-eqb kind 64 k)
+
+  pub tool-call : (kind ≡ 3 → ⊥) → within 16 31 kind ≡ false → within 32 47 kind ≡ false → within 48 63 kind ≡ false → (kind ≡ 64 → ⊥) → tool slice ≡ call-of kind slice
+  tool-call h e f g k = rw (ne-eqb kind 3 h, e, f, g, ne-eqb kind 64 k)
+
+pub as-call : {c d : Call} {t o : List ℕ} {r : Answer} {t′ o′ : List ℕ} → c ≡ d → Outcome c t o r t′ o′ → Outcome d t o r t′ o′
+as-call {t = t} {o = o} {r = r} {t′ = t′} {o′ = o′} e out = subst (λ (x : Call). Outcome x t o r t′ o′) e out
+
+-- a start is lent no output, and would leave any as it was
+nothing : (l : List ℕ) → length l ≡ 0 → [] ≡ l
+nothing [] e = refl
+nothing (x ∷ l) e = absurd (omega arith)
+
+pub started : {t o : List ℕ} {r : Answer} {t′ : List ℕ} (kind : ℕ) (slice : List ℕ) → kind ≡ 3 → Outcome (start slice) t [] r t′ [] → Outcome (call-of kind slice) t o r t′ o
+unfolding step refusal
+started {t = t} {o = o} {r = r} kind slice e out =
+    let n = so-long out in
+    let h = stands out .within in
+    let z : length (output ((said (start slice) t []) .2)) ≡ 0 = omega arith in
+    as-call (start-call kind slice e) (record {
+      answer = out .answer;
+      meaning = out .meaning;
+      output = ap (sets o 0) (nothing (output ((said (start slice) t []) .2)) z);
+      fits = out .fits;
+      size = out .size;
+      past = out .past;
+      formed = out .formed;
+      kept = out .kept;
+    })
+
+-- ==== received bytes are used up
+
+consumes : (b : ℕ) (bs : List ℕ) → 1 ≤ consumed-by (cut (b ∷ bs))
+unfolding cut
+consumes b bs = go (eqb b NUL) ((cut bs) .ends)
+  where
+    at-NUL : Piece
+    at-NUL = record { bytes = []; ends = true }
+
+    go : (t e : Bool) → 1 ≤ consumed-by (cond t (record { bytes = []; ends = true }) (record { bytes = b ∷ (cut bs) .bytes; ends = e }))
+    go true e = omega arith
+    go false true = omega arith
+    go false false = omega arith
+
+consumed-where-done : (w : World) (c : Call) (n : ℕ) → (answered w c n) .1 .number ≡ 0 → (answered w c n) .1 .consumed ≡ consumed-of c
+consumed-where-done w c zero e = refl
+consumed-where-done w c (suc n) e = absurd (omega arith)
+
+pub used-up : {s : ℕ} {t o : List ℕ} {r : Answer} {t′ o′ : List ℕ} (bs : List ℕ) → Outcome (bytes s bs) t o r t′ o′ → r .number ≡ 0 → 0 < length (drop (r .consumed) bs)
+    → length (drop (r .consumed) bs) < length bs
+unfolding step
+used-up {r = r} [] out e h = absurd (omega (arith, length-drop {A = ℕ} (r .consumed) []))
+used-up {s = s} {t = t} {o = o} {r = r} (b ∷ bs) out e h =
+    let done = ap (λ (a : Answer). a .number) (sym (out .answer)) ∙ e in
+    let k : r .consumed ≡ consumed-by (cut (b ∷ bs)) = ap (λ (a : Answer). a .consumed) (out .answer) ∙ consumed-where-done (decode t) (bytes s (b ∷ bs)) (number t (length o) (bytes s (b ∷ bs))) done in
+    let c = consumes b bs in
+    let d = length-drop (r .consumed) (b ∷ bs) in
+    omega arith
+
+-- ==== what a call leaves to the program
+
+pub same-output : {c : Call} {t o : List ℕ} {r : Answer} {t′ o′ : List ℕ} → Outcome c t o r t′ o′ → length o′ ≡ length o
+same-output {c = c} {t = t} {o = o} out = ap length (out .output) ∙ length-sets o 0 (output ((said c t o) .2))
+
+pub fits-in : {c : Call} {t o : List ℕ} {r : Answer} {t′ o′ : List ℕ} → Outcome c t o r t′ o′ → (r .written ≤ length o′) × (r .written ≤ 2_048)
+fits-in out =
+    let h = stands out .within in
+    let e = same-output out in
+    (omega arith, out .fits)
+
+-- the measure of a loop over received bytes
+pub fewer : {s : ℕ} {t o t′ o′ rest : List ℕ} (left : List ℕ) (r : Answer) (going : Bool) → going ≡ true → rest ≡ drop (r .consumed) left → Outcome (bytes s left) t o r t′ o′
+    → r .number ≡ 0 → cond (ltb 0 (length rest)) (suc (length rest)) 0 < cond going (suc (length left)) 0
+fewer {rest = rest} left r going e p out z = rw e (go (ltb 0 (length rest)) refl)
+  where
+    go : (b : Bool) → ltb 0 (length rest) ≡ b → cond b (suc (length rest)) 0 < suc (length left)
+    go true q =
+        let some : 0 < length rest = ltb-true 0 (length rest) q in
+        let n : length rest ≡ length (drop (r .consumed) left) = ap length p in
+        let less = used-up left out z (omega arith) in
+        omega arith
+    go false q = omega arith
+
+pub no-more : (left rest : List ℕ) (n : ℕ) (going : Bool) → going ≡ true → (n ≡ 0 → ⊥) → cond (eqb n 0) (suc (length rest)) 0 < cond going (suc (length left)) 0
+no-more left rest n going e h = rw (e, ne-eqb n 0 h) (omega arith)

@@ -1,0 +1,75 @@
+-- `replay::feed` is safe and ends: what is left of the bytes gets shorter. Assumes nothing.
+use borrow.Author.Needs.{needs}
+use mathlib.Core.Path.{_≡_, refl, sym, ap, _∙_}
+use mathlib.Core.Bool.{Bool, true, false, cond}
+use Prim.Native.Nat.{ℕ, suc, _≤_, _<_}
+use native.Mathlib.Omega.{arith}
+use lib.ListN.{length, drop}
+use Rattle.replay.proofs.Turns.{fits-in, same-output, fewer, no-more}
+use Rattle.replay.proofs.feed.Statement.{statement}
+use Rattle.replay.proofs.feed.Tie as tie
+
+abbrev Inv-loop : tie.InvT-loop
+Inv-loop table₀ output₀ lines₀ at session bytes to₀ left₀ going₀ table output lines to left going =
+    (length table ≡ length table₀) × (length output ≡ length output₀) × (length lines ≡ length lines₀) × (to ≤ length lines₀)
+
+abbrev μ-loop : tie.MeasureT-loop
+μ-loop table₀ output₀ lines₀ at session bytes to₀ left₀ going₀ table output lines to left going = cond going (suc (length left)) 0
+
+loop-holds : tie.Need-loop-holds Inv-loop μ-loop
+loop-holds c = (refl, refl, refl, c .before .before .before .before .pre .0)
+
+print-requires : tie.Need-print-requires Inv-loop μ-loop
+print-requires c κs =
+    let i = c .before .before .before .before .before .before .before .before .before .before .loop .inv in
+    let f = fits-in (c .before .before .before .before .before .before .bytes .ensures) in
+    let same = i .2 in
+    let here = i .3 in
+    let room = c .before .before .before .before .before .before .before .before .before .before .before .before .before .before .before .pre .1 in
+    (f .0, f .1, omega arith, omega arith)
+
+loop-less : tie.Need-loop-less Inv-loop μ-loop
+loop-less c =
+    let l = c .before .before .before .before .before .before .before .before .before .before .before .before .before .before .before .before .loop in
+    fewer (l .left .now) (c .before .before .before .before .before .before .before .before .before .before .before .before .bytes .result) (l .going) (c .before .before .before .before .before .before .before .before .before .before .before .before .before .before .before .loop-test .taken) (c .before .before .rest .ensures) (c .before .before .before .before .before .before .before .before .before .before .before .before .bytes .ensures) (c .if1 .taken)
+
+loop-again : tie.Need-loop-again Inv-loop μ-loop
+loop-again c =
+    let i = c .before .before .before .before .before .before .before .before .before .before .before .before .before .before .before .before .loop .inv in
+    let out = c .before .before .before .before .before .before .before .before .before .before .before .before .bytes .ensures in
+    let p = c .before .before .before .before .before .print in
+    let here = p .ensures in
+    let same = i .2 in
+    (out .size ∙ i .0, same-output out ∙ i .1, p .kept .1 .1 .0 ∙ i .2, omega arith)
+
+loop-less-2 : tie.Need-loop-less-2 Inv-loop μ-loop
+loop-less-2 c =
+    let l = c .before .before .before .before .before .before .before .before .before .before .before .before .before .before .before .before .loop in no-more (l .left .now) (c .before .before .rest .result .now) (c .before .before .before .before .before .before .before .before .before .before .before .before .bytes .result .number) (l .going) (c .before .before .before .before .before .before .before .before .before .before .before .before .before .before .before .loop-test .taken) (c .if1 .left)
+
+loop-again-2 : tie.Need-loop-again-2 Inv-loop μ-loop
+loop-again-2 c =
+    let i = c .before .before .before .before .before .before .before .before .before .before .before .before .before .before .before .before .loop .inv in
+    let out = c .before .before .before .before .before .before .before .before .before .before .before .before .bytes .ensures in
+    let p = c .before .before .before .before .before .print in
+    let here = p .ensures in
+    let same = i .2 in
+    (out .size ∙ i .0, same-output out ∙ i .1, p .kept .1 .1 .0 ∙ i .2, omega arith)
+
+pub feed-spec : {M : Type 1} → statement M
+feed-spec =
+    tie.close
+    (tie.spec
+    Inv-loop
+    μ-loop
+    loop-holds
+    (λ c κs. search needs)
+    print-requires
+    (λ c κs. search needs)
+    loop-less
+    loop-again
+    loop-less-2
+    loop-again-2
+    (λ c. c .before .loop .inv .0)
+    (λ c. c .before .loop .inv .1)
+    (λ c. c .before .loop .inv .2)
+    (λ c. c .before .loop .inv .3))

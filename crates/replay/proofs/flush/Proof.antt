@@ -1,0 +1,13 @@
+-- `replay::flush` is safe and ends. Assumes nothing.
+use borrow.Author.Needs.{needs}
+use mathlib.Core.Path.{sym}
+use lib.Seq.{length-take-le}
+use Rattle.replay.proofs.flush.Statement.{statement}
+use Rattle.replay.proofs.flush.Tie as tie
+
+slice-aggregate-write-all : tie.Need-slice-aggregate-write-all
+slice-aggregate-write-all c =
+    let s = c .before .before in sym (length-take-le (s .args .at) (s .args .lines .now) (s .pre))
+
+pub flush-spec : {M : Type 1} → statement M
+flush-spec = tie.close (tie.spec slice-aggregate-write-all (λ c κs. search needs) (λ c. search needs))

@@ -1,0 +1,61 @@
+-- `replay::run` is safe and ends. Assumes nothing.
+use borrow.Author.Needs.{needs}
+use mathlib.Core.Path.{_≡_, refl, _∙_}
+use Prim.Native.Nat.{_≤_}
+use native.Mathlib.Omega.{arith}
+use lib.ListN.{length}
+use Rattle.replay.proofs.run.Statement.{statement}
+use Rattle.replay.proofs.run.Tie as tie
+
+abbrev Inv-loop : tie.InvT-loop
+Inv-loop table₀ output₀ lines₀ input₀ turns₀ size₀ going₀ table output lines input turns size going =
+    (length table ≡ length table₀)
+    × (length output ≡ length output₀)
+    × (length lines ≡ length lines₀)
+    × (length input ≡ length input₀)
+    × (size ≤ length input₀)
+
+abbrev μ-loop : tie.MeasureT-loop
+μ-loop table₀ output₀ lines₀ input₀ turns₀ size₀ going₀ table output lines input turns size going = turns
+
+loop-holds : tie.Need-loop-holds Inv-loop μ-loop
+loop-holds c = (refl, refl, refl, refl, omega arith)
+
+turn-requires : tie.Need-turn-requires Inv-loop μ-loop
+turn-requires c κs =
+    let i = c .before .before .before .before .before .before .loop .inv in
+    let room = c .before .before .before .before .before .before .before .before .before .before .before .pre in
+    let lines = i .2 in
+    let input = i .3 in
+    let here = i .4 in
+    (omega arith, omega arith)
+
+loop-again : tie.Need-loop-again Inv-loop μ-loop
+loop-again c =
+    let i = c .before .before .before .before .before .before .before .before .before .before .before .before .before .before .before .loop .inv in
+    let t = c .before .before .before .before .before .before .before .before .turn in
+    let here = t .ensures in
+    let input = i .3 in
+    (t .kept .0 ∙ i .0, t .kept .1 .0 ∙ i .1, t .kept .1 .1 .0 ∙ i .2, t .kept .1 .1 .1 .0 ∙ i .3, omega arith)
+
+pub run-spec : {M : Type 1} → statement M
+run-spec =
+    tie.close
+    (tie.spec
+    Inv-loop
+    μ-loop
+    loop-holds
+    turn-requires
+    (λ c. let a = c .before .before .before .before .before .before .before .before .before .before .before .before .before .if1 .taken in let b = c .before .before .before .before .before .before .before .before .before .before .before .before .before .before .loop-test .taken in omega arith)
+    (λ c. let a = c .before .before .before .before .before .before .before .before .before .before .before .before .before .if1 .taken in let b = c .before .before .before .before .before .before .before .before .before .before .before .before .before .before .loop-test .taken in omega arith)
+    loop-again
+    (λ c. c .before .before .loop .inv .0)
+    (λ c. c .before .before .loop .inv .1)
+    (λ c. c .before .before .loop .inv .2)
+    (λ c. c .before .before .loop .inv .3)
+    (λ c. search needs)
+    (λ c. c .before .loop .inv .0)
+    (λ c. c .before .loop .inv .1)
+    (λ c. c .before .loop .inv .2)
+    (λ c. c .before .loop .inv .3)
+    (λ c. search needs))

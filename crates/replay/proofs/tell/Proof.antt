@@ -1,0 +1,60 @@
+-- `replay::tell` meets its contract. Assumes nothing.
+use borrow.Author.Needs.{needs}
+use mathlib.Core.Path.{_≡_, sym, _∙_}
+use Prim.Native.Nat.{_+_, _≤_}
+use native.Mathlib.Omega.{arith}
+use lib.Seq.{length-take-le}
+use Rattle.text.proofs.Puts.{put-then, put-as}
+use Rattle.replay.proofs.Lines.{refused-text, done-text}
+use Rattle.replay.proofs.tell.Statement.{statement}
+use Rattle.replay.proofs.tell.Tie as tie
+
+returns : tie.Need-returns
+returns c =
+    let a = c .before .before .before .before .before .before .before .before .before .before .before .before .before .before .before .before .before .before .args in
+    let first = c .before .before .before .before .before .before .before .before .before .before .before .copy .ensures in
+    let second = c .before .before .before .before .before .before .before .put-digits .ensures in
+    let third = c .before .before .copy2 .ensures in
+    let p = first .place in
+    let q = second .0 in
+    let r = third .place in
+    (put-as (refused-text (a .answer) (a .output .now) (c .before .before .before .before .before .before .before .before .before .before .before .before .before .before .if1 .taken)) (put-then (put-then first (second .1)) third), omega arith)
+
+slice-aggregate-show : tie.Need-slice-aggregate-show
+slice-aggregate-show c =
+    let s = c .before .before .before .before .before in
+    sym (length-take-le (s .args .answer .written) (s .args .output .now) (s .pre .0))
+
+show-requires : tie.Need-show-requires
+show-requires c κs =
+    let s = c .before .before .before .before .before .before in
+    let n = length-take-le (s .args .answer .written) (s .args .output .now) (s .pre .0) in
+    let most = s .pre .1 in
+    let fits = s .pre .2 in
+    omega arith
+
+returns-2 : tie.Need-returns-2
+returns-2 c =
+    let s = c .before .before .before .before .before .before .before .before .before in
+    let a = s .args in
+    let n = length-take-le (a .answer .written) (a .output .now) (s .pre .0) in
+    let most = s .pre .1 in
+    let k = c .before .before .show .ensures in
+    let far = k .1 in
+    (put-as (done-text (a .answer) (a .output .now) (c .before .before .before .before .before .if1 .left)) (k .0), omega arith)
+
+pub tell-spec : {M : Type 1} → statement M
+tell-spec =
+    tie.close
+    (tie.spec
+    (λ c. search needs)
+    (λ c κs. search needs)
+    (λ c κs. search needs)
+    (λ c. search needs)
+    (λ c κs. search needs)
+    (λ c. search needs)
+    returns
+    slice-aggregate-show
+    show-requires
+    (λ c. search needs)
+    returns-2)

@@ -1,0 +1,18 @@
+-- 01, "Counted and compared": the records of an input. Assumes nothing: these are definitions.
+use Prim.Native.Nat.{ℕ, _+_}
+use mathlib.Core.Bool.{Bool, cond, not, _&&_}
+use mathlib.Core.List.{List}
+use lib.Dec.{leb}
+use lib.ListN.{length}
+use Rattle.model.specs.Limits.{payload-longest}
+use Rattle.model.specs.Bytes.{places, little}
+
+-- the size of the record that an input begins with, or 0 where that is cut or too long
+unfoldable pub whole-size : List ℕ → ℕ
+whole-size input =
+    let payload : ℕ = little (places 1 2 input) in
+    cond (leb 4 (length input) && leb payload payload-longest && leb (4 + payload) (length input)) (4 + payload) 0
+
+-- a whole header that announces too long a payload
+unfoldable pub too-long : List ℕ → Bool
+too-long input = leb 4 (length input) && not (leb (little (places 1 2 input)) payload-longest)

@@ -1,0 +1,301 @@
+// The test program: house records on standard input, a line for each output record and each refusal on standard output.
+ghost use mathlib.Core.Path.{_≡_};
+ghost use mathlib.Core.Bool.{true, false, cond};
+ghost use lib.Dec.{eqb};
+ghost use mathlib.Core.List.{[], _∷_, _++_};
+ghost use Prim.Native.Nat.{_+_, _≤_, _<_};
+ghost use lib.ListN.{length};
+ghost use Rattle.model.specs.Bytes.{space, within};
+ghost use Rattle.model.specs.Program.{shown as shown-bytes, call-of, printed};
+ghost use Rattle.text.specs.Put.{Put};
+ghost use Rattle.controller.specs.Contract.{Outcome};
+ghost use Rattle.replay.specs.Lines.{line-in, lines-in, text-of};
+ghost use Rattle.replay.specs.Whole.{whole-size, too-long};
+use controller::Answer;
+
+const PAYLOAD_LONGEST: u64 = 8192;
+
+// What one call can write at most, and so what its lines take.
+const OUTPUT_SIZE: usize = 2048;
+
+// ---- what it prints
+
+fn shown_byte(b: u8) -> u8
+    ensures { λ r. ⌜ r ≡ cond (eqb b space) 0x5F b ⌝ }
+{
+    if b == b' ' { b'_' } else { b }
+}
+
+// A frame's bytes, spaces as `_`.
+fn shown(frame: &[u8], lines: &mut [u8], at: usize) -> usize
+    requires { ⌜ at + length (now frame) ≤ length (now lines) ⌝ }
+    ensures { λ r. ⌜ Put (now (lines .entry)) at (shown-bytes (now (frame .entry))) r (now (lines .exit)) ⌝ }
+{
+    let mut i = 0;
+    while i < frame.len() {
+        lines[at + i] = shown_byte(frame[i]);
+        i += 1;
+    }
+    at + i
+}
+
+// The line of an output record: a frame has a payload, the order to close has none.
+fn line(slice: &[u8], lines: &mut [u8], at: usize) -> usize
+    requires { ⌜ (4 ≤ length (now slice)) × (at + length (now slice) ≤ length (now lines)) ⌝ }
+    ensures { λ r. ⌜ Put (now (lines .entry)) at (line-in (now (slice .entry)) ++ 0x0A ∷ []) r (now (lines .exit)) × (r ≡ at + length (now (slice .entry))) ⌝ }
+{
+    let session = text::little(slice, 2, 1);
+    let a = text::put_digits(lines, at, 1, session);
+    if slice.len() == 4 {
+        return text::copy(b" C\n", lines, a);
+    }
+    let b = text::copy(b" S ", lines, a);
+    let end = slice.len() - 1;
+    let c = shown(&slice[4..end], lines, b);
+    text::copy(b"\n", lines, c)
+}
+
+// ---- records, in the input and in the output
+
+// The size of the record that bytes begin with; 0 if there is no whole one, or one that is too long.
+fn whole(bytes: &[u8]) -> usize
+    ensures { λ r. ⌜ (r ≡ whole-size (now (bytes .entry))) × (r ≤ length (now (bytes .entry))) × (0 < r → 4 ≤ r) ⌝ }
+{
+    if bytes.len() < 4 {
+        return 0;
+    }
+    let payload = text::little(bytes, 0, 2);
+    if payload > PAYLOAD_LONGEST {
+        return 0;
+    }
+    let size = 4 + payload as usize;
+    if bytes.len() < size {
+        return 0;
+    }
+    size
+}
+
+// The lines of the records in an output.
+fn show(output: &[u8], lines: &mut [u8], at: usize) -> usize
+    requires { ⌜ at + length (now output) ≤ length (now lines) ⌝ }
+    ensures { λ r. ⌜ Put (now (lines .entry)) at (printed (lines-in (now (output .entry)))) r (now (lines .exit)) × (r ≤ at + length (now (output .entry))) ⌝ }
+{
+    let mut to = at;
+    let mut left = output;
+    let mut size = whole(left);
+    while size > 0 {
+        to = line(&left[..size], lines, to);
+        left = &left[size..];
+        size = whole(left);
+    }
+    to
+}
+
+// What a call's answer and its output have it print.
+fn tell(answer: Answer, output: &[u8], lines: &mut [u8], at: usize) -> usize
+    requires { ⌜ (answer .written ≤ length (now output)) × (answer .written ≤ 2_048) × (at + 2_048 ≤ length (now lines)) ⌝ }
+    ensures { λ r. ⌜ Put (now (lines .entry)) at (text-of answer (now (output .entry))) r (now (lines .exit)) × (r ≤ at + 2_048) ⌝ }
+{
+    if answer.number != 0 {
+        let a = text::copy(b"R ", lines, at);
+        let b = text::put_digits(lines, a, 1, answer.number);
+        return text::copy(b"\n", lines, b);
+    }
+    let written = answer.written as usize;
+    show(&output[..written], lines, at)
+}
+
+// Writes out the lines up to `at`.
+fn flush(lines: &[u8], at: usize)
+    requires { ⌜ at ≤ length (now lines) ⌝ }
+{
+    io::write_all(libc::STDOUT_FILENO, &lines[..at]);
+}
+
+// Room for the lines of one more call: those that wait are written out where there is none.
+fn room(lines: &[u8], at: usize) -> usize
+    requires { ⌜ (at ≤ length (now lines)) × (2_048 ≤ length (now lines)) ⌝ }
+    ensures { λ r. ⌜ r + 2_048 ≤ length (now (lines .entry)) ⌝ }
+{
+    if lines.len() - at >= OUTPUT_SIZE {
+        return at;
+    }
+    flush(lines, at);
+    0
+}
+
+// The lines of a call, behind those that wait.
+fn print(answer: Answer, output: &[u8], lines: &mut [u8], at: usize) -> usize
+    requires { ⌜ (answer .written ≤ length (now output)) × (answer .written ≤ 2_048) × (at ≤ length (now lines)) × (2_048 ≤ length (now lines)) ⌝ }
+    ensures { λ r. ⌜ r ≤ length (now (lines .entry)) ⌝ }
+{
+    let free = room(lines, at);
+    tell(answer, output, lines, free)
+}
+
+// ---- what it does
+
+fn is_within(least: u64, greatest: u64, n: u64) -> bool
+    ensures { λ r. ⌜ r ≡ within least greatest n ⌝ }
+{
+    if n < least {
+        return false;
+    }
+    n <= greatest
+}
+
+// Received bytes: one call at least, and with what is left of them again until nothing is, or a call is refused.
+fn feed(
+    table: &mut [u8],
+    output: &mut [u8],
+    lines: &mut [u8],
+    at: usize,
+    session: u64,
+    bytes: &[u8],
+) -> usize
+    requires { ⌜ (at ≤ length (now lines)) × (2_048 ≤ length (now lines)) ⌝ }
+    ensures { λ r. ⌜ r ≤ length (now (lines .entry)) ⌝ }
+{
+    let mut to = at;
+    let mut left = bytes;
+    let mut going = true;
+    while going {
+        let answer = controller::bytes(table, output, session, left);
+        to = print(answer, output, lines, to);
+        let rest = controller::rest(left, answer);
+        going = answer.number == 0 && rest.len() > 0;
+        left = rest;
+    }
+    to
+}
+
+// The call that a record of any other kind stands for.
+fn call(table: &mut [u8], output: &mut [u8], kind: u64, slice: &[u8]) -> Answer
+    requires { ⌜ within 48 63 kind ≡ false ⌝ }
+    ensures { λ r. ⌜ Outcome (call-of kind (now (slice .entry))) (now (table .entry)) (now (output .entry)) r (now (table .exit)) (now (output .exit)) ⌝ }
+{
+    if kind == 3 {
+        return controller::start(table, slice);
+    }
+    if is_within(16, 31, kind) {
+        return controller::open(table, output, kind - 16);
+    }
+    if is_within(32, 47, kind) {
+        return controller::hang_up(table, output, kind - 32);
+    }
+    if kind == 64 {
+        return controller::tick(table, output);
+    }
+    controller::tool_record(table, output, slice)
+}
+
+// One record, as a slice.
+fn given(table: &mut [u8], output: &mut [u8], lines: &mut [u8], at: usize, slice: &[u8]) -> usize
+    requires { ⌜ (4 ≤ length (now slice)) × (at ≤ length (now lines)) × (2_048 ≤ length (now lines)) ⌝ }
+    ensures { λ r. ⌜ r ≤ length (now (lines .entry)) ⌝ }
+{
+    let kind = text::little(slice, 2, 2);
+    if is_within(48, 63, kind) {
+        return feed(table, output, lines, at, kind - 48, &slice[4..]);
+    }
+    let answer = call(table, output, kind, slice);
+    print(answer, output, lines, at)
+}
+
+// Whether an input begins with a record that ends the run.
+fn is_too_long(input: &[u8]) -> bool
+    ensures { λ r. ⌜ r ≡ too-long (now (input .entry)) ⌝ }
+{
+    if input.len() < 4 {
+        return false;
+    }
+    text::little(input, 0, 2) > PAYLOAD_LONGEST
+}
+
+// How many bytes wait in the input, and whether the run goes on.
+struct Waiting {
+    size: usize,
+    going: bool,
+}
+
+// Serves the whole records that an input begins with; what waits behind them.
+fn serve(table: &mut [u8], output: &mut [u8], lines: &mut [u8], input: &[u8]) -> Waiting
+    requires { ⌜ 2_048 ≤ length (now lines) ⌝ }
+    ensures { λ r. ⌜ r .size ≤ length (now (input .entry)) ⌝ }
+{
+    let mut to = 0;
+    let mut left = input;
+    let mut size = whole(left);
+    while size > 0 {
+        to = given(table, output, lines, to, &left[..size]);
+        left = &left[size..];
+        size = whole(left);
+    }
+    flush(lines, to);
+    Waiting {
+        size: left.len(),
+        going: !is_too_long(left),
+    }
+}
+
+// One read; 0 at the end.
+fn read(space: &mut [u8]) -> usize
+    ensures { λ r. ⌜ r ≤ length (now (space .entry)) ⌝ }
+{
+    let got = libc::read(libc::STDIN_FILENO, space);
+    io::count(got, space)
+}
+
+// One read, behind the `size` bytes that wait in the input.
+fn fill(input: &mut [u8], size: usize) -> usize
+    requires { ⌜ size ≤ length (now input) ⌝ }
+    ensures { λ r. ⌜ size + r ≤ length (now (input .entry)) ⌝ }
+{
+    read(&mut input[size..])
+}
+
+// Reads once, serves what is whole, and moves what waits to the input's front, where `size` bytes waited.
+fn turn(
+    table: &mut [u8],
+    output: &mut [u8],
+    lines: &mut [u8],
+    input: &mut [u8],
+    size: usize,
+) -> Waiting
+    requires { ⌜ (2_048 ≤ length (now lines)) × (size ≤ length (now input)) ⌝ }
+    ensures { λ r. ⌜ r .size ≤ length (now (input .entry)) ⌝ }
+{
+    let got = fill(input, size);
+    if got == 0 {
+        return Waiting { size, going: false };
+    }
+    let have = size + got;
+    let waiting = serve(table, output, lines, &input[..have]);
+    let left = waiting.size;
+    text::shift(input, 0, have - left, left);
+    waiting
+}
+
+// A proved loop has to end, and nothing says that an input does: this one ends after more turns than any run has.
+fn run(table: &mut [u8], output: &mut [u8], lines: &mut [u8], input: &mut [u8])
+    requires { ⌜ 2_048 ≤ length (now lines) ⌝ }
+{
+    let mut turns = u64::MAX;
+    let mut size = 0;
+    let mut going = true;
+    while turns > 0 && going {
+        let waiting = turn(table, output, lines, input, size);
+        size = waiting.size;
+        going = waiting.going;
+        turns -= 1;
+    }
+}
+
+// The table begins as zeros, which are not well formed.
+fn main() {
+    let mut table = [0u8; 16384];
+    let mut output = [0u8; OUTPUT_SIZE];
+    let mut lines = io::large_buffer();
+    let mut input = io::large_buffer();
+    run(&mut table, &mut output, &mut lines, &mut input);
+}
