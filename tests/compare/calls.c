@@ -1,13 +1,20 @@
-/* Compares two libraries call by call over one history of house records.
+/* Compares two libraries call by call over histories of house records.
 
        calls LIBRARY_A PREFIX_A LIBRARY_B PREFIX_B < history
+       linked < histories
 
    Both libraries get the same calls. After each the four numbers, the returned number
    and the output bytes must be equal; output past the written bytes, the table past
    16,384 and the answer past 32 must be untouched, and a refused call must alter
    nothing. Between the history's calls refused ones are tried: every slice too short,
-   sessions far too high, records that no call takes. Exit status 0: all equal. */
+   sessions far too high, records that no call takes. Exit status 0: all equal.
+
+   The second form is built with -DLINKED: the independent implementation and the product
+   are linked in, and standard input holds any number of histories, a 4-byte length
+   (little-endian) before each. It says how many calls it made. */
+#ifndef LINKED
 #include <dlfcn.h>
+#endif
 #include <stdbool.h>
 #include <stdint.h>
 #include <stdio.h>
@@ -58,8 +65,8 @@ struct call {
 };
 
 static struct side sides[2];
-static unsigned long record_count;
-static uint32_t dice = 12345;
+static unsigned long history_count, record_count, call_count, refused_count;
+static uint32_t dice;
 
 static unsigned roll(unsigned below)
 {
@@ -70,8 +77,8 @@ static unsigned roll(unsigned below)
 static void different(const struct call *call, const char *why)
 {
     static const char *const NAMES[] = { "start", "open", "hang_up", "bytes", "tick", "record" };
-    printf("record %lu, call %s, session %llu, lengths %zu table, %zu output, %zu given, %zu answer: %s\n",
-           record_count, NAMES[call->what], (unsigned long long)call->session, call->table_length,
+    printf("history %lu, record %lu, call %s, session %llu, lengths %zu table, %zu output, %zu given, %zu answer: %s\n",
+           history_count, record_count, NAMES[call->what], (unsigned long long)call->session, call->table_length,
            call->output_length, call->given_length, call->answer_length, why);
     for (unsigned i = 0; i < 2; i++) {
         printf("%c returned %llu, answer", 'A' + (int)i, (unsigned long long)sides[i].returned);
@@ -172,6 +179,8 @@ static uint64_t both(const struct call *call)
     if (sides[0].returned == 0
         && memcmp(sides[0].output, sides[1].output, (size_t)answered(&sides[0], 2)) != 0)
         different(call, "output differs");
+    call_count += 1;
+    refused_count += sides[0].returned != 0;
     return sides[0].returned;
 }
 
@@ -257,6 +266,85 @@ static void serve(const uint8_t *record, size_t length)
         history_call(RECORD, 0, record, length);
 }
 
+/* A whole history: the tables begin as zeros, which are not well formed. */
+static void serve_history(const uint8_t *data, size_t size)
+{
+    size_t at = 0;
+    for (unsigned i = 0; i < 2; i++) {
+        memset(sides[i].table, 0, TABLE);
+        memset(sides[i].table + TABLE, MARK, SPARE);
+    }
+    dice = 12345;
+    history_count += 1;
+    record_count = 0;
+    while (size - at >= HEADER) {
+        size_t payload = data[at] | (size_t)data[at + 1] << 8;
+        if (payload > PAYLOAD_GREATEST || payload > size - at - HEADER)
+            return;
+        record_count += 1;
+        serve(data + at, HEADER + payload);
+        at += HEADER + payload;
+    }
+}
+
+/* What is left of standard input, at most `most` bytes of it. */
+static uint8_t *take_input(size_t most, size_t *size)
+{
+    size_t room = 4096;
+    uint8_t *data = malloc(room);
+    *size = 0;
+    while (data != NULL && *size < most) {
+        size_t wanted = (most < room ? most : room) - *size;
+        size_t got = fread(data + *size, 1, wanted, stdin);
+        *size += got;
+        if (got < wanted)
+            break;
+        if (*size == room)
+            data = realloc(data, room *= 2);
+    }
+    if (data == NULL) {
+        fprintf(stderr, "no memory\n");
+        exit(2);
+    }
+    return data;
+}
+
+#ifdef LINKED
+
+#define DECLARE(prefix) \
+    start_call prefix##_start; \
+    session_call prefix##_open, prefix##_hang_up; \
+    bytes_call prefix##_bytes; \
+    tick_call prefix##_tick; \
+    record_call prefix##_record
+#define BIND(side, prefix) \
+    ((side)->start = prefix##_start, (side)->open = prefix##_open, \
+     (side)->hang_up = prefix##_hang_up, (side)->bytes = prefix##_bytes, \
+     (side)->tick = prefix##_tick, (side)->record = prefix##_record)
+
+DECLARE(independent);
+DECLARE(serifladder);
+
+int main(void)
+{
+    uint8_t length[4];
+    BIND(&sides[0], independent);
+    BIND(&sides[1], serifladder);
+    while (fread(length, 1, sizeof length, stdin) == sizeof length) {
+        size_t size = 0;
+        size_t wanted = length[0] | (size_t)length[1] << 8 | (size_t)length[2] << 16
+                        | (size_t)length[3] << 24;
+        uint8_t *data = take_input(wanted, &size);
+        serve_history(data, size);
+        free(data);
+    }
+    printf("%lu calls of %lu histories equal, %lu of them refused\n", call_count, history_count,
+           refused_count);
+    return 0;
+}
+
+#else
+
 /* A function of a library, by prefix and name. */
 static void *find(void *library, const char *prefix, const char *name)
 {
@@ -283,24 +371,21 @@ static void load(struct side *side, const char *path, const char *prefix)
     *(void **)&side->bytes = find(library, prefix, "bytes");
     *(void **)&side->tick = find(library, prefix, "tick");
     *(void **)&side->record = find(library, prefix, "record");
-    memset(side->table + TABLE, MARK, SPARE);
 }
 
 int main(int count, char **arguments)
 {
-    static uint8_t record[HEADER + PAYLOAD_GREATEST];
+    size_t size = 0;
     if (count != 5) {
         fprintf(stderr, "calls LIBRARY_A PREFIX_A LIBRARY_B PREFIX_B < history\n");
         return 2;
     }
     load(&sides[0], arguments[1], arguments[2]);
     load(&sides[1], arguments[3], arguments[4]);
-    while (fread(record, 1, HEADER, stdin) == HEADER) {
-        size_t payload = record[0] | (size_t)record[1] << 8;
-        if (payload > PAYLOAD_GREATEST || fread(record + HEADER, 1, payload, stdin) != payload)
-            break;
-        record_count += 1;
-        serve(record, HEADER + payload);
-    }
+    uint8_t *data = take_input(SIZE_MAX, &size);
+    serve_history(data, size);
+    free(data);
     return 0;
 }
+
+#endif

@@ -3,14 +3,18 @@
 
     compare.py A B [--count N] [--first-seed N] [--records N]
     compare.py --calls LIBRARY_A:PREFIX_A LIBRARY_B:PREFIX_B [...]
+    compare.py --linked PROGRAM --least CALLS [...]
 
 The first form compares what the programs print. The second calls two shared libraries
-side by side and compares each call's four numbers and output bytes (see calls.c).
+side by side and compares each call's four numbers and output bytes (see calls.c). The
+third does the same with the program that has both libraries linked in, in one process;
+as many calls as said must be made at least.
 The first difference is kept, made small and shown. Exit status 0: all equal."""
 
 import argparse
 import multiprocessing
 import os
+import re
 import subprocess
 import sys
 import time
@@ -68,6 +72,48 @@ class Calls:
         return run(self.command, data)[0].decode("latin-1")
 
 
+class Linked:
+    """The program that has two libraries linked in, with the words that run it."""
+
+    def __init__(self, *command):
+        self.command = list(command)
+
+    @staticmethod
+    def framed(data):
+        return len(data).to_bytes(4, "little") + data
+
+    def differ(self, data):
+        return run(self.command, self.framed(data))[1] != 0
+
+    def show(self, data):
+        return run(self.command, self.framed(data))[0].decode("latin-1")
+
+
+def make_history(arguments):
+    return generate.generate(*arguments)
+
+
+def all_in_one(pair, seeds, records, progress):
+    """One process over all the histories: (the seed that tells the two apart or None, its last line)."""
+    with multiprocessing.Pool() as pool, \
+            subprocess.Popen(pair.command, stdin=subprocess.PIPE, stdout=subprocess.PIPE) as process:
+        histories = pool.imap(make_history, ((seed, records) for seed in seeds), chunksize=4)
+        try:
+            for done, data in enumerate(histories, 1):
+                process.stdin.write(pair.framed(data))
+                progress(done)
+            process.stdin.close()
+        except BrokenPipeError:
+            pool.terminate()
+        said = process.stdout.read().decode("latin-1")
+    if process.returncode == 0:
+        return None, said.strip()
+    found = re.match(r"history (\d+), ", said)
+    if not found:
+        sys.exit("%s ended with status %d: %s" % (pair.command[0], process.returncode, said))
+    return seeds[int(found.group(1)) - 1], said
+
+
 def pieces(data):
     """The records of a history as bytes, with what is left behind the last whole one."""
     records, tail = history.split(data)
@@ -123,27 +169,37 @@ def show_difference(pair, seed, records):
 
 def main():
     parser = argparse.ArgumentParser(description=__doc__.splitlines()[0])
-    parser.add_argument("first", metavar="A")
-    parser.add_argument("second", metavar="B")
+    parser.add_argument("compared", nargs="+", metavar="A B")
     parser.add_argument("--calls", action="store_true")
+    parser.add_argument("--linked", action="store_true")
+    parser.add_argument("--least", type=int, default=0)
     parser.add_argument("--count", type=int, default=300)
     parser.add_argument("--first-seed", type=int, default=1)
     parser.add_argument("--records", type=int, default=500)
     options = parser.parse_args()
-    pair = (Calls if options.calls else Programs)(options.first, options.second)
+    pair = (Linked if options.linked else Calls if options.calls else Programs)(*options.compared)
     seeds = range(options.first_seed, options.first_seed + options.count)
     began = time.monotonic()
 
     def progress(done):
         if done % 100 == 0 or done == options.count:
-            print("%d of %d histories equal, %.0f s" % (done, options.count, time.monotonic() - began),
-                  flush=True)
+            print("%d of %d histories %s, %.0f s" % (done, options.count, "given" if options.linked
+                                                     else "equal", time.monotonic() - began), flush=True)
 
-    seed = first_difference(pair, seeds, options.records, progress)
+    said = ""
+    if options.linked:
+        seed, said = all_in_one(pair, seeds, options.records, progress)
+    else:
+        seed = first_difference(pair, seeds, options.records, progress)
     if seed is not None:
         show_difference(pair, seed, options.records)
         print("compare: DIFFERENT at seed %d" % seed)
         return 1
+    if options.linked:
+        print("compare: " + said)
+        if int(said.split()[0]) < options.least:
+            print("compare: too few calls, %d were asked for" % options.least)
+            return 1
     print("compare: equal, %d histories of %d records, seeds %d to %d, %.0f s"
           % (options.count, options.records, seeds[0], seeds[-1], time.monotonic() - began))
     return 0

@@ -1,11 +1,14 @@
 #!/usr/bin/env python3
 """Shows that the comparison finds every planted fault.
 
-    faults.py [--count N] [--first-seed N] [--records N]
+    faults.py [--only N,N,..] [--count N] [--first-seed N] [--records N]
+              [--program PROGRAM --archive ARCHIVE --compiler COMPILER --runner RUNNER]
 
 Builds the test program once with each fault of independent/faults.h and compares it with
 the faultless one over the histories; faults that its lines do not show are compared
-call by call. Exit status 0: every fault was found."""
+call by call. In the second form it is compared with the product: with the lines of that
+program, or call by call with that archive, linked in by the compiler and run by the runner.
+--only says which faults, by their numbers. Exit status 0: every one was found."""
 
 import argparse
 import multiprocessing
@@ -33,45 +36,52 @@ def all_faults():
     return [(name, int(number), seen) for number, name, seen in told]
 
 
-def build(number, seen):
-    """The faulty program, or the faulty library where the lines do not show it."""
-    source = [os.path.join(SOURCE, "independent.c")]
-    if seen == "calls":
-        path = os.path.join(compare.BUILD, "libfault-%d.so" % number)
-        flags = FLAGS + ["-fPIC", "-shared"]
-    else:
-        path = os.path.join(compare.BUILD, "fault-%d" % number)
-        source.append(os.path.join(SOURCE, "main.c"))
-        flags = FLAGS
-    subprocess.run(["gcc", *flags, "-DFAULT=%d" % number, "-o", path, *source], check=True)
+def compile_fault(number, name, more, compiler="gcc"):
+    path = os.path.join(compare.BUILD, name)
+    source = os.path.join(SOURCE, "independent.c")
+    subprocess.run([compiler, *FLAGS, "-DFAULT=%d" % number, "-o", path, source, *more], check=True)
     return path
 
 
+def pair_with(number, seen, options):
+    """The faulty program or library beside the right one, and what was built for it."""
+    if seen == "lines":
+        path = compile_fault(number, "fault-%d" % number, [os.path.join(SOURCE, "main.c")])
+        return compare.Programs(options.program, path), path
+    if options.archive:
+        more = ["-DLINKED", "-static", os.path.join(HERE, "calls.c"), options.archive]
+        path = compile_fault(number, "linked-fault-%d" % number, more, options.compiler)
+        return compare.Linked(options.runner, path), path
+    path = compile_fault(number, "libfault-%d.so" % number, ["-fPIC", "-shared"])
+    right = os.path.join(compare.BUILD, "libindependent.so:independent")
+    return compare.Calls(right, path + ":independent"), path
+
+
 def find(arguments):
-    (name, number, seen), seeds, records = arguments
-    path = build(number, seen)
-    if seen == "calls":
-        right = os.path.join(compare.BUILD, "libindependent.so:independent")
-        pair = compare.Calls(right, path + ":independent")
-    else:
-        pair = compare.Programs(os.path.join(compare.BUILD, "independent"), path)
-    finding = [seed for seed in seeds if compare.judge((pair, seed, records))[1]]
+    (name, number, seen), options = arguments
+    pair, path = pair_with(number, seen, options)
+    seeds = range(options.first_seed, options.first_seed + options.count)
+    finding = [seed for seed in seeds if compare.judge((pair, seed, options.records))[1]]
     os.remove(path)
     return name, number, finding
 
 
 def main():
     parser = argparse.ArgumentParser(description=__doc__.splitlines()[0])
+    parser.add_argument("--only", type=lambda text: [int(number) for number in text.split(",")])
+    parser.add_argument("--program", default=os.path.join(compare.BUILD, "independent"))
+    parser.add_argument("--archive")
+    parser.add_argument("--compiler", default="gcc")
+    parser.add_argument("--runner")
     parser.add_argument("--count", type=int, default=100)
     parser.add_argument("--first-seed", type=int, default=1)
     parser.add_argument("--records", type=int, default=500)
     options = parser.parse_args()
-    seeds = range(options.first_seed, options.first_seed + options.count)
     began, missed = time.monotonic(), 0
-    faults = all_faults()
+    faults = [fault for fault in all_faults() if not options.only or fault[1] in options.only]
     print("%3s  %-32s %-10s %s" % ("n", "fault", "first seed", "of %d histories find it" % options.count))
     with multiprocessing.Pool() as pool:
-        work = ((fault, seeds, options.records) for fault in faults)
+        work = ((fault, options) for fault in faults)
         for name, number, finding in pool.imap(find, work):
             missed += not finding
             print("%3d  %-32s %-10s %d" % (number, name, finding[0] if finding else "NOT FOUND",

@@ -1,20 +1,40 @@
-/* Tables of garbage for the independent implementation, to be run under the sanitizers:
-   random tables, and well-formed tables with some bytes altered, kept through further
-   calls. No call may crash; a refused one alters nothing. */
+/* Tables of garbage: random tables, and well-formed tables with some bytes altered, kept
+   through further calls. No call may crash; the number is one of the ten; a refused call
+   alters nothing. For the independent implementation, to be run under the sanitizers; built
+   with -DPREFIX=serifladder for the product. */
 #include "../independent/independent.h"
+
+#ifdef PREFIX
+#define JOINED(prefix, name) prefix##_##name
+#define NAMED(prefix, name) JOINED(prefix, name)
+#define independent_start NAMED(PREFIX, start)
+#define independent_open NAMED(PREFIX, open)
+#define independent_hang_up NAMED(PREFIX, hang_up)
+#define independent_bytes NAMED(PREFIX, bytes)
+#define independent_tick NAMED(PREFIX, tick)
+#define independent_record NAMED(PREFIX, record)
+uint64_t independent_start(uint8_t *, size_t, const uint8_t *, size_t, uint8_t *, size_t);
+uint64_t independent_open(uint8_t *, size_t, uint8_t *, size_t, uint64_t, uint8_t *, size_t);
+uint64_t independent_hang_up(uint8_t *, size_t, uint8_t *, size_t, uint64_t, uint8_t *, size_t);
+uint64_t independent_bytes(uint8_t *, size_t, uint8_t *, size_t, uint64_t, const uint8_t *, size_t,
+                           uint8_t *, size_t);
+uint64_t independent_tick(uint8_t *, size_t, uint8_t *, size_t, uint8_t *, size_t);
+uint64_t independent_record(uint8_t *, size_t, uint8_t *, size_t, const uint8_t *, size_t,
+                            uint8_t *, size_t);
+#endif
 
 #include <stdio.h>
 #include <stdlib.h>
 #include <string.h>
 
-enum {
-    ROUNDS = 20000,
-    CALLS = 40,
-    USED = 7400,
-    FIRST_SESSION = 66,
-    SESSION_SIZE = 1797,
-    COUNTS = 59
-};
+enum { ROUNDS = 20000, CALLS = 40 };
+
+/* Where the counts of a session stand in the table: independent.c, docs/TABLE.md. */
+#ifdef PREFIX
+enum { USED = 5120, FIRST_SESSION = 1024, SESSION_SIZE = 1024, COUNTS = 80 };
+#else
+enum { USED = 7400, FIRST_SESSION = 66, SESSION_SIZE = 1797, COUNTS = 59 };
+#endif
 
 static uint8_t table[INDEPENDENT_TABLE_BYTES], before[INDEPENDENT_TABLE_BYTES];
 static uint8_t output[INDEPENDENT_OUTPUT_BYTES];
@@ -111,7 +131,7 @@ static void any_call(void)
 }
 
 /* A place in the table: half the time anywhere, else where a session's counts stand.
-   The aim follows the layout in independent.c; should that change, it is only worse. */
+   Should the layout change, the aim is only worse. */
 static unsigned place(void)
 {
     if (roll(2))
