@@ -1,3 +1,4 @@
 pub mod Lines
 pub mod Sizes
 pub mod Turns
+pub mod Told

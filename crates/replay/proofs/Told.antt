@@ -1,0 +1,172 @@
+-- 01, "Counted and compared": what a call has the program print are the model's lines for it. Assumes nothing.
+use mathlib.Core.Path.{_≡_, refl, sym, ap, ap₂, _∙_}
+use Prim.Native.Nat.{ℕ, zero, suc, _+_, _-_, _%_, _≤_, _<_}
+use native.Mathlib.Omega.{arith}
+use mathlib.Core.Bool.{Bool, true, false, cond}
+use mathlib.Core.List.{List, [], _∷_, _++_, map}
+use lib.Dec.{eqb}
+use lib.ListN.{length, take, drop, length-append}
+use lib.Seq.{take-at, drop-at}
+use borrow.Author.Tests.{ne-eqb}
+use Rattle.model.specs.Bytes.{NUL, space, digits, in-bytes, little, places}
+use Rattle.model.specs.Frames.{frame-record, close-record}
+use Rattle.model.specs.Records.{house-record}
+use Rattle.model.specs.Session.{Session, Emission, reply, copy, close}
+use Rattle.model.specs.World.{World, Moment, begins, opens, hangs-up, hears, ticks, happens, each, next, emitted}
+use Rattle.model.specs.Calls.{Call, moments, answered, output-record, output, step}
+use Rattle.model.specs.Row.{Tagged, tag, row, said}
+use Rattle.model.specs.Program.{shown, line-of, lines-of, slices, printed}
+use Rattle.model.proofs.RowLaws.{length-row}
+use Rattle.text.proofs.Cells.{length-cells}
+use Rattle.table.specs.Table.{decode}
+use Rattle.refusal.specs.Numbers.{number}
+use Rattle.controller.specs.declared.Answer.{Answer}
+use Rattle.controller.specs.Contract.{model-answer, Outcome}
+use Rattle.controller.specs.Contract as contract
+use Rattle.controller.proofs.Outputs.{so-long, stands}
+use Rattle.replay.specs.Lines.{line-in, lines-in, text-of}
+use Rattle.replay.specs.Whole.{whole-size}
+use Rattle.replay.proofs.Sizes.{size-whole, slices-first}
+
+-- ==== whatever goes out goes to one of four sessions
+
+abbrev Below : ℕ → List (Tagged Emission) → Type 0
+Below n [] = Unit {0}
+Below n (x ∷ xs) = (x .who < n) × Below n xs
+
+below-append : (n : ℕ) (xs ys : List (Tagged Emission)) → Below n xs → Below n ys → Below n (xs ++ ys)
+below-append n [] ys p q = q
+below-append n (x ∷ xs) ys p q = (p .0, below-append n xs ys (p .1) q)
+
+below-tag : (n i : ℕ) (xs : List Emission) → i < n → Below n (tag i xs)
+below-tag n i [] h = tt
+below-tag n i (x ∷ xs) h = (h, below-tag n i xs h)
+
+below-said : (act : ℕ → Session → Session × List Emission) (n i : ℕ) (xs : List Session) → i + length xs ≤ n → Below n (said act i xs)
+below-said act n i [] h = tt
+below-said act n i (x ∷ xs) h =
+    below-append n (tag i ((act i x) .1)) (said act (suc i) xs) (below-tag n i ((act i x) .1) (omega arith)) (below-said act n (suc i) xs (omega arith))
+
+still-four : (w : World) (m : Moment) → length (w .sessions) ≡ 4 → length ((next w m) .sessions) ≡ 4
+still-four w (begins st) h = refl
+still-four w (opens s) h = length-row (each w (opens s)) 0 (w .sessions) ∙ h
+still-four w (hangs-up s) h = length-row (each w (hangs-up s)) 0 (w .sessions) ∙ h
+still-four w (hears s p) h = length-row (each w (hears s p)) 0 (w .sessions) ∙ h
+still-four w ticks h = length-row (each w ticks) 0 (w .sessions) ∙ h
+still-four w (happens e) h = length-row (each w (happens e)) 0 (w .sessions) ∙ h
+
+below-emitted : (w : World) (ms : List Moment) → length (w .sessions) ≡ 4 → Below 4 (emitted w ms)
+below-emitted w [] h = tt
+below-emitted w (m ∷ ms) h =
+    below-append 4 (said (each w m) 0 (w .sessions)) (emitted (next w m) ms) (below-said (each w m) 4 0 (w .sessions) (omega arith)) (below-emitted (next w m) ms (still-four w m h))
+
+below-answered : (w : World) (c : Call) (n : ℕ) → length (w .sessions) ≡ 4 → Below 4 ((answered w c n) .2)
+below-answered w c zero h = below-emitted w (moments w c) h
+below-answered w c (suc n) h = tt
+
+four-sessions : (t : List ℕ) → length ((decode t) .sessions) ≡ 4
+unfolding decode
+four-sessions t = length-cells _ 1_024 4 (drop 1_024 t)
+
+-- ==== a record, and more behind it
+
+record-length : (kind : ℕ) (payload : List ℕ) → length (house-record kind payload) ≡ 4 + length payload
+unfolding in-bytes
+record-length kind payload = omega arith
+
+announced : (kind : ℕ) (payload more : List ℕ) → length payload ≤ 2_048 → little (places 1 2 (house-record kind payload ++ more)) ≡ length payload
+unfolding in-bytes
+announced kind payload more few = omega arith
+
+record-size : (kind : ℕ) (payload more : List ℕ) → length (house-record kind payload) ≤ 2_048 → length (house-record kind payload) ≡ whole-size (house-record kind payload ++ more)
+record-size kind payload more few =
+    let b = record-length kind payload in
+    let n = announced kind payload more (omega arith) in
+    let a = length-append (house-record kind payload) more in
+    b ∙ ap (λ (k : ℕ). 4 + k) (sym n) ∙ size-whole (house-record kind payload ++ more) (omega arith) (omega arith)
+
+-- ==== its line
+
+session-in : (s kind : ℕ) (payload : List ℕ) → kind % 256 ≡ s → digits 1 (little (places 3 3 (house-record kind payload))) ≡ digits 1 s
+unfolding in-bytes
+session-in s kind payload e = ap (digits 1) (omega arith)
+
+frame-length : (s : ℕ) (frame : List ℕ) → length (frame-record s frame) ≡ 5 + length frame
+unfolding frame-record
+frame-length s frame =
+    let n = length-append frame (NUL ∷ []) in
+    let m = record-length (256 + s) (frame ++ NUL ∷ []) in
+    omega arith
+
+frame-body : (s : ℕ) (frame : List ℕ) → take (length (frame-record s frame) - 5) (drop 4 (frame-record s frame)) ≡ frame
+unfolding frame-record in-bytes
+frame-body s frame = let n = frame-length s frame in take-at frame (NUL ∷ []) (length (frame-record s frame) - 5) (omega arith)
+
+frame-session : (s : ℕ) (frame : List ℕ) → s < 4 → digits 1 (little (places 3 3 (frame-record s frame))) ≡ digits 1 s
+unfolding frame-record
+frame-session s frame h = session-in s (256 + s) (frame ++ NUL ∷ []) (omega arith)
+
+frame-line : (s : ℕ) (frame : List ℕ) → s < 4 → line-in (frame-record s frame) ≡ digits 1 s ++ (space ∷ 0x53 ∷ space ∷ []) ++ shown frame
+unfolding line-in digits
+frame-line s frame h =
+    let r = frame-record s frame in
+    let n = frame-length s frame in
+    let d = digits 1 (little (places 3 3 r)) in
+    let closing : List ℕ = space ∷ 0x43 ∷ [] in
+    let sending : List ℕ = space ∷ 0x53 ∷ space ∷ [] in
+    ap (λ (b : Bool). d ++ cond b closing (sending ++ shown (take (length r - 5) (drop 4 r)))) (ne-eqb (length r) 4 (λ e. omega arith))
+    ∙ ap (λ (l : List ℕ). d ++ sending ++ shown l) (frame-body s frame)
+    ∙ ap (λ (x : List ℕ). x ++ sending ++ shown frame) (frame-session s frame h)
+
+close-line : (s : ℕ) → s < 4 → line-in (close-record s) ≡ digits 1 s ++ space ∷ 0x43 ∷ []
+unfolding line-in close-record in-bytes
+close-line s h = ap (λ (d : List ℕ). d ++ space ∷ 0x43 ∷ []) (session-in s (512 + s) [] (omega arith))
+
+module _ (s : ℕ) where
+  abbrev to-session : Emission → Tagged Emission
+  to-session e = record { who = s; what = e }
+
+  record-line : (e : Emission) → s < 4 → line-in (output-record (to-session e)) ≡ line-of (to-session e)
+  record-line (reply frame) h = frame-line s frame h
+  record-line (copy c) h = frame-line s (c .what .frame) h
+  record-line close h = close-line s h
+
+  record-first : (e : Emission) (more : List ℕ) → length (output-record (to-session e)) ≤ 2_048
+      → length (output-record (to-session e)) ≡ whole-size (output-record (to-session e) ++ more)
+  unfolding frame-record close-record
+  record-first (reply frame) more h = record-size (256 + s) (frame ++ NUL ∷ []) more h
+  record-first (copy c) more h = record-size (256 + s) (c .what .frame ++ NUL ∷ []) more h
+  record-first close more h = record-size (512 + s) [] more h
+
+  record-some : (e : Emission) → 0 < length (output-record (to-session e))
+  unfolding close-record
+  record-some (reply frame) = let n = frame-length s frame in omega arith
+  record-some (copy c) = let n = frame-length s (c .what .frame) in omega arith
+  record-some close = let n = record-length (512 + s) [] in omega arith
+
+-- ==== all of them
+
+lines-in-output : (es : List (Tagged Emission)) → Below 4 es → length (output es) ≤ 2_048 → lines-in (output es) ≡ map line-of es
+unfolding lines-in
+lines-in-output [] p h = refl
+lines-in-output (x ∷ xs) p h =
+    let r = output-record x in
+    let bs = r ++ output xs in
+    let n = length-append r (output xs) in
+    let size : length r ≡ whole-size bs = record-first (x .who) (x .what) (output xs) (omega arith) in
+    let some : 0 < length r = record-some (x .who) (x .what) in
+    let rest : drop (length r) bs ≡ output xs = drop-at r (output xs) (length r) refl in
+    ap (map line-in) (slices-first bs (length r) size some)
+    ∙ ap₂ _∷_ (ap line-in (take-at r (output xs) (length r) refl) ∙ record-line (x .who) (x .what) (p .0))
+    (ap (λ (l : List ℕ). map line-in (slices (length l) l)) rest ∙ lines-in-output xs (p .1) (omega arith))
+
+-- THE LINES: what is printed for a call are the lines of what the model says of it
+pub told : {c : Call} {t o : List ℕ} {r : Answer} {t′ o′ : List ℕ} → Outcome c t o r t′ o′ → text-of r o′ ≡ printed (lines-of (model-answer r) ((contract.said c t o) .2))
+unfolding text-of step
+told {c = c} {t = t} {o = o} {r = r} {t′ = t′} {o′ = o′} out =
+    let es = (contract.said c t o) .2 in
+    let s = stands out in
+    let n = so-long out in
+    let f : r .written ≤ 2_048 = out .fits in
+    ap (λ (ls : List (List ℕ)). printed (cond (eqb (r .number) 0) ls ((0x52 ∷ space ∷ digits 1 (r .number)) ∷ [])))
+    (ap lines-in (s .records) ∙ lines-in-output es (below-answered (decode t) c (number t (length o) c) (four-sessions t)) (omega arith))
