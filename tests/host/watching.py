@@ -1,0 +1,79 @@
+"""tools/watch, against the host."""
+
+import os
+import signal
+import subprocess
+
+from harness import ROOT, SECONDS, check, equal, test, tightening_fields, wait
+
+
+class Watch:
+    def __init__(self, place, *arguments):
+        self.path = place.path("watched-%d" % len(os.listdir(place.folder)))
+        with open(self.path, "wb") as out:
+            self.process = subprocess.Popen([os.path.join(ROOT, "tools", "watch"), *arguments], stdout=out, stderr=out)
+        place.links.callback(self.end)
+
+    def end(self):
+        if self.process.poll() is None:
+            self.process.kill()
+            self.process.wait()
+
+    def lines(self):
+        with open(self.path, encoding="ascii") as file:
+            return file.read().splitlines()
+
+    def wait_for(self, words, times=1):
+        wait(lambda: sum(words in line for line in self.lines()) >= times, "watch says %r: %s" % (words, self.lines()))
+
+
+@test
+def watch_shows_results(place):
+    """tools/watch --count 3 shows an identifier and three results, and ends in order."""
+    host = place.host()
+    tool = place.tool()
+    watch = Watch(place, "--connect", "127.0.0.1:%d" % host.port, "--count", "3")
+    watch.wait_for("connected to 127.0.0.1:%d: controller LINE4, cell 12, channel 3" % host.port)
+    host.wait_for_log("< 0060")
+    tool.scan("CAR 1", "0")
+    first = tightening_fields(1, torque=2431, torque_min=2200, torque_max=2600, angle=87, angle_min=60, angle_max=120,
+                              time="2026-01-31:12:34:56", tightening_status=1)
+    tool.tighten(first, "0")
+    tool.tighten({**first, "identifier": "", "tightening_status": 0, "torque": 2750, "torque_status": 2, "angle_status": 1}, "0")
+    tool.tighten(tightening_fields(3), "0")
+    equal(watch.process.wait(SECONDS), 0, "status of watch")
+    lines = [" ".join(line.split()) for line in watch.lines()]
+    check("identifier CAR 1" in lines, "watch does not show the identifier: %s", lines)
+    results = [line for line in lines if line.startswith("result")]
+    equal(results[:2], ["result 1 BODY-0000001 24.31 Nm (22.00 to 26.00) 87 deg (60 to 120) 2026-01-31 12:34:56 OK",
+                        "result 2 CAR 1 27.50 Nm (22.00 to 26.00) 87 deg (60 to 120) 2026-01-31 12:34:56 NOT OK (torque high)"],
+          "what watch shows")
+    equal(len(results), 3, "results that watch shows")
+    place.wait_for_hang_up(0)
+    messages = [line.split(" < ")[1][:4] for line in host.log().splitlines() if " < " in line]
+    equal(messages[-3:], ["0063", "0054", "0003"], "messages with which watch ends")
+
+
+@test
+def watch_waits_and_comes_back(place):
+    """watch waits for a controller, comes back after a lost link, on the same port too, and Ctrl-C ends it in order."""
+    host = place.host()
+    address = "127.0.0.1:%d" % host.port
+    host.kill()
+    watch = Watch(place, "--connect", address)
+    watch.wait_for("no controller at " + address)
+    for run in (1, 2):
+        host = place.host("--listen", address)
+        watch.wait_for("connected to " + address, run)
+        host.wait_for_log("< 0060")
+        place.tool().tighten(tightening_fields(run), "0")
+        watch.wait_for("result %d " % run)
+        if run == 1:
+            host.kill()
+            watch.wait_for("link lost")
+    watch.process.send_signal(signal.SIGINT)
+    equal(watch.process.wait(SECONDS), 0, "status of watch")
+    equal(watch.lines()[-1], "ended: 2 results", "watch's last line")
+    place.wait_for_hang_up(0)
+    messages = [line.split(" < ")[1][:4] for line in host.log().splitlines() if " < " in line]
+    equal(messages[-3:], ["0063", "0054", "0003"], "messages with which watch ends")
