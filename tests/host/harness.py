@@ -45,6 +45,13 @@ def test(function):
     return function
 
 
+def in_memory(function):
+    """The test's files stand in memory where there is such a folder: it tries the host and not the disk."""
+    if os.access("/dev/shm", os.W_OK | os.X_OK):
+        function.parent = "/dev/shm"
+    return function
+
+
 def check(right, what, *values):
     if not right:
         raise Wrong(what % values if values else what)
@@ -164,16 +171,18 @@ class Link:
             raise Wrong("nothing came within %d s" % SECONDS) from None
 
     def close(self):
+        self.open = False
         self.link.close()
 
     def cut(self):
         """Ends the link by a reset, as a lost peer's operating system does."""
         self.link.setsockopt(socket.SOL_SOCKET, socket.SO_LINGER, struct.pack("ii", 1, 0))
-        self.link.close()
+        self.close()
 
 
 class Server(Link):
-    """A line server. `seen` are all the runs that came, `open` whether the host has not closed the link."""
+    """A line server. `seen` are all the runs that came, `open` tells whether the link has not ended, and `reads_all` whether all that
+    was sent to it before has been read then."""
 
     def __init__(self, host, receive_buffer=None):
         link = socket.socket()
@@ -207,7 +216,10 @@ class Server(Link):
     def expect(self, mid, revision=1):
         """The fields of the next frame, which is to be that one."""
         run = self.next()
-        frame = openprotocol.read(run)
+        try:
+            frame = openprotocol.read(run)
+        except ValueError as wrong:
+            raise Wrong(str(wrong)) from None
         check((frame.mid, frame.revision) == (mid, revision), "a %04d of revision %d was to come, not %r", mid, revision, run)
         return frame.fields
 
@@ -286,12 +298,12 @@ class Tool(Link):
 class Place:
     """Where a test runs: its folder, and all that it starts."""
 
-    def __init__(self, host, replay, count):
+    def __init__(self, host, replay, count, parent=None):
         self.program, self.replay, self.count = host, replay, count
         self.said = []  # figures that the test wants to be printed behind its ok
         self.hosts = []
         self.links, self.undo = contextlib.ExitStack(), contextlib.ExitStack()  # before and after the hosts' end
-        self.folder = tempfile.mkdtemp(prefix="serifladder-")
+        self.folder = tempfile.mkdtemp(prefix="serifladder-", dir=parent)
         self.settings = self.path("settings")
         self.state = self.path("state")
         self.journal = self.path("journal")
@@ -327,6 +339,15 @@ class Place:
 
     def host(self, *more, **how):
         return self.start(*more, **how).ready()
+
+    def finish(self, host, servers, refusals=()):
+        """Ends the host, has the servers read all that was sent, and holds it against the journal."""
+        status = host.end()
+        for server in servers:
+            if server.open and server.reads_all:
+                server.until_closed()
+        equal(status, 0, "status")
+        self.check_journal(servers, refusals)
 
     def refused(self, host, status, *words):
         """The host is to end with that status and a message that has these words; answers the message."""

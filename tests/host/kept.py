@@ -3,11 +3,13 @@
 import os
 import random
 import resource
+import shutil
 import stat
 import subprocess
+import zlib
 
-from harness import (GREATEST_NUMBER, SETTINGS, TIGHTENING, Wrong, check, equal, history, openprotocol, test, tightening_fields,
-                     tightening_record)
+from harness import (BYTES, GREATEST_NUMBER, SETTINGS, TIGHTENING, Wrong, check, equal, history, openprotocol, test, tightening_fields,
+                     tightening_record, wait)
 
 
 def runs_of_the_host(records):
@@ -36,7 +38,7 @@ def killed_between_results(place):
         begins.append(serial)
         tool.send(b"".join(tightening_record(tightening_fields(serial + i)) for i in range(burst)))
         for _ in range(source.randrange(burst) + 1):
-            check(server.take(), "the host closed the link")
+            server.next()
         host.kill()
         server.until_closed()
         serial += burst
@@ -92,9 +94,6 @@ def no_room_for_the_state(place):
     disk = small_disk(place)
     if disk:
         place.state = os.path.join(disk, "state")
-    else:
-        place.state = place.path("gone/state")
-        os.mkdir(place.path("gone"))
     host = place.host()
     tool = place.tool()
     server = place.server(host).subscribe()
@@ -105,13 +104,12 @@ def no_room_for_the_state(place):
     if disk:
         filler = fill(disk)
     else:
-        os.rename(place.path("gone"), place.path("away"))
+        # No file of the host may grow any more.
+        resource.prlimit(host.process.pid, resource.RLIMIT_FSIZE, (0, 0))
     tool.send(tightening_record(tightening_fields(2)))
     ends_without_a_word(place, host, server, tool, place.state)
     if disk:
         os.remove(filler)
-    else:
-        os.rename(place.path("away"), place.path("gone"))
     host = place.host()
     server = place.server(host).subscribe()
     place.tool().tighten(tightening_fields(3), "0")
@@ -126,7 +124,7 @@ def a_state_folder_that_goes_away(place):
     host = place.host()
     tool = place.tool()
     server = place.server(host).subscribe()
-    os.rename(place.path("folder"), place.path("away"))
+    shutil.rmtree(place.path("folder"))
     tool.send(tightening_record(tightening_fields(1)))
     ends_without_a_word(place, host, server, tool, place.state)
 
@@ -135,48 +133,48 @@ def a_state_folder_that_goes_away(place):
 def no_room_for_the_journal(place):
     """When the journal can't be written, the host ends with status 1 and nothing of that call is sent."""
     disk = small_disk(place)
-    how = {}
     if disk:
         place.journal = os.path.join(disk, "journal")
-    else:
-        how = dict(preexec_fn=lambda: resource.setrlimit(resource.RLIMIT_FSIZE, (20000, 20000)), restore_signals=False)
-    host = place.host(**how)
-    server = place.server(host).subscribe()
-    tool = place.tool()
-    tool.tighten(tightening_fields(1), "0")
-    server.expect_result(tightening_fields(1), 1)
-    equal(server.fence(), [], "something besides")
+    host = place.host()
+    server = place.server(host).start()
     if disk:
         fill(disk)
-    long = b"\0" * 8000  # runs that are dropped: all that comes of them is a journal that grows
+    else:
+        resource.prlimit(host.process.pid, resource.RLIMIT_FSIZE, (5000, 5000))
+    mirrored = 0
     try:
-        while host.process.poll() is None:
-            server.send(long)
-    except OSError:
+        while server.open:
+            server.fence()
+            mirrored += 1
+    except (Wrong, ConnectionError):
         pass
     ends_without_a_word(place, host, server, None, place.journal)
+    journaled = sum(payload[4:8] == b"9999" for kind, payload in place.journaled() if kind == BYTES)
+    check(mirrored > 10, "only %d messages had room in the journal: this shows too little", mirrored)
+    equal(mirrored, journaled, "messages that were answered, and not as many journaled")
 
 
 @test
 def a_tightening_that_is_not_journaled(place):
     """A tightening that is kept but can't be journaled is not sent; its number is not given again."""
     disk = small_disk(place)
-    if not disk:
-        place.said.append("no right to mount: not shown here")
-        return
-    place.journal = os.path.join(disk, "journal")
+    if disk:
+        place.journal = os.path.join(disk, "journal")
     host = place.host()
     server = place.server(host).subscribe()
     tool = place.tool()
-    fill(disk)
-    # The journal's last page has room left yet: dropped runs fill it up. Each is one record, so that the next is one of the tool's.
-    room = 4096 - os.path.getsize(place.journal) % 4096
-    if room > 4:
-        server.send(b"\0" * (room - 4 - 25) + openprotocol.message(9999))
-        equal(len(server.next()), 20, "mirror")
+    if disk:
+        fill(disk)
+        # The journal's last page has some room yet: one record fills it up.
+        server.send(b"x" * (-os.path.getsize(place.journal) % 4096 - 4))
+        wait(lambda: os.path.getsize(place.journal) % 4096 == 0, "the journal's page is full")
+    else:
+        size = os.path.getsize(place.journal)
+        resource.prlimit(host.process.pid, resource.RLIMIT_FSIZE, (size, size))
     tool.send(tightening_record(tightening_fields(1)))
     ends_without_a_word(place, host, server, tool, place.journal)
-    os.remove(os.path.join(disk, "filler"))
+    if disk:
+        os.remove(os.path.join(disk, "filler"))
     host = place.host()
     server = place.server(host).subscribe()
     place.tool().tighten(tightening_fields(2), "0")
@@ -235,6 +233,8 @@ def a_damaged_state(place):
     damaged = [kept[:i] + bytes([kept[i] ^ bit]) + kept[i + 1:] for i in range(len(kept)) for bit in (1, 16)]
     damaged += [kept[:i] for i in range(len(kept))]
     damaged += [kept + more for more in (b"\n", b" ", b"0", b"\0", b"\r\n", kept)]
+    too_great = kept[:kept.rindex(b"check sum")].replace(b"1234567890", b"%d" % (GREATEST_NUMBER + 1))
+    damaged.append(too_great + b"check sum %08x\n" % zlib.crc32(too_great))
     damaged += [b" " + kept, kept.replace(b"1234567890", b"01234567890"), kept.replace(b"1234567890", b"+1234567890"), b"\0" * len(kept)]
     for content in damaged:
         with open(place.state, "wb") as file:
@@ -293,10 +293,9 @@ def the_last_number(place):
         tool.scan("STILL SCANNED", "0")
         equal(server.expect(openprotocol.IDENTIFIER)["identifier"], "STILL SCANNED", "identifier")
         equal(server.fence(), [], "something besides")
-        equal(host.end(), 0, "status")
+        place.finish(host, servers, [8] * run)
         if run == 1:
             host = place.host()
             server = place.server(host).subscribe()
             servers.append(server)
             tool = place.tool()
-    place.check_journal(servers, [8, 8])

@@ -5,7 +5,7 @@ import signal
 import socket
 import time
 
-from harness import BYTES, OPEN, TICK, check, equal, message, test, tightening_fields, tightening_record, wait
+from harness import BYTES, OPEN, TICK, check, equal, in_memory, message, test, tightening_fields, tightening_record, wait
 import openprotocol
 
 DIALOGUE = message(1) + message(51, revision=2) + message(60) + message(9999, rest=b"the-rest")
@@ -116,8 +116,7 @@ def silence_until_the_time_out(place):
     while place.ticks() < before + 20:
         equal(speaking.fence(), [], "what the speaking one is sent")
         time.sleep(tick)
-    equal(host.end(), 0, "status")
-    place.check_journal([speaking, silent, unstarted])
+    place.finish(host, [speaking, silent, unstarted])
 
 
 @test
@@ -168,30 +167,38 @@ def a_link_cut_with_a_notice_open(place):
     tool.tighten(fields, "0")
     again.expect_result({**fields, "identifier": "OLD"}, 4)
     equal(again.fence(), [], "something besides")
-    equal(host.end(), 0, "status")
-    place.check_journal([cut, again])
+    place.finish(host, [cut, again])
+
+
+def messages_read(place, session):
+    """How many messages of that session the host has read since it was opened last."""
+    count = 0
+    for kind, payload in place.journaled():
+        if kind == OPEN + session:
+            count = 0
+        elif kind == BYTES + session:
+            count += payload.count(0)
+    return count
 
 
 @test
+@in_memory
 def a_peer_that_stops_reading(place):
-    """It is hung up once enough waits for it, and the others get their results all the while."""
+    """It is hung up once enough waits for it, and the others get their results all the while. One that reads late gets all."""
     host = place.host()
     tool = place.tool()
     reading = place.server(host).subscribe()
     deaf = place.server(host, receive_buffer=4096).start()
-    deaf.reads_all = False
     deaf.link.settimeout(0)
-    flood = message(9999) * 1000
     number = sent = 0
-    hung_up = False
-    while not hung_up:
-        check(sent < 200_000_000, "still not hung up after %d bytes", sent)
+    while deaf.open:
+        check(sent < 20_000_000, "still not hung up after %d bytes", sent)
         try:
-            sent += deaf.link.send(flood)
+            sent += deaf.link.send(message(9999) * 1000)
         except BlockingIOError:
             pass
         except ConnectionError:
-            hung_up = True
+            deaf.open = False
         number += 1
         fields = tightening_fields(number)
         tool.tighten(fields, "0")
@@ -199,9 +206,16 @@ def a_peer_that_stops_reading(place):
         reading.tell(openprotocol.ACKNOWLEDGE_RESULT)
         equal(reading.fence(), [], "something besides")
     place.wait_for_hang_up(1)
-    deaf.link.settimeout(30)
-    deaf.until_closed()
-    equal(place.server(host).start().fence(), [], "what the next one in its place is sent")
+    room = messages_read(place, 1)  # so many replies found room in the buffers between, and in the host's own
+    deaf.reads_all = False
+    deaf.close()
+    late = place.server(host, receive_buffer=4096).start()
+    marks = [message(9999, rest=b"%08d" % i) for i in range(room - 1500)]
+    late.send(b"".join(marks))
+    wait(lambda: messages_read(place, 1) == 1 + len(marks), "%d messages read" % (1 + len(marks)))
+    equal([late.next() for _ in marks], [mark[:-1] for mark in marks], "what the one that reads late is sent")
+    place.finish(host, [reading, deaf, late])
+    place.said.append("hung up after %d replies; %d read late" % (room, len(marks)))
 
 
 @test
@@ -240,5 +254,4 @@ def garbage_and_floods(place):
     stranger.send(b"\0")
     stranger.start()
     equal(stranger.fence(), [], "something besides")
-    equal(host.end(), 0, "status")
-    place.check_journal([good, bad, stranger])
+    place.finish(host, [good, bad, stranger])

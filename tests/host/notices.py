@@ -34,8 +34,7 @@ def start_to_result(place):
     tool.tighten(tightening_fields(30), "none")
     server.start()
     equal(server.fence(), [], "something old")
-    equal(host.end(), 0, "status")
-    place.check_journal([server])
+    place.finish(host, [server])
 
 
 @test
@@ -54,8 +53,7 @@ def a_result_waits_for_the_acknowledge_before_it(place):
         equal(slow.fence(), [], "something before the acknowledge")
         slow.tell(openprotocol.ACKNOWLEDGE_RESULT)
     equal(slow.fence(), [], "something behind the eighth")
-    equal(host.end(), 0, "status")
-    place.check_journal([slow, quick])
+    place.finish(host, [slow, quick])
 
 
 @test
@@ -94,8 +92,7 @@ def a_notice_that_is_not_acknowledged(place):
     results = [openprotocol.read(run).fields["number"] for run in runs]
     equal(results, [1, 1, 1, 1, 1, 1, 2], "numbers of the copies")
     equal(len(set(runs[:6])), 1, "how many sorts of copies")
-    equal(host.end(), 0, "status")
-    place.check_journal([server])
+    place.finish(host, [server])
 
 
 @test

@@ -1,9 +1,9 @@
 #!/usr/bin/env python3
 """Runs the tests of the host over real sockets.
 
-    run.py --host PROGRAM --replay PROGRAM [--only NAME,NAME,..] [--count N]
+    run.py --host PROGRAM --replay PROGRAM [--only NAME,NAME,..] [--count N] [--seconds N]
 
---count says how many results the load test sends. Prints a line for each test; status 0: all right."""
+--count says how many results the load test sends, --seconds how long something is waited for that does not come. Prints a line for each test; status 0: all right."""
 
 import argparse
 import signal
@@ -31,7 +31,7 @@ def too_long(*_):
 
 def run(function, options):
     """None if the test is right, else what differed; and the figures that it gives."""
-    place = harness.Place(options.host, options.replay, options.count)
+    place = harness.Place(options.host, options.replay, options.count, getattr(function, "parent", None))
     signal.alarm(WATCHDOG)
     try:
         function(place)
@@ -52,7 +52,9 @@ def main():
     parser.add_argument("--replay", required=True)
     parser.add_argument("--only", type=lambda text: text.split(","))
     parser.add_argument("--count", type=int, default=2000)
+    parser.add_argument("--seconds", type=int, default=harness.SECONDS)
     options = parser.parse_args()
+    harness.SECONDS = options.seconds
     signal.signal(signal.SIGALRM, too_long)
     signal.signal(signal.SIGTERM, lambda *_: sys.exit(1))  # so that what was started is ended
     named = {function.__name__.replace("_", "-"): function for function in harness.TESTS}

@@ -44,9 +44,7 @@ def refused_tool_records(place):
     server.expect_result(tightening_fields(1), 1)
     server.tell(openprotocol.ACKNOWLEDGE_RESULT)
     equal(server.fence(), [], "something besides")
-    equal(host.end(), 0, "status")
-    equal(set(place.replayed()[1]), {7}, "refusals in the journal")
-    place.check_journal([server], place.replayed()[1])
+    place.finish(host, [server], [7] * len(records))
     place.said.append("%d bad records refused" % len(records))
 
 
@@ -135,7 +133,7 @@ def what_stands_where_the_tools_socket_goes(place):
     """A socket file left by a host that was killed is replaced; a file, a folder, or the socket of a living host is not."""
     first = place.host()
     place.state = place.path("state-2")
-    other = place.start("--new-state", 0)
+    other = place.start(journal=False)
     place.refused(other, 1, place.tool_path)
     server = place.server(first).subscribe()
     place.tool().tighten(tightening_fields(1), "0")
@@ -180,6 +178,5 @@ def tool_records_over_a_fifo(place):
                     server.expect_result(tightening_fields(number), number)
             fifo.write(record(5))
         host.wait_for_log("(?s)" + ".*".join([BAD] * (writer + 1)))
-    equal(host.end(), 0, "status")
+    place.finish(host, [server], [7] * 5)
     check(os.path.exists(place.tool_path), "the FIFO is gone, which was not the host's")
-    place.check_journal([server], [7] * 5)

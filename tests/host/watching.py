@@ -4,7 +4,8 @@ import os
 import signal
 import subprocess
 
-from harness import ROOT, SECONDS, check, equal, test, tightening_fields, wait
+import harness
+from harness import ROOT, check, equal, test, tightening_fields, wait
 
 
 class Watch:
@@ -41,7 +42,7 @@ def watch_shows_results(place):
     tool.tighten(first, "0")
     tool.tighten({**first, "identifier": "", "tightening_status": 0, "torque": 2750, "torque_status": 2, "angle_status": 1}, "0")
     tool.tighten(tightening_fields(3), "0")
-    equal(watch.process.wait(SECONDS), 0, "status of watch")
+    equal(watch.process.wait(harness.SECONDS), 0, "status of watch")
     lines = [" ".join(line.split()) for line in watch.lines()]
     check("identifier CAR 1" in lines, "watch does not show the identifier: %s", lines)
     results = [line for line in lines if line.startswith("result")]
@@ -72,7 +73,7 @@ def watch_waits_and_comes_back(place):
             host.kill()
             watch.wait_for("link lost")
     watch.process.send_signal(signal.SIGINT)
-    equal(watch.process.wait(SECONDS), 0, "status of watch")
+    equal(watch.process.wait(harness.SECONDS), 0, "status of watch")
     equal(watch.lines()[-1], "ended: 2 results", "watch's last line")
     place.wait_for_hang_up(0)
     messages = [line.split(" < ")[1][:4] for line in host.log().splitlines() if " < " in line]

@@ -1,0 +1,120 @@
+#!/usr/bin/env python3
+"""Shows that the tests of the host find faults: plants each of these in a copy of its sources, builds it, and runs the test that is to
+find it.
+
+    faults.py --host PROGRAM --replay PROGRAM --archive ARCHIVE --compiler COMPILER [--runner RUNNER] [--only NAME,NAME,..]
+
+The host itself has to pass all those tests first. Exit status 0: every fault was found."""
+
+import argparse
+import os
+import re
+import shutil
+import subprocess
+import sys
+import tempfile
+import time
+
+HERE = os.path.dirname(os.path.abspath(__file__))
+ROOT = os.path.join(HERE, "..", "..")
+
+# The fault, the test that finds it, the file, what stands there, and what is put in its place.
+FAULTS = [
+    ("state not written", "killed-between-results", "calls.c", "state_keep(++last);", "++last;"),
+    ("state written after sending", "no-room-for-the-state", "calls.c",
+     "state_keep(++last);\n    journal_record(journal_kind(kind), record + SERIFLADDER_RECORD_HEADER, length - SERIFLADDER_RECORD_HEADER);\n"
+     "    carry_out(answer.written);",
+     "++last;\n    journal_record(journal_kind(kind), record + SERIFLADDER_RECORD_HEADER, length - SERIFLADDER_RECORD_HEADER);\n"
+     "    carry_out(answer.written);\n    if (number == SERIFLADDER_DONE && kind == SERIFLADDER_TIGHTENING)\n        state_keep(last);"),
+    ("journal written after sending", "no-room-for-the-journal", "calls.c",
+     "    journal_record(kind, payload, length);\n    carry_out(answer.written);",
+     "    carry_out(answer.written);\n    journal_record(kind, payload, length);"),
+    ("a fifth let in", "four-servers-and-a-fifth", "links.c",
+     'say("%s closed: all four sessions are taken", peer);\n        close(socket);\n        return;', 'hang_up(&links[--s], "room is made");'),
+    ("rest of a slice not passed on", "many-messages-in-one-segment", "links.c",
+     "for (size_t at = 0; at < (size_t)length && link->socket >= 0;) {", "for (size_t at = 0; at == 0 && link->socket >= 0;) {"),
+    ("output of one session to another", "four-servers-and-a-fifth", "calls.c",
+     "links_send(kind - SERIFLADDER_FRAME,", "links_send((kind - SERIFLADDER_FRAME) & 2,"),
+    ("ticks not made up for", "ticks-are-made-up-for", "main.c", "timer->next += timer->period;", "timer->next = now() + timer->period;"),
+    ("stale output kept over a hang-up", "a-peer-that-stops-reading", "links.c", "    link->waiting.length = 0;\n", ""),
+    ("a hang-up that the library is not told", "a-link-cut-with-a-notice-open", "links.c",
+     "    call_hang_up((unsigned)(link - links));\n    close_link(link, why);", "    close_link(link, why);"),
+    ("a close record not carried out", "silence-until-the-time-out", "calls.c", "links_close(kind - SERIFLADDER_CLOSE);", ";"),
+    ("ticks not journaled", "the-journal-replays", "calls.c",
+     'settle_done("a tick", serifladder_tick(LENT, ANSWER), JOURNAL_TICK, NULL, 0);',
+     "serifladder_tick(LENT, ANSWER);\n    carry_out(answered().written);"),
+    ("a tool's record journaled as another call", "refused-tool-records", "calls.c",
+     "journal_record(journal_kind(kind),", "(void)journal_kind;\n    journal_record(kind,"),
+    ("a peer that does not read is waited for", "a-peer-that-stops-reading", "links.c",
+     'link->failed = "64 KiB wait for it, and it does not read";', "link->waiting.length = 0;"),
+    ("sessions not hung up at the end", "ended-by-a-signal", "main.c", "    links_end();\n", ""),
+    ("no lock on the state", "a-state-in-use", "state.c", "if (!lock_file(lock))", "if (lock < 0)"),
+    ("check sum not tested", "a-damaged-state", "state.c", "if (length != expected || memcmp(text, again, expected) != 0)",
+     "if (length < expected)"),
+]
+
+
+def planted(name, file, old, new, folder):
+    """A copy of the host's sources with the fault."""
+    shutil.copytree(os.path.join(ROOT, "host"), folder)
+    path = os.path.join(folder, file)
+    with open(path, encoding="ascii") as source:
+        text = source.read()
+    if text.count(old) != 1:
+        sys.exit("'%s' can't be planted: host/%s has its place %d times" % (name, file, text.count(old)))
+    with open(path, "w", encoding="ascii") as source:
+        source.write(text.replace(old, new))
+
+
+def sources_and_flags(folder):
+    """As the host's own Makefile has them."""
+    with open(os.path.join(ROOT, "host", "Makefile"), encoding="ascii") as file:
+        text = file.read()
+    names = re.search(r"^SOURCES := (.*)$", text, re.M).group(1).split()
+    flags = re.search(r"^STRICT := (.*)$", text, re.M).group(1).split()
+    return [*flags, "-O1", "-static", "-I", os.path.join(ROOT, "include"), *(os.path.join(folder, name) for name in names)]
+
+
+def run_tests(host, replay, names, *more):
+    """The status of the tests, and what they printed."""
+    command = [sys.executable, os.path.join(HERE, "run.py"), "--host", host, "--replay", replay, "--only", ",".join(names), *more]
+    done = subprocess.run(command, stdout=subprocess.PIPE, encoding="utf-8", check=False)
+    return done.returncode, done.stdout
+
+
+def main():
+    parser = argparse.ArgumentParser(description=__doc__.splitlines()[0])
+    for option in ("--host", "--replay", "--archive", "--compiler"):
+        parser.add_argument(option, required=True)
+    parser.add_argument("--runner", default="")
+    parser.add_argument("--only", type=lambda text: text.split(","))
+    options = parser.parse_args()
+    began = time.monotonic()
+    faults = [fault for fault in FAULTS if not options.only or fault[0] in options.only]
+    status, printed = run_tests(options.host, options.replay, sorted({finder for _, finder, *_ in faults}))
+    if status != 0:
+        sys.exit("the host itself does not pass:\n" + printed)
+    missed = 0
+    with tempfile.TemporaryDirectory(prefix="serifladder-") as folder:
+        for i, (name, finder, *edit) in enumerate(faults):
+            sources = os.path.join(folder, "%d" % i)
+            planted(name, *edit, sources)
+            program = os.path.join(folder, "host-%d" % i)
+            command = [options.compiler, *sources_and_flags(sources), options.archive, "-o", program]
+            subprocess.run(command, check=True)
+            if options.runner:
+                wrapper = program + "-run"
+                with open(wrapper, "w", encoding="ascii") as file:
+                    file.write('#!/bin/sh\nexec "%s" "%s" "$@"\n' % (os.path.abspath(options.runner), program))
+                os.chmod(wrapper, 0o755)
+                program = wrapper
+            status, printed = run_tests(program, options.replay, [finder], "--seconds", "5")
+            missed += status == 0
+            difference = printed.partition("WRONG: ")[2].partition("\n")[0]
+            print("%-44s %s" % (name, "NOT FOUND by " + finder if status == 0 else "%s: %.90s" % (finder, difference)), flush=True)
+    print("host-faults: %d of %d found, %.0f s" % (len(faults) - missed, len(faults), time.monotonic() - began))
+    return 1 if missed else 0
+
+
+if __name__ == "__main__":
+    sys.exit(main())
