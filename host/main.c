@@ -195,7 +195,7 @@ static void run(struct timer tick, struct timer demo)
             return;
         links_serve(set + LINKS);
         tool_serve(set + TOOL_SET);
-        if (is_due(&tick))
+        while (is_due(&tick))
             call_tick();
         if (is_due(&demo))
             demo_step();

@@ -96,6 +96,8 @@ uint32_t state_open(const char *path, const uint32_t *fresh)
     struct stat found;
     state_path = path;
     name = name_in_folder(path);
+    if (*name == '\0')
+        fail("state %s is not the name of a file", path);
     folder = open_folder(path);
     if (folder < 0)
         fail("state %s: its folder cannot be opened: %s", path, strerror(errno));

@@ -47,10 +47,13 @@ void tool_record(const uint8_t *record, size_t length, char line[ANSWER_LINE])
         return;
     }
     snprintf(line, ANSWER_LINE, "0 %s, %.40s", text, taken);
-    if (little(record + 2, 2) == SERIFLADDER_TIGHTENING)
+    if (little(record + 2, 2) == SERIFLADDER_TIGHTENING) {
         say("tool: tightening %u, %s", last_number(), taken);
-    else
-        say("tool: identifier \"%.*s\", %s", NAME_LENGTH, (const char *)record + SERIFLADDER_RECORD_HEADER, taken);
+        return;
+    }
+    while (length > SERIFLADDER_RECORD_HEADER && record[length - 1] == ' ')
+        length--;
+    say("tool: identifier \"%.*s\", %s", (int)(length - SERIFLADDER_RECORD_HEADER), (const char *)record + SERIFLADDER_RECORD_HEADER, taken);
 }
 
 /* ---- a source */
@@ -158,11 +161,11 @@ static void make_way(const struct sockaddr_un *address)
     if (!S_ISSOCK(found.st_mode))
         fail("tool %s is neither a FIFO nor a socket", tool_path);
     int asked = socket(AF_UNIX, SOCK_STREAM, 0);
-    if (asked >= 0 && connect(asked, (const struct sockaddr *)address, sizeof *address) == 0)
+    if (connect(asked, (const struct sockaddr *)address, sizeof *address) == 0)
         fail("tool %s is in use by another host", tool_path);
-    close(asked);
-    if (unlink(tool_path) != 0)
+    if (errno != ECONNREFUSED || unlink(tool_path) != 0)
         fail("tool %s cannot be replaced: %s", tool_path, strerror(errno));
+    close(asked);
 }
 
 static void remove_door(void)
