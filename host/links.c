@@ -77,7 +77,7 @@ static void hang_up(struct link *link, const char *why)
 
 void links_close(unsigned session)
 {
-    close_link(&links[session], "no message came for 15 ticks");
+    close_link(&links[session], "idle for 15 ticks");
 }
 
 void links_hang_up_failed(void)

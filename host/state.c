@@ -77,7 +77,8 @@ static uint32_t read_state(void)
     return read_text(text, (size_t)length);
 }
 
-/* One host at a time: the lock stands on a file of its own, because the state file itself is replaced again and again. */
+/* One host at a time: the lock stands on a file of its own, because the state file itself is replaced again and again. It is held until
+   the program ends. */
 static void lock_state(void)
 {
     char name_locked[NAME_MAX + 1];

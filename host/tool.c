@@ -206,11 +206,11 @@ static struct source *free_source(void)
     return NULL;
 }
 
-static void take_in(void)
+static void take_in(struct source *source)
 {
     int descriptor = accept(door, NULL, NULL);
     if (descriptor >= 0)
-        begin_source(free_source(), descriptor);
+        begin_source(source, descriptor);
     else if (errno != EAGAIN && errno != EWOULDBLOCK && errno != EINTR && errno != ECONNABORTED)
         say("tool: a connection cannot be taken: %s", strerror(errno));
 }
@@ -236,6 +236,6 @@ void tool_serve(const struct pollfd set[TOOL_POLLED])
         if (!fifo)
             send_answers(source);
     }
-    if (set[0].revents != 0)
-        take_in();
+    if (set[0].revents != 0 && free_source() != NULL)
+        take_in(free_source());
 }
