@@ -50,7 +50,7 @@ run: host
 watch:
 	@exec tools/watch
 
-host: $(ARCHIVE)
+host: tools $(ARCHIVE)
 	@$(MAKE) --silent --no-print-directory -C host
 
 # The archive that the host links, and the program that replays its journal: proved anew when a source has changed.

@@ -136,12 +136,13 @@ static void receive(struct source *source)
     }
 }
 
-/* Sends the answers. Behind the last one of a source that is no longer read from, the connection is closed. */
+/* Sends the answers. A tool that has left takes none, but the records that it sent are still read. Behind the last answer the connection
+   is closed where nothing comes any more, and shut on our side where nothing is answered any more. */
 static void send_answers(struct source *source)
 {
     if (!waiting_send(&source->answers, source->descriptor))
-        close_source(source);
-    else if (source->answers.length == 0 && source->ended)
+        source->answers.length = 0;
+    if (source->answers.length == 0 && source->ended)
         close_source(source);
     else if (source->answers.length == 0 && source->skipping)
         shutdown(source->descriptor, SHUT_WR);
