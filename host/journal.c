@@ -2,14 +2,12 @@
    FILE.2 and so on; they and then FILE, one behind the other, are one journal. */
 #include "host.h"
 
-#include <ctype.h>
 #include <dirent.h>
 #include <errno.h>
 #include <fcntl.h>
 #include <inttypes.h>
 #include <limits.h>
 #include <stdio.h>
-#include <stdlib.h>
 #include <string.h>
 #include <sys/stat.h>
 #include <unistd.h>
@@ -62,31 +60,31 @@ static void put_aside(void)
         cannot("renamed");
 }
 
-/* A journal whose last write was cut, by a power cut say, loses that last record, so that what follows it can be read. */
-static void end_whole(const char *path)
+/* An earlier journal whose last write was cut, by a power cut say, loses that record, so that what follows it can be read. Its output
+   never went out. A file that is no journal is left as it is. */
+static void end_whole(off_t end)
 {
-    uint8_t header[SERIFLADDER_RECORD_HEADER];
-    FILE *old = fopen(path, "r+");
-    off_t whole = 0, next = 0, end;
+    uint8_t record[RECORD_GREATEST];
+    off_t whole = 0;
+    FILE *old = fopen(journal_path, "r+");
     if (old == NULL)
         cannot("read");
     if (!lock_file(fileno(old)))
-        fail("journal %s is in use by another host", path);
-    if (fseeko(old, 0, SEEK_END) != 0 || (end = ftello(old)) < 0)
-        cannot("read");
-    while (fseeko(old, whole, SEEK_SET) == 0 && fread(header, sizeof header, 1, old) == 1) {
-        uint64_t payload = little(header, 2);
-        next = whole + (off_t)(sizeof header + payload);
-        if (payload > PAYLOAD_GREATEST)
-            fail("%s is not a journal: move it away, or name another --journal", path);
-        if (next > end)
+        fail("journal %s is in use by another host", journal_path);
+    while (fread(record, SERIFLADDER_RECORD_HEADER, 1, old) == 1) {
+        size_t payload = (size_t)little(record, 2);
+        if (payload > PAYLOAD_GREATEST) {
+            say("journal %s was no journal", journal_path);
+            end = whole;
+        }
+        if (payload > PAYLOAD_GREATEST || fread(record, 1, payload, old) < payload)
             break;
-        whole = next;
+        whole += (off_t)(SERIFLADDER_RECORD_HEADER + payload);
     }
     if (ferror(old) || (whole < end && ftruncate(fileno(old), whole) != 0))
         cannot("read and ended");
     if (whole < end)
-        say("journal %s ended within a record: its last %lld bytes are left out", path, (long long)(end - whole));
+        say("journal %s ended within a record: its last %lld bytes are left out", journal_path, (long long)(end - whole));
     fclose(old);
 }
 
@@ -102,7 +100,7 @@ void journal_open(const char *path, uint64_t size_greatest)
     if (regular)
         part = greatest_part();
     if (regular && there) {
-        end_whole(path);
+        end_whole(found.st_size);
         put_aside();
     }
     begin();

@@ -10,7 +10,11 @@
 #include <sys/socket.h>
 #include <unistd.h>
 
-enum { RECEIVED_AT_ONCE = 8192, HEAD = 8 };
+enum {
+    RECEIVED_AT_ONCE = 8192,
+    HEAD = 8,
+    SYSTEM_ROOM = 16384 /* so much the system keeps to be sent, so that it shows soon who does not read */
+};
 
 static struct link {
     int socket; /* -1: no link */
@@ -73,7 +77,7 @@ static void hang_up(struct link *link, const char *why)
 
 void links_close(unsigned session)
 {
-    close_link(&links[session], "no message came for 15 ticks");
+    close_link(&links[session], "idle for 15 ticks");
 }
 
 void links_hang_up_failed(void)
@@ -156,7 +160,7 @@ static void take_in(void)
     struct sockaddr_in address;
     socklen_t size = sizeof address;
     char peer[INET_ADDRSTRLEN + 8];
-    int on = 1, socket = accept(door, (struct sockaddr *)&address, &size);
+    int on = 1, room = SYSTEM_ROOM, socket = accept(door, (struct sockaddr *)&address, &size);
     if (socket < 0) {
         if (errno != EAGAIN && errno != EWOULDBLOCK && errno != EINTR && errno != ECONNABORTED)
             say("a connection cannot be taken: %s", strerror(errno));
@@ -173,6 +177,7 @@ static void take_in(void)
     }
     unblock(socket);
     setsockopt(socket, IPPROTO_TCP, TCP_NODELAY, &on, sizeof on);
+    setsockopt(socket, SOL_SOCKET, SO_SNDBUF, &room, sizeof room);
     struct link *link = &links[s];
     memcpy(link->peer, peer, sizeof peer);
     link->socket = socket;

@@ -29,7 +29,8 @@ static const char HELP[] =
     "  --demo-seconds N       so many seconds between its bolts; 3 if not given\n"
     "  --journal FILE         every call as house records, which the program replay reads; an existing FILE is first\n"
     "                         renamed to FILE.1, FILE.2 and so on\n"
-    "  --journal-size BYTES   a journal that is longer is renamed in the same way, and a new one begun; 67108864 if not given\n"
+    "  --journal-size BYTES   a journal that is longer is renamed in the same way, and a new one begun; 67108864 if not given;\n"
+    "                         what was renamed is yours to remove\n"
     "  --tick-milliseconds N  for tests: a tick has so many milliseconds; 1000 if not given\n"
     "  --help                 this text\n"
     "\n"
@@ -195,7 +196,7 @@ static void run(struct timer tick, struct timer demo)
             return;
         links_serve(set + LINKS);
         tool_serve(set + TOOL_SET);
-        if (is_due(&tick))
+        while (is_due(&tick))
             call_tick();
         if (is_due(&demo))
             demo_step();

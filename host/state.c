@@ -77,7 +77,8 @@ static uint32_t read_state(void)
     return read_text(text, (size_t)length);
 }
 
-/* One host at a time: the lock stands on a file of its own, because the state file itself is replaced again and again. */
+/* One host at a time: the lock stands on a file of its own, because the state file itself is replaced again and again. It is held until
+   the program ends. */
 static void lock_state(void)
 {
     char name_locked[NAME_MAX + 1];
@@ -96,6 +97,8 @@ uint32_t state_open(const char *path, const uint32_t *fresh)
     struct stat found;
     state_path = path;
     name = name_in_folder(path);
+    if (*name == '\0')
+        fail("state %s is not the name of a file", path);
     folder = open_folder(path);
     if (folder < 0)
         fail("state %s: its folder cannot be opened: %s", path, strerror(errno));

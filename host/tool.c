@@ -47,10 +47,13 @@ void tool_record(const uint8_t *record, size_t length, char line[ANSWER_LINE])
         return;
     }
     snprintf(line, ANSWER_LINE, "0 %s, %.40s", text, taken);
-    if (little(record + 2, 2) == SERIFLADDER_TIGHTENING)
+    if (little(record + 2, 2) == SERIFLADDER_TIGHTENING) {
         say("tool: tightening %u, %s", last_number(), taken);
-    else
-        say("tool: identifier \"%.*s\", %s", NAME_LENGTH, (const char *)record + SERIFLADDER_RECORD_HEADER, taken);
+        return;
+    }
+    while (length > SERIFLADDER_RECORD_HEADER && record[length - 1] == ' ')
+        length--;
+    say("tool: identifier \"%.*s\", %s", (int)(length - SERIFLADDER_RECORD_HEADER), (const char *)record + SERIFLADDER_RECORD_HEADER, taken);
 }
 
 /* ---- a source */
@@ -133,12 +136,13 @@ static void receive(struct source *source)
     }
 }
 
-/* Sends the answers. Behind the last one of a source that is no longer read from, the connection is closed. */
+/* Sends the answers. A tool that has left takes none, but the records that it sent are still read. Behind the last answer the connection
+   is closed where nothing comes any more, and shut on our side where nothing is answered any more. */
 static void send_answers(struct source *source)
 {
     if (!waiting_send(&source->answers, source->descriptor))
-        close_source(source);
-    else if (source->answers.length == 0 && source->ended)
+        source->answers.length = 0;
+    if (source->answers.length == 0 && source->ended)
         close_source(source);
     else if (source->answers.length == 0 && source->skipping)
         shutdown(source->descriptor, SHUT_WR);
@@ -158,11 +162,11 @@ static void make_way(const struct sockaddr_un *address)
     if (!S_ISSOCK(found.st_mode))
         fail("tool %s is neither a FIFO nor a socket", tool_path);
     int asked = socket(AF_UNIX, SOCK_STREAM, 0);
-    if (asked >= 0 && connect(asked, (const struct sockaddr *)address, sizeof *address) == 0)
+    if (connect(asked, (const struct sockaddr *)address, sizeof *address) == 0)
         fail("tool %s is in use by another host", tool_path);
-    close(asked);
-    if (unlink(tool_path) != 0)
+    if (errno != ECONNREFUSED || unlink(tool_path) != 0)
         fail("tool %s cannot be replaced: %s", tool_path, strerror(errno));
+    close(asked);
 }
 
 static void remove_door(void)
@@ -203,11 +207,11 @@ static struct source *free_source(void)
     return NULL;
 }
 
-static void take_in(void)
+static void take_in(struct source *source)
 {
     int descriptor = accept(door, NULL, NULL);
     if (descriptor >= 0)
-        begin_source(free_source(), descriptor);
+        begin_source(source, descriptor);
     else if (errno != EAGAIN && errno != EWOULDBLOCK && errno != EINTR && errno != ECONNABORTED)
         say("tool: a connection cannot be taken: %s", strerror(errno));
 }
@@ -233,6 +237,6 @@ void tool_serve(const struct pollfd set[TOOL_POLLED])
         if (!fifo)
             send_answers(source);
     }
-    if (set[0].revents != 0)
-        take_in();
+    if (set[0].revents != 0 && free_source() != NULL)
+        take_in(free_source());
 }

@@ -68,6 +68,8 @@ enum {
     SERIFLADDER_CLOSE = 512  /* 512 + s, no payload: session s is closed, close its link */
 };
 
+/* The six calls. Behind each stand the numbers that it may answer besides 0 and 10. */
+
 /* Begins a history with a settings record: all sessions closed, no identifier in force. Takes any bytes as a table. Answers 1, 9. */
 uint64_t serifladder_start(uint8_t *table, size_t table_length, const uint8_t *settings, size_t settings_length,
                            uint8_t *answer, size_t answer_length);
