@@ -116,3 +116,25 @@ def log_lines(place):
                    if (match := re.search(r"Z session 0 127\.0\.0\.1:%d ([<>] \d{4})\b" % port, line))]
     wanted = ["< 0001", "> 0002", "< 0051", "> 0005", "< 0060", "> 0005", "> 0061", "< 0062", "< 9999", "> 9999"]
     equal(of_messages, wanted, "messages logged")
+
+
+@test
+def the_demo(place):
+    """--demo scans identifiers and tightens bolts of itself: results arrive in order, as a tool would have given them."""
+    host = place.host("--demo", "--demo-seconds", 1, tool=False)
+    server = place.server(host).subscribe()
+    numbers, identifiers = [], []
+    while len(numbers) < 3 or not identifiers:
+        frame = openprotocol.read(server.next())
+        if frame.mid == openprotocol.IDENTIFIER:
+            server.tell(openprotocol.ACKNOWLEDGE_IDENTIFIER)
+            identifiers.append(frame.fields["identifier"])
+        else:
+            equal(frame.mid, openprotocol.RESULT, "message")
+            server.tell(openprotocol.ACKNOWLEDGE_RESULT)
+            numbers.append(frame.fields["number"])
+            within = frame.fields["torque_min"] <= frame.fields["torque"] <= frame.fields["torque_max"]
+            equal(frame.fields["torque_status"] == 1, within, "torque status of %s" % frame.fields)
+    equal(numbers, list(range(numbers[0], numbers[0] + len(numbers))), "numbers")
+    check(identifiers[-1] != "", "an empty identifier")
+    place.finish(host, [server])
