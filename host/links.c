@@ -103,11 +103,12 @@ void links_send(unsigned session, const uint8_t *frame, size_t length)
     struct link *link = &links[session];
     if (link->failed != NULL)
         return;
-    say("session %u %s > %.4s", session, link->peer, (const char *)frame + 4);
-    if (waiting_add(&link->waiting, frame, length))
-        send_waiting(link);
-    else
+    if (!waiting_add(&link->waiting, frame, length)) {
         link->failed = "64 KiB wait for it, and it does not read";
+        return;
+    }
+    say("session %u %s > %.4s", session, link->peer, (const char *)frame + 4);
+    send_waiting(link);
 }
 
 /* ---- receiving */

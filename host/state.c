@@ -78,7 +78,7 @@ static void lock_state(void)
     if (lock < 0)
         fail("state %s: %s.lock cannot be opened: %s", state_path, state_path, strerror(errno));
     if (!lock_file(lock))
-        fail("state %s is in use by another host", state_path);
+        fail("state %s is in use by another host: %s.lock: %s", state_path, state_path, strerror(errno));
 }
 
 uint32_t state_open(const char *path, const uint32_t *fresh)
