@@ -14,8 +14,8 @@
 
 static const char *journal_path;
 static int file = -1;
-static bool regular = true;           /* a device or a FIFO is written as it stands, and never renamed */
-static uint64_t size, limit, part;    /* of FILE; when it is full; the greatest number of a part */
+static bool regular = true;        /* a device or a FIFO is written as it stands, and never renamed */
+static uint64_t size, limit, part; /* of FILE; when it is full; the greatest number of a part */
 
 static _Noreturn void cannot(const char *what)
 {
@@ -70,7 +70,7 @@ static void end_whole(off_t end)
     if (old == NULL)
         cannot("read");
     if (!lock_file(fileno(old)))
-        fail("journal %s is in use by another host", journal_path);
+        fail("journal %s is in use by another host: %s", journal_path, strerror(errno));
     while (fread(record, SERIFLADDER_RECORD_HEADER, 1, old) == 1) {
         size_t payload = (size_t)little(record, 2);
         if (payload > PAYLOAD_GREATEST) {

@@ -34,11 +34,6 @@ static void write_address(char text[INET_ADDRSTRLEN + 8], const struct sockaddr_
     snprintf(text, INET_ADDRSTRLEN + 8, "%s:%u", host, ntohs(address->sin_port));
 }
 
-static void say_of(const struct link *link, const char *what, const char *why)
-{
-    say("session %td %s %s%s", link - links, link->peer, what, why);
-}
-
 void links_listen(const struct sockaddr_in *address)
 {
     struct sockaddr_in real = *address;
@@ -62,7 +57,7 @@ void links_listen(const struct sockaddr_in *address)
 
 static void close_link(struct link *link, const char *why)
 {
-    say_of(link, "closed: ", why);
+    say("session %td %s closed: %s", link - links, link->peer, why);
     close(link->socket);
     link->socket = -1;
 }
@@ -108,11 +103,12 @@ void links_send(unsigned session, const uint8_t *frame, size_t length)
     struct link *link = &links[session];
     if (link->failed != NULL)
         return;
-    say("session %u %s > %.4s", session, link->peer, (const char *)frame + 4);
-    if (waiting_add(&link->waiting, frame, length))
-        send_waiting(link);
-    else
+    if (!waiting_add(&link->waiting, frame, length)) {
         link->failed = "64 KiB wait for it, and it does not read";
+        return;
+    }
+    say("session %u %s > %.4s", session, link->peer, (const char *)frame + 4);
+    send_waiting(link);
 }
 
 /* ---- receiving */
@@ -185,7 +181,7 @@ static void take_in(void)
     link->failed = NULL;
     link->waiting.length = 0;
     call_open(s);
-    say_of(link, "opened", "");
+    say("session %u %s opened", s, peer);
 }
 
 void links_poll(struct pollfd set[LINKS_POLLED])

@@ -3,6 +3,7 @@
 
 #include <arpa/inet.h>
 #include <errno.h>
+#include <fcntl.h>
 #include <signal.h>
 #include <stdarg.h>
 #include <stdio.h>
@@ -136,6 +137,16 @@ static void on_signal(int number)
     errno = kept;
 }
 
+/* Where a standard stream is closed, it is /dev/null from now on: the log must not end in a file or a link that took its place. */
+static void keep_standard_streams(void)
+{
+    int opened;
+    do
+        opened = open("/dev/null", O_RDWR);
+    while (opened >= 0 && opened <= STDERR_FILENO);
+    close(opened);
+}
+
 static void catch_signals(void)
 {
     struct sigaction ignore = { .sa_handler = SIG_IGN }, end = { .sa_handler = on_signal };
@@ -213,6 +224,7 @@ int main(int count, char **arguments)
     struct timer demo = { .period = given[DEMO] == NULL ? 0 : (int64_t)number_of(DEMO_SECONDS, 1, 86400, 3) * SECOND };
     struct sockaddr_in address = address_of(given[LISTEN] == NULL ? "127.0.0.1:4545" : given[LISTEN]);
 
+    keep_standard_streams();
     catch_signals();
     settings_read(given[SETTINGS], settings);
     uint32_t last = state_open(given[STATE], given[NEW_STATE] == NULL ? NULL : &fresh);

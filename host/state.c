@@ -12,8 +12,8 @@
 #include <unistd.h>
 
 enum { TEXT = 256 };
+#define BEGINNING "serifladder state\nlast tightening number "
 
-static const char BEGINNING[] = "serifladder state\nlast tightening number ";
 static const char *state_path, *name;
 static char name_beside[NAME_MAX + 1];
 static int folder;
@@ -32,7 +32,7 @@ static uint32_t check_sum(const char *bytes, size_t length)
 
 static size_t write_text(char text[TEXT], uint32_t number)
 {
-    int length = snprintf(text, TEXT, "%s%" PRIu32 "\n", BEGINNING, number);
+    int length = snprintf(text, TEXT, BEGINNING "%" PRIu32 "\n", number);
     return (size_t)(length + snprintf(text + length, TEXT - (size_t)length, "check sum %08" PRIx32 "\n",
                                       check_sum(text, (size_t)length)));
 }
@@ -43,38 +43,27 @@ static _Noreturn void damaged(const char *how)
          state_path, how);
 }
 
-/* The number of a text that is exactly what is written for it. */
-static uint32_t read_text(char *text, size_t length)
-{
-    char again[TEXT];
-    uint64_t number;
-    size_t from = strlen(BEGINNING);
-    char *line_end = NULL;
-    if (length < from || memcmp(text, BEGINNING, from) != 0 || (line_end = memchr(text + from, '\n', length - from)) == NULL)
-        damaged("it has not the form of a state file");
-    *line_end = '\0';
-    if (!read_number(text + from, UINT64_MAX, &number))
-        damaged("its number is none");
-    *line_end = '\n';
-    if (number > UINT32_MAX)
-        damaged("its number is greater than 4294967295");
-    size_t expected = write_text(again, (uint32_t)number);
-    if (length > expected && memcmp(text, again, expected) == 0)
-        damaged("bytes follow its end");
-    if (length != expected || memcmp(text, again, expected) != 0)
-        damaged("its check sum is wrong");
-    return (uint32_t)number;
-}
-
 static uint32_t read_state(void)
 {
-    char text[TEXT];
+    char text[TEXT + 1], expected[TEXT];
+    unsigned long long number;
     int file = openat(folder, name, O_RDONLY);
-    ssize_t length = file < 0 ? -1 : read(file, text, sizeof text);
-    if (length < 0)
+    ssize_t got = file < 0 ? -1 : read(file, text, TEXT);
+    if (got < 0)
         fail("state %s cannot be read: %s", state_path, strerror(errno));
     close(file);
-    return read_text(text, (size_t)length);
+    size_t length = (size_t)got;
+    text[length] = '\0';
+    if (sscanf(text, BEGINNING "%19llu", &number) != 1)
+        damaged("it has not the form of a state file");
+    if (number > UINT32_MAX)
+        damaged("its number is greater than 4294967295");
+    size_t whole = write_text(expected, (uint32_t)number);
+    if (length > whole && memcmp(text, expected, whole) == 0)
+        damaged("bytes follow its end");
+    if (length != whole || memcmp(text, expected, whole) != 0)
+        damaged("it is not what was written for its number");
+    return (uint32_t)number;
 }
 
 /* One host at a time: the lock stands on a file of its own, because the state file itself is replaced again and again. It is held until
@@ -89,7 +78,7 @@ static void lock_state(void)
     if (lock < 0)
         fail("state %s: %s.lock cannot be opened: %s", state_path, state_path, strerror(errno));
     if (!lock_file(lock))
-        fail("state %s is in use by another host", state_path);
+        fail("state %s is in use by another host: %s.lock: %s", state_path, state_path, strerror(errno));
 }
 
 uint32_t state_open(const char *path, const uint32_t *fresh)
