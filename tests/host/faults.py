@@ -15,6 +15,8 @@ import sys
 import tempfile
 import time
 
+import tracing
+
 HERE = os.path.dirname(os.path.abspath(__file__))
 ROOT = os.path.join(HERE, "..", "..")
 
@@ -49,9 +51,17 @@ FAULTS = [
      'link->failed = "64 KiB wait for it, and it does not read";', "link->waiting.length = 0;"),
     ("sessions not hung up at the end", "ended-by-a-signal", "main.c", "    links_end();\n", ""),
     ("no lock on the state", "a-state-in-use", "state.c", "if (!lock_file(lock))", "if (lock < 0)"),
+    ("what a slow reader is owed is forgotten", "a-peer-that-stops-reading", "common.c",
+     "    waiting->length -= sent;\n    memmove(waiting->bytes, waiting->bytes + sent, waiting->length);", "    waiting->length = 0;"),
+    ("a loop that never waits", "an-idle-host-rests", "links.c", "(links[s].waiting.length > 0 ? POLLOUT : 0)", "POLLOUT"),
     ("check sum not tested", "a-damaged-state", "state.c", "if (length != expected || memcmp(text, again, expected) != 0)",
      "if (length < expected)"),
 ]
+if tracing.possible():
+    FAULTS += [
+        ("state not synced", "killed-before-every-call-of-the-system", "state.c", " || fsync(file) != 0", ""),
+        ("folder of the state not synced", "killed-before-every-call-of-the-system", "state.c", " || fsync(folder) != 0", ""),
+    ]
 
 
 def planted(name, file, old, new, folder):

@@ -109,12 +109,18 @@ def result_fields(fields, number):
 # ---- the programs of a test
 
 class Host:
-    """A host that was started; it is ready when its port is known."""
+    """A host that was started; it is ready when its port is known. Its log goes to a file, if so wished through a pipe."""
 
-    def __init__(self, command, log_path, **how):
+    def __init__(self, command, log_path, piped=False, **how):
         self.log_path = log_path
+        self.pipe = None
         with open(log_path, "wb") as log:
-            self.process = subprocess.Popen(command, stdin=subprocess.DEVNULL, stdout=log, stderr=log, **how)
+            if piped:
+                self.pipe = subprocess.Popen(["cat"], stdin=subprocess.PIPE, stdout=log)
+            out = self.pipe.stdin if piped else log
+            self.process = subprocess.Popen(command, **{"stdin": subprocess.DEVNULL, "stdout": out, "stderr": out, **how})
+        if piped:
+            self.pipe.stdin.close()
         self.port = None
 
     def log(self):
@@ -138,9 +144,12 @@ class Host:
     def status(self):
         """The status with which it ends, once it has."""
         try:
-            return self.process.wait(SECONDS)
+            self.process.wait(SECONDS)
         except subprocess.TimeoutExpired:
             raise Wrong("the host did not end within %d s:\n%s" % (SECONDS, self.log())) from None
+        if self.pipe:
+            self.pipe.wait()
+        return self.process.returncode
 
     def end(self, number=signal.SIGTERM):
         self.process.send_signal(number)
@@ -149,6 +158,18 @@ class Host:
     def kill(self):
         self.process.kill()
         self.process.wait()
+        if self.pipe:
+            self.pipe.wait()
+
+    def files(self):
+        """How many descriptors it has open."""
+        return len(os.listdir("/proc/%d/fd" % self.process.pid))
+
+    def processor_seconds(self):
+        """How long it has been running on a processor."""
+        with open("/proc/%d/stat" % self.process.pid, encoding="ascii") as file:
+            fields = file.read().rpartition(")")[2].split()
+        return (int(fields[11]) + int(fields[12])) / os.sysconf("SC_CLK_TCK")
 
 
 class Link:

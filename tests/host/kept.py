@@ -1,15 +1,18 @@
 """The last number, as it is kept: through kill -9, full disks, damage, and a second host."""
 
+import contextlib
 import os
 import random
 import resource
+import select
 import shutil
 import stat
 import subprocess
 import zlib
 
-from harness import (BYTES, GREATEST_NUMBER, SETTINGS, TIGHTENING, Wrong, check, equal, history, openprotocol, test, tightening_fields,
-                     tightening_record, wait)
+import tracing
+from harness import (BYTES, GREATEST_NUMBER, SETTINGS, TIGHTENING, Wrong, check, equal, history, openprotocol, result_fields, test,
+                     tightening_fields, tightening_record, wait)
 
 
 def runs_of_the_host(records):
@@ -23,6 +26,29 @@ def runs_of_the_host(records):
     return runs
 
 
+def check_numbers(place, servers, begins):
+    """Each run of the host, to a server each, gave the tightenings from `begins` on under the numbers behind those of the run before: no
+    number twice, and none skipped but one that was kept when the host was killed, and not yet given."""
+    equal(place.host().end(), 0, "status")
+    runs = runs_of_the_host(place.journaled())
+    for i, (server, begin) in enumerate(zip(servers, begins)):
+        last, journaled = runs[i]
+        results = [frame.fields for run in server.seen if (frame := openprotocol.read(run)).mid == openprotocol.RESULT]
+        equal(results, [result_fields(tightening_fields(begin + k), last + 1 + k) for k in range(len(results))], "results of run %d" % i)
+        check(len(results) <= journaled, "run %d journaled %d tightenings, %d were seen", i, journaled, len(results))
+        check(last + journaled <= runs[i + 1][0] <= last + journaled + 1, "run %d began at %d and gave %d numbers, the next began at %d",
+              i, last, journaled, runs[i + 1][0])
+    place.check_journal(servers)
+
+
+def begin_run(place):
+    """A host, a server that is sent everything at once, and a tool."""
+    host = place.host()
+    server = place.server(host).subscribe(acknowledge=False)
+    server.reads_all = False
+    return host, server, place.tool()
+
+
 @test
 def killed_between_results(place):
     """After kill -9 and a restart numbers go on: no number twice, and none skipped but one that was kept and not yet given."""
@@ -30,11 +56,8 @@ def killed_between_results(place):
     servers, begins = [], []
     serial = 0
     for burst in [1] * 12 + [40] * 12:
-        host = place.host()
-        server = place.server(host).subscribe(acknowledge=False)
-        server.reads_all = False
+        host, server, tool = begin_run(place)
         servers.append(server)
-        tool = place.tool()
         begins.append(serial)
         tool.send(b"".join(tightening_record(tightening_fields(serial + i)) for i in range(burst)))
         for _ in range(source.randrange(burst) + 1):
@@ -42,42 +65,65 @@ def killed_between_results(place):
         host.kill()
         server.until_closed()
         serial += burst
-    place.host().end()
-    runs = runs_of_the_host(place.journaled())
-    for i, (server, begin) in enumerate(zip(servers, begins)):
-        last, journaled = runs[i]
-        results = [frame.fields for run in server.seen if (frame := openprotocol.read(run)).mid == openprotocol.RESULT]
-        equal([result["number"] for result in results], list(range(last + 1, last + 1 + len(results))), "numbers of run %d" % i)
-        equal([result["identifier"] for result in results], [tightening_fields(begin + k)["identifier"] for k in range(len(results))],
-              "identifiers of run %d" % i)
-        check(len(results) <= journaled, "run %d journaled %d tightenings, %d were seen", i, journaled, len(results))
-        check(last + journaled <= runs[i + 1][0] <= last + journaled + 1, "run %d began at %d and gave %d numbers, the next began at %d",
-              i, last, journaled, runs[i + 1][0])
-    place.check_journal(servers)
+    check_numbers(place, servers, begins)
+
+
+@test
+def killed_before_every_call_of_the_system(place):
+    """The same with the host killed before each call of the system that it makes for a tightening, one run for each. The number is on
+    the disk, and its folder with it, before anything is sent."""
+    if not tracing.possible():
+        place.said.append("not shown here: on x86-64 only")
+        return
+    servers, begins, answered = [], [], False
+    while not answered:
+        host, server, tool = begin_run(place)
+        servers.append(server)
+        begins.append(len(servers))
+        trace = tracing.Trace(host.process.pid)
+        tool.send(tightening_record(tightening_fields(len(servers))))
+        calls = []
+        while len(calls) < len(servers) and not answered:
+            calls.append(trace.next_call())
+            answered = select.select([tool.link], [], [], 0)[0] != []
+        host.kill()
+        server.until_closed()
+    kept = [call for call in calls if call in ("send", "sync", "rename")]
+    equal(kept[:4], ["sync", "rename", "sync", "send"], "calls that keep a number and send a result")
+    place.said.append("killed before %d calls" % len(servers))
+    check_numbers(place, servers, begins)
 
 
 # ---- disks that are full
+
+PAGE = os.sysconf("SC_PAGE_SIZE")
+
 
 def small_disk(place):
     """A folder that can be filled up, or None where no file system may be mounted."""
     path = place.path("disk")
     os.mkdir(path)
-    done = subprocess.run(["mount", "-t", "tmpfs", "-o", "size=64k", "serifladder", path], stderr=subprocess.DEVNULL, check=False)
+    done = subprocess.run(["mount", "-t", "tmpfs", "-o", "size=%d" % (16 * PAGE), "serifladder", path], stderr=subprocess.DEVNULL,
+                          check=False)
     if done.returncode != 0:
+        place.said.append("without the right to mount a small disk")
         return None
     place.undo.callback(subprocess.run, ["umount", path], check=True)
     return path
 
 
-def fill(folder):
-    with open(os.path.join(folder, "filler"), "wb", buffering=0) as file:
-        for size in (4096, 1):
-            try:
-                while True:
-                    file.write(b"x" * size)
-            except OSError:
-                pass
-    return file.name
+def fill(disk):
+    """Leaves no room on a disk but in the last pages of its files; answers what to remove to have room again."""
+    path = os.path.join(disk, "filler")
+    with open(path, "wb", buffering=0) as file, contextlib.suppress(OSError):
+        while True:
+            file.write(bytes(PAGE))
+    return path
+
+
+def limit_files(host, size):
+    """No file of the host may have more bytes from now on."""
+    resource.prlimit(host.process.pid, resource.RLIMIT_FSIZE, (size, size))
 
 
 def ends_without_a_word(place, host, server, tool, *words):
@@ -102,14 +148,13 @@ def no_room_for_the_state(place):
     server.tell(openprotocol.ACKNOWLEDGE_RESULT)
     equal(server.fence(), [], "something besides")
     if disk:
-        filler = fill(disk)
+        in_the_way = fill(disk)
     else:
-        # No file of the host may grow any more.
-        resource.prlimit(host.process.pid, resource.RLIMIT_FSIZE, (0, 0))
+        in_the_way = place.state + ".new"  # where the host writes before it renames
+        os.mkdir(in_the_way)
     tool.send(tightening_record(tightening_fields(2)))
     ends_without_a_word(place, host, server, tool, place.state)
-    if disk:
-        os.remove(filler)
+    (os.remove if disk else os.rmdir)(in_the_way)
     host = place.host()
     server = place.server(host).subscribe()
     place.tool().tighten(tightening_fields(3), "0")
@@ -135,19 +180,17 @@ def no_room_for_the_journal(place):
     disk = small_disk(place)
     if disk:
         place.journal = os.path.join(disk, "journal")
-    host = place.host()
+    host = place.host(piped=True)
     server = place.server(host).start()
     if disk:
         fill(disk)
     else:
-        resource.prlimit(host.process.pid, resource.RLIMIT_FSIZE, (5000, 5000))
+        limit_files(host, PAGE)
     mirrored = 0
-    try:
+    with contextlib.suppress(Wrong, ConnectionError):
         while server.open:
             server.fence()
             mirrored += 1
-    except (Wrong, ConnectionError):
-        pass
     ends_without_a_word(place, host, server, None, place.journal)
     journaled = sum(payload[4:8] == b"9999" for kind, payload in place.journaled() if kind == BYTES)
     check(mirrored > 10, "only %d messages had room in the journal: this shows too little", mirrored)
@@ -160,21 +203,22 @@ def a_tightening_that_is_not_journaled(place):
     disk = small_disk(place)
     if disk:
         place.journal = os.path.join(disk, "journal")
-    host = place.host()
+    host = place.host(piped=True)
     server = place.server(host).subscribe()
     tool = place.tool()
     if disk:
-        fill(disk)
-        # The journal's last page has some room yet: one record fills it up.
-        server.send(b"x" * (-os.path.getsize(place.journal) % 4096 - 4))
-        wait(lambda: os.path.getsize(place.journal) % 4096 == 0, "the journal's page is full")
+        filler = fill(disk)
     else:
-        size = os.path.getsize(place.journal)
-        resource.prlimit(host.process.pid, resource.RLIMIT_FSIZE, (size, size))
+        limit_files(host, PAGE)
+    # What room the journal has yet, records of bytes without an end fill up.
+    while room := -os.path.getsize(place.journal) % PAGE:
+        size = room if room <= 4096 else 2048
+        server.send(b"x" * (size - 4))
+        wait(lambda: -os.path.getsize(place.journal) % PAGE == room - size, "%d bytes less room in the journal" % size)
     tool.send(tightening_record(tightening_fields(1)))
     ends_without_a_word(place, host, server, tool, place.journal)
     if disk:
-        os.remove(os.path.join(disk, "filler"))
+        os.remove(filler)
     host = place.host()
     server = place.server(host).subscribe()
     place.tool().tighten(tightening_fields(2), "0")
@@ -188,7 +232,10 @@ def a_journal_that_takes_nothing(place):
     try:
         os.mknod(device, stat.S_IFCHR | 0o666, os.makedev(1, 7))
     except PermissionError:
-        device = "/dev/full"  # one who may not make a device can't rename this one
+        device = "/dev/full"
+        if os.access("/dev", os.W_OK):  # a wrong host could rename it
+            place.said.append("not shown here: no device can be made")
+            return
     host = place.start("--journal", device, journal=False)
     place.refused(host, 1, device)
     check(stat.S_ISCHR(os.lstat(device).st_mode), "%s was renamed", device)

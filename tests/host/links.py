@@ -1,11 +1,17 @@
 """Links: how bytes are cut, how many links there are, and how they end."""
 
+import contextlib
+import os
 import random
+import re
+import select
 import signal
 import socket
 import time
 
-from harness import BYTES, OPEN, TICK, check, equal, in_memory, message, test, tightening_fields, tightening_record, wait
+import harness
+from harness import (BYTES, OPEN, TICK, check, equal, identifier_record, in_memory, message, test, tightening_fields, tightening_record,
+                     wait)
 import openprotocol
 
 DIALOGUE = message(1) + message(51, revision=2) + message(60) + message(9999, rest=b"the-rest")
@@ -102,7 +108,7 @@ def silence_until_the_time_out(place):
     for quiet, session, spoken in ((silent, 1, BYTES + 1), (unstarted, 2, OPEN + 2)):
         # The other end speaks on while this one is waited for.
         quiet.link.settimeout(tick)
-        until = time.monotonic() + 60
+        until = time.monotonic() + harness.SECONDS
         while quiet.open:
             try:
                 quiet.open = quiet.link.recv(1) != b""
@@ -255,3 +261,61 @@ def garbage_and_floods(place):
     stranger.start()
     equal(stranger.fence(), [], "something besides")
     place.finish(host, [good, bad, stranger])
+
+
+@test
+def many_links_one_after_another(place):
+    """Links that come and go, in order and cut, and many at once beyond four, leave no descriptor behind."""
+    host = place.host()
+    steady = place.server(host).start()
+    equal(steady.fence(), [], "something besides")
+    files = host.files()
+    for i in range(100):
+        others = [place.server(host) for _ in range(8)]
+        others[0].start()
+        for other in others:
+            (other.cut if i % 2 else other.close)()
+        equal(steady.fence(), [], "something besides")
+        wait(lambda: host.files() == files, "as many descriptors as before, which are %d" % files)
+
+
+@test
+def an_idle_host_rests(place):
+    """While nothing is to be done, the host does not run: with servers and tools connected, gone, half gone, or not reading."""
+    host = place.host(tick=100)
+    place.server(host).start()
+    gone = place.server(host).start()
+    gone.cut()
+    late = place.server(host, receive_buffer=4096).start()
+    late.send(message(9999) * 3000)  # more than finds room in the buffers between, and less than has it hung up
+    full = place.tool()
+    full.link.settimeout(0)
+    with contextlib.suppress(BlockingIOError):
+        while True:
+            full.link.send(identifier_record("X") * 10)
+    half = place.tool()
+    half.link.shutdown(socket.SHUT_WR)
+    place.tool().send(b"\1")
+    before, ticks = host.processor_seconds(), place.ticks()
+    began = time.monotonic()
+    wait(lambda: place.ticks() >= ticks + 10, "ten ticks")
+    used, passed = host.processor_seconds() - before, time.monotonic() - began
+    check(used < passed / 2, "in %.1f s of rest the host ran %.1f s", passed, used)
+
+
+@test
+def a_log_that_nobody_reads(place):
+    """A log into a pipe that is full does not hold the host up."""
+    reader, writer = os.pipe()
+    place.undo.callback(os.close, reader)
+    host = place.start(stdout=writer, stderr=writer)
+    os.close(writer)
+    said = b""
+    while not (found := re.search(rb"listening on 127\.0\.0\.1:(\d+)\n", said)):
+        check(select.select([reader], [], [], harness.SECONDS)[0], "the host is not ready within %d s", harness.SECONDS)
+        said += os.read(reader, 1000)
+    host.port = int(found.group(1))
+    server = place.server(host).start()
+    for _ in range(3000):
+        equal(server.fence(), [], "something besides")
+    place.finish(host, [server])

@@ -56,7 +56,8 @@ def main():
     options = parser.parse_args()
     harness.SECONDS = options.seconds
     signal.signal(signal.SIGALRM, too_long)
-    signal.signal(signal.SIGTERM, lambda *_: sys.exit(1))  # so that what was started is ended
+    for number in (signal.SIGTERM, signal.SIGHUP):
+        signal.signal(number, lambda *_: sys.exit(1))  # so that what was started is ended
     named = {function.__name__.replace("_", "-"): function for function in harness.TESTS}
     if unknown := set(options.only or ()) - set(named):
         sys.exit("no such test: %s; there are %s" % (", ".join(unknown), ", ".join(named)))

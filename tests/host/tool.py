@@ -1,8 +1,13 @@
 """The tool's records over its Unix socket and over a FIFO."""
 
+import contextlib
 import os
+import random
+import re
+import socket
 import struct
 
+import harness
 from harness import (BYTES, GOOD_SETTINGS, HANG_UP, OPEN, SETTINGS, TICK, TIGHTENING, check, equal, history, identifier_record,
                      openprotocol, record, test, tightening_fields, tightening_record)
 
@@ -129,6 +134,93 @@ def several_tools(place):
 
 
 @test
+def more_tools_than_have_room(place):
+    """Further tools wait until others leave; none is turned away."""
+    host = place.host()
+    tools = [place.tool() for _ in range(30)]
+    for tool in tools:
+        tool.send(identifier_record("WAITING"))
+    for tool in tools:
+        equal(tool.answer(), "0 done, taken by none", "answer")
+        tool.close()
+    equal(host.log().count("WAITING"), len(tools), "identifiers logged")
+
+
+@test
+def a_tool_that_does_not_read(place):
+    """Its records wait, and other tools and servers go on; when it reads, it finds an answer to each, in order."""
+    host = place.host()
+    server = place.server(host).start()
+    server.accepted(openprotocol.SUBSCRIBE_RESULTS)
+    deaf, steady = place.tool(), place.tool()
+    deaf.link.settimeout(0)
+    data, sent = (identifier_record("DEAF") + record(5)) * 20000, 0
+    number = 0
+    for _ in range(20):
+        with contextlib.suppress(BlockingIOError):
+            while sent < len(data):
+                sent += deaf.link.send(data[sent:sent + 8192])
+        number += 1
+        steady.tighten(tightening_fields(number), "0")
+        server.expect_result(tightening_fields(number), number)
+        server.tell(openprotocol.ACKNOWLEDGE_RESULT)
+    check(sent < len(data), "%d bytes were taken: this shows nothing", sent)
+    deaf.link.settimeout(harness.SECONDS)
+    deaf.link.shutdown(socket.SHUT_WR)
+    answers = []
+    while (answer := deaf.answer()) is not None:
+        answers.append(answer)
+    whole, rest = divmod(sent, len(identifier_record("DEAF") + record(5)))
+    wanted = ["0 done, taken by none", BAD] * whole
+    wanted += ["0 done, taken by none"] if rest >= len(identifier_record("DEAF")) else []
+    equal(answers[:len(wanted)], wanted, "answers")
+    check(all("cut" in answer for answer in answers[len(wanted):]), "further answers: %s", answers[len(wanted):])
+
+
+@test
+def a_tool_that_leaves_at_once(place):
+    """What it has sent is done, whether it waits for the answers or not."""
+    host = place.host()
+    server = place.server(host).start()
+    server.accepted(openprotocol.SUBSCRIBE_RESULTS, byte_12=b"1")
+    number = 0
+    for count in (1, 2, 30):
+        tool = place.tool()
+        tool.send(b"".join(tightening_record(tightening_fields(number + 1 + i)) for i in range(count)))
+        tool.close()
+        for _ in range(count):
+            number += 1
+            server.expect_result(tightening_fields(number), number)
+    equal(server.fence(), [], "something besides")
+
+
+@test
+def garbage_from_tools(place):
+    """Whatever bytes come from tools, they are answered by lines, and a good record is taken as ever."""
+    host = place.host()
+    server = place.server(host).subscribe()
+    source = random.Random(5)
+    good = [tightening_record(tightening_fields(0)), identifier_record("GARBAGE")]
+    for _ in range(150):
+        tool = place.tool()
+        data = bytearray(b"".join(source.choice(good) for _ in range(source.randrange(4))) + source.randbytes(source.randrange(300)))
+        for _ in range(source.randrange(1, 8) if data else 0):
+            data[source.randrange(len(data))] = source.choice([0, 1, 2, 255, source.randrange(256)])
+        with contextlib.suppress(ConnectionError):
+            tool.send(data)
+            tool.link.shutdown(socket.SHUT_WR)
+        while (answer := tool.answer()) is not None:
+            check(re.match(r"0 done, taken by|7 tool record bad$|record ", answer), "answer to garbage: %r", answer)
+        tool.close()
+    equal(place.tool().give(identifier_record("GOOD")), "0 done, taken by 0", "answer to a good record")
+    runs = server.fence()
+    while openprotocol.read(runs[-1]).fields.get("identifier") != "GOOD":
+        server.tell(openprotocol.ACKNOWLEDGE_IDENTIFIER)
+        runs += server.fence()
+    place.finish(host, [server], place.replayed()[1])
+
+
+@test
 def what_stands_where_the_tools_socket_goes(place):
     """A socket file left by a host that was killed is replaced; a file, a folder, or the socket of a living host is not."""
     first = place.host()
@@ -178,5 +270,14 @@ def tool_records_over_a_fifo(place):
                     server.expect_result(tightening_fields(number), number)
             fifo.write(record(5))
         host.wait_for_log("(?s)" + ".*".join([BAD] * (writer + 1)))
+    for cut, words in ((tightening_record(tightening_fields(0))[:60], " cut"), (struct.pack("<HH", 8193, 1) + bytes(50), "too long")):
+        with open(place.tool_path, "wb", buffering=0) as fifo:
+            fifo.write(cut)
+        host.wait_for_log(words)
+        with open(place.tool_path, "wb", buffering=0) as fifo:
+            number += 1
+            fifo.write(tightening_record(tightening_fields(number)))
+            server.expect_result(tightening_fields(number), number)
+    equal(server.fence(), [], "something besides")
     place.finish(host, [server], [7] * 5)
     check(os.path.exists(place.tool_path), "the FIFO is gone, which was not the host's")

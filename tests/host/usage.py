@@ -1,6 +1,7 @@
 """How the host is started: the command line and the settings."""
 
 import os
+import random
 import socket
 
 from harness import CONTROLLER, GOOD_SETTINGS, Wrong, check, equal, openprotocol, test
@@ -93,6 +94,23 @@ def bad_settings(place):
     os.mkdir(place.settings)
     place.refused(place.start(), 1, place.settings)
     place.said.append("%d settings refused" % (len(cases) + len(good) + 3))
+
+
+@test
+def garbage_as_settings(place):
+    """Settings with bytes altered at random: a message with the file's name and status 1, or they are good; never anything else."""
+    source = random.Random(6)
+    for _ in range(200):
+        content = bytearray(GOOD_SETTINGS.encode("ascii") * source.randrange(1, 3))
+        for _ in range(source.randrange(1, 6)):
+            at = source.randrange(len(content))
+            content[at:at + source.randrange(3)] = source.randbytes(source.randrange(3))
+        with open(place.settings, "wb") as file:
+            file.write(content)
+        # There is no state, so that the host ends with status 1 in any case.
+        host = place.run("--settings", place.settings, "--state", place.state, "--listen", "127.0.0.1:0")
+        place.refused(host, 1)
+        check(place.settings in host.log() or place.state in host.log(), "settings %r: %s", content, host.log())
 
 
 @test

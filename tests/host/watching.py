@@ -30,7 +30,7 @@ class Watch:
 
 @test
 def watch_shows_results(place):
-    """tools/watch --count 3 shows an identifier and three results, and ends in order."""
+    """tools/watch --count 3 shows an identifier and three results, keeps the link alive between them, and ends in order."""
     host = place.host()
     tool = place.tool()
     watch = Watch(place, "--connect", "127.0.0.1:%d" % host.port, "--count", "3")
@@ -41,6 +41,7 @@ def watch_shows_results(place):
                               time="2026-01-31:12:34:56", tightening_status=1)
     tool.tighten(first, "0")
     tool.tighten({**first, "identifier": "", "tightening_status": 0, "torque": 2750, "torque_status": 2, "angle_status": 1}, "0")
+    host.wait_for_log("< 9999")  # it keeps the link alive while nothing comes
     tool.tighten(tightening_fields(3), "0")
     equal(watch.process.wait(harness.SECONDS), 0, "status of watch")
     lines = [" ".join(line.split()) for line in watch.lines()]
