@@ -7,6 +7,7 @@ find it.
 The host itself has to pass all those tests first. Exit status 0: every fault was found."""
 
 import argparse
+import multiprocessing
 import os
 import re
 import shutil
@@ -54,8 +55,8 @@ FAULTS = [
     ("what a slow reader is owed is forgotten", "a-peer-that-stops-reading", "common.c",
      "    waiting->length -= sent;\n    memmove(waiting->bytes, waiting->bytes + sent, waiting->length);", "    waiting->length = 0;"),
     ("a loop that never waits", "an-idle-host-rests", "links.c", "(links[s].waiting.length > 0 ? POLLOUT : 0)", "POLLOUT"),
-    ("check sum not tested", "a-damaged-state", "state.c", "if (length != expected || memcmp(text, again, expected) != 0)",
-     "if (length < expected)"),
+    ("check sum not tested", "a-damaged-state", "state.c", "if (length != whole || memcmp(text, expected, whole) != 0)",
+     "if (length < whole)"),
 ]
 if tracing.possible():
     FAULTS += [
@@ -64,25 +65,34 @@ if tracing.possible():
     ]
 
 
-def planted(name, file, old, new, folder):
-    """A copy of the host's sources with the fault."""
-    shutil.copytree(os.path.join(ROOT, "host"), folder)
-    path = os.path.join(folder, file)
-    with open(path, encoding="ascii") as source:
+def planted(name, file, old, new):
+    """The file of the host's sources with the fault."""
+    with open(os.path.join(ROOT, "host", file), encoding="ascii") as source:
         text = source.read()
     if text.count(old) != 1:
         sys.exit("'%s' can't be planted: host/%s has its place %d times" % (name, file, text.count(old)))
-    with open(path, "w", encoding="ascii") as source:
-        source.write(text.replace(old, new))
+    return text.replace(old, new)
 
 
-def sources_and_flags(folder):
-    """As the host's own Makefile has them."""
-    with open(os.path.join(ROOT, "host", "Makefile"), encoding="ascii") as file:
-        text = file.read()
-    names = re.search(r"^SOURCES := (.*)$", text, re.M).group(1).split()
-    flags = re.search(r"^STRICT := (.*)$", text, re.M).group(1).split()
-    return [*flags, "-O1", "-static", "-I", os.path.join(ROOT, "include"), *(os.path.join(folder, name) for name in names)]
+def build(program, file, text, options):
+    """The host with that file instead of its own, built as its Makefile says."""
+    folder = program + "-sources"
+    shutil.copytree(os.path.join(ROOT, "host"), folder)
+    with open(os.path.join(folder, file), "w", encoding="ascii") as source:
+        source.write(text)
+    with open(os.path.join(folder, "Makefile"), encoding="ascii") as makefile:
+        said = makefile.read()
+    names = re.search(r"^SOURCES := (.*)$", said, re.M).group(1).split()
+    flags = re.search(r"^STRICT := (.*)$", said, re.M).group(1).split()
+    sources = [os.path.join(folder, name) for name in names]
+    subprocess.run([options.compiler, *flags, "-O1", "-static", "-I", os.path.join(ROOT, "include"), *sources, options.archive,
+                    "-o", program], check=True)
+    if not options.runner:
+        return program
+    with open(program + "-run", "w", encoding="ascii") as wrapper:
+        wrapper.write('#!/bin/sh\nexec "%s" "%s" "$@"\n' % (os.path.abspath(options.runner), program))
+    os.chmod(program + "-run", 0o755)
+    return program + "-run"
 
 
 def run_tests(host, replay, names, *more):
@@ -90,6 +100,13 @@ def run_tests(host, replay, names, *more):
     command = [sys.executable, os.path.join(HERE, "run.py"), "--host", host, "--replay", replay, "--only", ",".join(names), *more]
     done = subprocess.run(command, stdout=subprocess.PIPE, encoding="utf-8", check=False)
     return done.returncode, done.stdout
+
+
+def find(arguments):
+    """Builds the host with a fault and runs the test that is to find it: the test, and what it said; None if it said nothing."""
+    program, (_, finder, file, _, _), text, options = arguments
+    status, printed = run_tests(build(program, file, text, options), options.replay, [finder], "--seconds", "5")
+    return finder, None if status == 0 else printed.partition("WRONG: ")[2].partition("\n")[0]
 
 
 def main():
@@ -101,27 +118,16 @@ def main():
     options = parser.parse_args()
     began = time.monotonic()
     faults = [fault for fault in FAULTS if not options.only or fault[0] in options.only]
+    texts = [planted(name, *edit) for name, _, *edit in faults]
     status, printed = run_tests(options.host, options.replay, sorted({finder for _, finder, *_ in faults}))
     if status != 0:
         sys.exit("the host itself does not pass:\n" + printed)
     missed = 0
-    with tempfile.TemporaryDirectory(prefix="serifladder-") as folder:
-        for i, (name, finder, *edit) in enumerate(faults):
-            sources = os.path.join(folder, "%d" % i)
-            planted(name, *edit, sources)
-            program = os.path.join(folder, "host-%d" % i)
-            command = [options.compiler, *sources_and_flags(sources), options.archive, "-o", program]
-            subprocess.run(command, check=True)
-            if options.runner:
-                wrapper = program + "-run"
-                with open(wrapper, "w", encoding="ascii") as file:
-                    file.write('#!/bin/sh\nexec "%s" "%s" "$@"\n' % (os.path.abspath(options.runner), program))
-                os.chmod(wrapper, 0o755)
-                program = wrapper
-            status, printed = run_tests(program, options.replay, [finder], "--seconds", "5")
-            missed += status == 0
-            difference = printed.partition("WRONG: ")[2].partition("\n")[0]
-            print("%-44s %s" % (name, "NOT FOUND by " + finder if status == 0 else "%s: %.90s" % (finder, difference)), flush=True)
+    with tempfile.TemporaryDirectory(prefix="serifladder-") as folder, multiprocessing.Pool(2) as pool:
+        work = [(os.path.join(folder, "host-%d" % i), fault, text, options) for i, (fault, text) in enumerate(zip(faults, texts))]
+        for (name, *_), (finder, difference) in zip(faults, pool.imap(find, work)):
+            missed += difference is None
+            print("%-42s %s" % (name, "NOT FOUND by " + finder if difference is None else "%s: %.70s" % (finder, difference)), flush=True)
     print("host-faults: %d of %d found, %.0f s" % (len(faults) - missed, len(faults), time.monotonic() - began))
     return 1 if missed else 0
 

@@ -8,6 +8,7 @@ import collections
 import contextlib
 import os
 import re
+import select
 import shutil
 import signal
 import socket
@@ -278,8 +279,10 @@ class Server(Link):
 
     def until_closed(self):
         """The runs that come before the host closes the link."""
-        while self.take():
-            pass
+        until = time.monotonic() + SECONDS
+        while self.open:
+            check(select.select([self.link], [], [], max(0, until - time.monotonic()))[0], "the host did not close a link within %d s", SECONDS)
+            self.take()
         runs = list(self.waiting)
         self.waiting.clear()
         return runs
