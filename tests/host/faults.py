@@ -21,19 +21,23 @@ import tracing
 HERE = os.path.dirname(os.path.abspath(__file__))
 ROOT = os.path.join(HERE, "..", "..")
 
+RECORD_SETTLED = """\
+    journal_record(journal_kind(kind), record + SERIFLADDER_RECORD_HEADER, length - SERIFLADDER_RECORD_HEADER);
+    carry_out(answer.written);
+"""
+
 # The fault, the test that finds it, the file, what stands there, and what is put in its place.
 FAULTS = [
     ("state not written", "killed-between-results", "calls.c", "state_keep(++last);", "++last;"),
     ("state written after sending", "no-room-for-the-state", "calls.c",
-     "state_keep(++last);\n    journal_record(journal_kind(kind), record + SERIFLADDER_RECORD_HEADER, length - SERIFLADDER_RECORD_HEADER);\n"
-     "    carry_out(answer.written);",
-     "++last;\n    journal_record(journal_kind(kind), record + SERIFLADDER_RECORD_HEADER, length - SERIFLADDER_RECORD_HEADER);\n"
-     "    carry_out(answer.written);\n    if (number == SERIFLADDER_DONE && kind == SERIFLADDER_TIGHTENING)\n        state_keep(last);"),
+     "state_keep(++last);\n" + RECORD_SETTLED,
+     "++last;\n" + RECORD_SETTLED + "    if (number == SERIFLADDER_DONE && kind == SERIFLADDER_TIGHTENING)\n        state_keep(last);\n"),
     ("journal written after sending", "no-room-for-the-journal", "calls.c",
      "    journal_record(kind, payload, length);\n    carry_out(answer.written);",
      "    carry_out(answer.written);\n    journal_record(kind, payload, length);"),
     ("a fifth let in", "four-servers-and-a-fifth", "links.c",
-     'say("%s closed: all four sessions are taken", peer);\n        close(socket);\n        return;', 'hang_up(&links[--s], "room is made");'),
+     'say("%s closed: all four sessions are taken", peer);\n        close(socket);\n        return;',
+     'hang_up(&links[--s], "room is made");'),
     ("rest of a slice not passed on", "many-messages-in-one-segment", "links.c",
      "for (size_t at = 0; at < (size_t)length && link->socket >= 0;) {", "for (size_t at = 0; at == 0 && link->socket >= 0;) {"),
     ("output of one session to another", "four-servers-and-a-fifth", "calls.c",

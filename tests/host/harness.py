@@ -281,7 +281,8 @@ class Server(Link):
         """The runs that come before the host closes the link."""
         until = time.monotonic() + SECONDS
         while self.open:
-            check(select.select([self.link], [], [], max(0, until - time.monotonic()))[0], "the host did not close a link within %d s", SECONDS)
+            ready = select.select([self.link], [], [], max(0, until - time.monotonic()))[0]
+            check(ready, "the host did not close a link within %d s", SECONDS)
             self.take()
         runs = list(self.waiting)
         self.waiting.clear()

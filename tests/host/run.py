@@ -3,7 +3,8 @@
 
     run.py --host PROGRAM --replay PROGRAM [--only NAME,NAME,..] [--count N] [--seconds N]
 
---count says how many results the load test sends, --seconds how long something is waited for that does not come. Prints a line for each test; status 0: all right."""
+--count says how many results the load test sends, --seconds how long something is waited for that does not come.
+Prints a line for each test. Exit status 0: all right."""
 
 import argparse
 import signal
@@ -12,15 +13,15 @@ import time
 import traceback
 
 import harness
-import load  # noqa: F401
-import ends  # noqa: F401
-import journal  # noqa: F401
-import kept  # noqa: F401
-import links  # noqa: F401
+import links  # noqa: F401, I001
 import notices  # noqa: F401
 import tool  # noqa: F401
+import journal  # noqa: F401
+import kept  # noqa: F401
 import usage  # noqa: F401
+import ends  # noqa: F401
 import watching  # noqa: F401
+import load  # noqa: F401
 
 WATCHDOG = 600  # seconds: no test takes so long, however slow the machine
 

@@ -8,7 +8,7 @@ import socket
 import struct
 
 import harness
-from harness import (BYTES, GOOD_SETTINGS, HANG_UP, OPEN, SETTINGS, TICK, TIGHTENING, check, equal, history, identifier_record,
+from harness import (BYTES, GOOD_SETTINGS, HANG_UP, OPEN, TICK, TIGHTENING, check, equal, history, identifier_record,
                      openprotocol, record, test, tightening_fields, tightening_record)
 
 BAD = "7 tool record bad"
