@@ -145,3 +145,48 @@ def without_a_journal(place):
     equal(host.end(), 0, "status")
     left = {name for name in os.listdir(place.folder) if not name.startswith(("log-", "state"))}
     equal(left, {"settings"}, "files")
+
+
+@test
+def a_journal_with_a_cut_end(place):
+    """What a power cut left of a last record is taken away at the next start, which says so; all parts replay as one."""
+    servers = []
+    for cut in (b"\x19", b"\x19\0", b"\x19\0\x30\0", tightening_record(tightening_fields(0))[:-1]):
+        host = place.host()
+        servers.append(place.server(host).start())
+        host.kill()
+        with open(place.journal, "ab") as file:
+            file.write(cut)
+        host = place.host()
+        host.wait_for_log("%d bytes" % len(cut))
+        servers.append(place.server(host).start())
+        equal(host.end(), 0, "status")
+    place.check_journal(servers)
+
+
+@test
+def a_journal_in_use(place):
+    """A journal that another host writes is left to it: status 1, and the message names the file."""
+    first = place.host()
+    state, tool_path = place.state, place.tool_path
+    place.state, place.tool_path = place.path("state-2"), place.path("tool-2")
+    place.refused(place.start(), 1, place.journal)
+    server = place.server(first).start()
+    equal(server.fence(), [], "something besides")
+    place.finish(first, [server])
+    place.state, place.tool_path = state, tool_path
+    equal(place.host().end(), 0, "status of a host that comes when the first is gone")
+
+
+@test
+def a_file_that_is_no_journal(place):
+    """It is put aside as it is."""
+    other = b"not a journal, but something that somebody may need yet\n"
+    with open(place.journal, "wb") as file:
+        file.write(other)
+    equal(place.host().end(), 0, "status")
+    equal([os.path.basename(path) for path in place.journal_parts()], ["journal.1", "journal"], "files")
+    with open(place.journal_parts()[0], "rb") as file:
+        equal(file.read(), other, "the file put aside")
+    with open(place.journal, "rb") as file:
+        equal([kind for kind, _ in history.split(file.read())[0]], [SETTINGS], "kinds of records in the new journal")

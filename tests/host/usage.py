@@ -1,10 +1,11 @@
 """How the host is started: the command line and the settings."""
 
+import contextlib
 import os
 import random
 import socket
 
-from harness import CONTROLLER, GOOD_SETTINGS, Wrong, check, equal, openprotocol, test
+from harness import CONTROLLER, GOOD_SETTINGS, Wrong, check, equal, openprotocol, test, tightening_fields, wait
 
 OPTIONS = ["--settings", "--state", "--new-state", "--listen", "--tool", "--demo", "--demo-seconds", "--journal", "--journal-size",
            "--tick-milliseconds", "--help"]
@@ -145,3 +146,33 @@ def an_address_in_use(place):
     with socket.create_server(("127.0.0.1", 0)) as taken:
         address = "127.0.0.1:%d" % taken.getsockname()[1]
         place.refused(place.start("--listen", address), 1, address)
+
+
+@test
+def the_usual_address(place):
+    """Without --listen it is 127.0.0.1:4545, be it free or not."""
+    host = place.run("--settings", place.settings, "--state", place.state, "--new-state", 0)
+    host.wait_for_log(r"listen on 127\.0\.0\.1:4545|listening on 127\.0\.0\.1:4545")
+
+
+@test
+def closed_standard_streams(place):
+    """A host that is started without standard input, output and error writes its log into no other file or link."""
+    with socket.create_server(("127.0.0.1", 0)) as free:
+        port = free.getsockname()[1]
+    host = place.start("--listen", "127.0.0.1:%d" % port, preexec_fn=lambda: os.closerange(0, 3))
+    host.port = port
+
+    def connected():
+        check(host.process.poll() is None, "the host ended with status %s", host.process.returncode)
+        with contextlib.suppress(ConnectionError):
+            return place.server(host)
+        return None
+
+    server = wait(connected, "a host that listens").subscribe()
+    place.tool().tighten(tightening_fields(1), "0")
+    server.expect_result(tightening_fields(1), 1)
+    equal(server.fence(), [], "something besides")
+    place.finish(host, [server])
+    equal(host.log(), "", "log")
+    equal(place.host().end(), 0, "status of a further run on the same state")
