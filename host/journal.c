@@ -60,8 +60,8 @@ static void put_aside(void)
         cannot("renamed");
 }
 
-/* An earlier journal whose last write was cut, by a power cut say, loses that record, so that what follows it can be read. Its output
-   never went out. A file that is no journal is left as it is. */
+/* An earlier journal whose last write was cut, by a power cut say, loses the cut record, so that what follows it can be read. A file that
+   is no journal is left as it is. */
 static void end_whole(off_t end)
 {
     uint8_t record[RECORD_GREATEST];
