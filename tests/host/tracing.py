@@ -3,6 +3,7 @@
 import ctypes
 import os
 import signal
+import subprocess
 
 NAMES = {44: "send", 74: "sync", 75: "sync", 82: "rename", 264: "rename", 316: "rename"}
 
@@ -15,10 +16,6 @@ NOT_YET_ANSWERED = -38  # what stands for a call's answer before the call is mad
 library = ctypes.CDLL(None, use_errno=True)
 library.ptrace.argtypes = [ctypes.c_long] * 4
 library.ptrace.restype = ctypes.c_long
-
-
-def possible():
-    return os.uname().machine == "x86_64"
 
 
 class Trace:
@@ -45,3 +42,17 @@ class Trace:
             if os.WSTOPSIG(status) == CALL_STOP and self.ask(PEEK_USER, RAX) == NOT_YET_ANSWERED:
                 number = self.ask(PEEK_USER, CALL_NUMBER)
                 return NAMES.get(number, number)
+
+
+def possible():
+    """Whether the host can be traced here."""
+    if os.uname().machine != "x86_64":
+        return False
+    with subprocess.Popen(["sleep", "60"]) as process:
+        try:
+            Trace(process.pid)
+            return True
+        except OSError:
+            return False
+        finally:
+            process.kill()

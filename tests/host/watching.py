@@ -2,9 +2,11 @@
 
 import os
 import signal
+import socket
 import subprocess
 
 import harness
+import openprotocol
 from harness import ROOT, check, equal, test, tightening_fields, wait
 
 
@@ -79,3 +81,54 @@ def watch_waits_and_comes_back(place):
     place.wait_for_hang_up(0)
     messages = [line.split(" < ")[1][:4] for line in host.log().splitlines() if " < " in line]
     equal(messages[-3:], ["0063", "0054", "0003"], "messages with which watch ends")
+
+
+def frame(mid, layout, byte_12=b" ", **values):
+    """A frame of a controller, by its layout; values that are not named are 0 or empty."""
+    data = b""
+    for i, (name, width, sort) in enumerate(layout, 1):
+        value = values.get(name, 0 if sort is int else "")
+        data += b"%02d" % i + (b"%0*d" % (width, value) if sort is int else value.encode("ascii").ljust(width))
+    return openprotocol.message(mid, byte_12=byte_12, data=data)
+
+
+@test
+def watch_with_another_controller(place):
+    """Frames that come byte by byte are shown; a copy of a result is acknowledged and not shown again; after a refusal, or something
+    that is no frame, watch says so and connects again."""
+    started = frame(openprotocol.STARTED, openprotocol.CONTROLLER, name="OTHER")
+    results = [frame(openprotocol.RESULT, openprotocol.RESULT_FIELDS, b"0", number=number, tightening_status=1) for number in (7, 7, 8)]
+    with socket.create_server(("127.0.0.1", 0)) as door:
+        door.settimeout(harness.SECONDS)
+        watch = Watch(place, "--connect", "127.0.0.1:%d" % door.getsockname()[1])
+
+        def accept():
+            link = harness.Link(door.accept()[0])
+            link.link.setsockopt(socket.IPPROTO_TCP, socket.TCP_NODELAY, 1)
+            place.links.callback(link.close)
+            expect(link, openprotocol.START)
+            return link
+
+        def expect(link, *mids):
+            wanted = b"".join(openprotocol.message(mid) for mid in mids)
+            got = b""
+            while len(got) < len(wanted) and (more := link.receive()):
+                got += more
+            equal(got, wanted, "what watch sends")
+
+        link = accept()
+        for byte in started:
+            link.send(bytes([byte]))
+        expect(link, openprotocol.SUBSCRIBE_IDENTIFIERS, openprotocol.SUBSCRIBE_RESULTS)
+        for result in results:
+            link.send(result)
+            expect(link, openprotocol.ACKNOWLEDGE_RESULT)
+        watch.wait_for("result 8 ")
+        equal(sum("result 7 " in line for line in watch.lines()), 1, "how often result 7 is shown")
+        link.send(b"no frame\0")
+        watch.wait_for("link lost: not a frame of the controller")
+        link = accept()
+        link.send(openprotocol.message(openprotocol.REFUSED, data=b"000197"))
+        watch.wait_for("link lost: 0001 refused with error 97, revision not supported")
+        accept().close()
+        watch.wait_for("link lost: closed by the controller")
