@@ -28,12 +28,11 @@ SVG = "{http://www.w3.org/2000/svg}"
 SECONDS = 60  # more than any picture needs
 SEEDS = range(1, 11)
 
-SUBSCRIBED = """settings 12 3 1 "LINE4" 0
-open 0
-bytes 0 "00200001001         \\0"
-bytes 0 "002000600010        \\0"
-"""
-TICKS = 'tick 10\nbytes 0 "00209999            \\0"\n' * 2
+START = 'settings 12 3 1 "LINE4" 0\n'
+SUBSCRIBE = 'open 0\nbytes 0 "00200001001         \\0"\nbytes 0 "002000600010        \\0"\n'
+SUBSCRIBED = START + SUBSCRIBE
+KEEP_ALIVE = 'bytes 0 "00209999            \\0"\n'
+TWENTY_TICKS = ("tick 10\n" + KEEP_ALIVE) * 2
 
 program = None
 
@@ -146,7 +145,7 @@ def test_line_feeds():
 
 
 def test_seconds():
-    """Rows and folds account for every second; what a tick did is a notice or a close."""
+    """Rows and folds account for every second: a tick is folded, or it sent something."""
     for name, data in [("came-back", made(read(STORY))), ("seed 3", generate.generate(3)), ("seed 8", generate.generate(8))]:
         at, fold = 0, 0
         for second, rails, label in rows(draw(data)):
@@ -154,9 +153,8 @@ def test_seconds():
                 fold = rails
             elif second != "-":
                 now = int(second.split()[0])
-                ticked = now - at - fold
-                if ticked not in (0, 1) or ticked and not re.search("00(52|61)|close", rails):
-                    raise AssertionError("%s: second %d does not follow %d with %d folded: %s" % (name, now, at, fold, label))
+                ticked = now > at and re.search("not acknowledged for|given up|for its silence", label) is not None
+                expect("%s: seconds folded before %d s, %s" % (name, now, label), fold, now - at - ticked)
                 at, fold = now, 0
         done = len([kind for kind, _ in history.split(data)[0] if kind == history.TICK])
         refused = sum(1 for label in labels(draw(data)) if label.startswith("tick: refused"))
@@ -217,9 +215,18 @@ def test_no_copies():
            ['notice 5: identifier "THIRD", sent as the one before is given up'])
 
 
+def test_copies_to_two():
+    """The same frame goes to two sessions twice: each has its own notice and its own copies."""
+    def of_one(lines):
+        return re.sub("(open|bytes) 0", r"\1 1", lines)
+
+    data = made(SUBSCRIBED + of_one(SUBSCRIBE) + "tightening\n" + "".join(2 * ["tick 10\n", KEEP_ALIVE, of_one(KEEP_ALIVE)]))
+    expect("copies", copies_in(draw(data)), [(1, 1, 2), (2, 1, 2), (1, 2, 2), (2, 2, 2)])
+
+
 def test_copies_seen_from_later():
     """A window does not change the numbers."""
-    data = made(SUBSCRIBED + "tightening\n" + TICKS * 3)
+    data = made(SUBSCRIBED + "tightening\n" + TWENTY_TICKS * 3)
     expect("all", copies_in(draw(data)), [(1, 1, 4), (1, 2, 4), (1, 3, 4), (1, 4, 4)])
     expect("from second 30 to 45", copies_in(draw(data, "--from", "30", "--to", "45")), [(1, 3, 4)])
 
@@ -237,7 +244,7 @@ def test_refusals():
 
 def test_refused_bytes():
     """replay leaves the rest of a record once a run in it is refused."""
-    data = made('settings 12 3 1 "LINE4" 0\nbytes 0 "00200001001         \\0" "abc\\0" "de"\ntightening job=200\n')
+    data = made(START + 'bytes 0 "00200001001         \\0" "abc\\0" "de"\ntightening job=200\n')
     expect("labels", labels(draw(data))[1:], ["27 bytes; refused, 5: the session is closed", "0.00 Nm, OK; refused, 7: tool record bad"])
 
 
@@ -247,7 +254,7 @@ def test_before_a_start():
     expect("seconds", [second for second, _, _ in shown], ["-"] * 5 + ["0 s"] * 6 + ["", "1 s", "1 s"])
     refused = [label.rpartition("refused, ")[2][0] for _, _, label in shown[:5]]
     expect("refused with", "".join(refused), "22922")
-    expect("after the second start", shown[-1][2], "server 0 calls in")
+    expect("after the second start", shown[-1][1:], ("|             |<...open......", "server 0 calls in"))
 
 
 def test_cut_record():
@@ -293,7 +300,7 @@ def test_parts():
 
 def test_spread_run():
     """A run that came in several records stands where it ends; one that the link took with it is not joined with the next opening's."""
-    data = made('settings 12 3 1 "LINE4" 0\nopen 0\nbytes 0 "00200001001         \\0" "0020"\ntick\nbytes 0 "0060"\ntick 2\n'
+    data = made(START + 'open 0\nbytes 0 "00200001001         \\0" "0020"\ntick\nbytes 0 "0060"\ntick 2\n'
                 'bytes 0 "0010        \\0" "002099"\nhangup 0\nopen 0\nbytes 0 "00200001001         \\0"\n')
     expect("rows", [(second, label) for second, _, label in rows(draw(data))[2:]], [
         ("0 s", "communication start"), ("0 s", "communication started"), ("", ""),
@@ -304,7 +311,7 @@ def test_spread_run():
 
 def test_order_in_a_record():
     """Several messages in one record: each answer stands behind its message."""
-    data = made('settings 12 3 1 "LINE4" 0\nopen 0\nbytes 0 "00200001001         \\0" "ab\\0" "00209999            \\0" "002000600010        \\0"\n')
+    data = made(START + 'open 0\nbytes 0 "00200001001         \\0" "ab\\0" "00209999            \\0" "002000600010        \\0"\n')
     arrows = [re.search("[0-9]{4}|run", rails).group() for _, rails, _ in rows(draw(data))[2:]]
     expect("arrows", arrows, ["0001", "0002", "run", "9999", "9999", "0060", "0005"])
 
@@ -370,9 +377,9 @@ def main(arguments):
         try:
             test()
             print("ladder: %-32s right" % name)
-        except AssertionError as error:
+        except Exception as error:  # whatever it is, the other tests are run too
             wrong += 1
-            print("ladder: %-32s WRONG\n%s" % (name, error))
+            print("ladder: %-32s WRONG\n%s: %s" % (name, type(error).__name__, error))
     print("ladder: %d right, %d wrong" % (len(tests) - wrong, wrong))
     return 1 if wrong else 0
 
