@@ -210,7 +210,8 @@ def test_no_copies():
     data = made(SUBSCRIBED + 'bytes 0 "002000510011        \\0"\n' + twice)
     expect("without acknowledge", copies_in(draw(data)), [(1, 1, 1), (2, 1, 1)])
     text = draw(vector("s13-identifier-repeats.txt"))
-    expect("two sessions", copies_in(text), [(1, 1, 6), (2, 1, 1), (3, 1, 1), (4, 1, 1)] + [(1, copy, 6) for copy in range(2, 7)] + [(5, 1, 1)])
+    expect("two sessions", copies_in(text),
+           [(1, 1, 6), (2, 1, 1), (3, 1, 1), (4, 1, 1)] + [(1, copy, 6) for copy in range(2, 7)] + [(5, 1, 1)])
     expect("the next", [label for label in labels(text) if "given up" in label],
            ['notice 5: identifier "THIRD", sent as the one before is given up'])
 
@@ -316,6 +317,14 @@ def test_order_in_a_record():
     expect("arrows", arrows, ["0001", "0002", "run", "9999", "9999", "0060", "0005"])
 
 
+def test_rails():
+    """A session's rail is dotted where it is closed, also behind the last row and at a window's end."""
+    data = made(START + "open 0\ntick 3\nhangup 0\ntick 5\n")
+    for options, folds in ((["--to", "2"], [".. 2 s .. : : :"]), (["--to", "3"], [".. 3 s .. : : :"]), ([], [".. 3 s .. : : :", ".. 5 s .. : : ."])):
+        shown = [" ".join(line.split()) for line in draw(data, *options).splitlines() if line.startswith("..")]
+        expect("folds %s" % options, shown, folds)
+
+
 def test_window():
     data = vector("s13-identifier-repeats.txt")
     text = draw(data, "--session", "1")
@@ -341,12 +350,14 @@ def script(folder, text):
 
 def test_faults():
     """A clear error, status 1 and no picture."""
-    data = made(SUBSCRIBED)
+    data = made(SUBSCRIBED + 'open 0\nbytes 1 "a\\0b\\0"\n')
     wrong = [
         ("cat > /dev/null", "its lines can't be told apart"),
         ("%s | sed '/^R 4/d'" % program, "its lines can't be told apart"),
         ("%s | sed '$d'" % program, "its lines can't be told apart"),
         ("%s | sed 's/^R 9/R 7/'" % program, "its lines can't be told apart"),
+        ("%s | sed 's/^R 9/R 8\\nR 9/'" % program, "more behind a refusal"),
+        ("%s | awk '!/^R 5/ || ! many++'" % program, "one behind it answered"),
         ("%s; echo R 5" % program, "went on where the run ends"),
         ("%s; echo hello" % program, "no line of it"),
         ("%s; exit 3" % program, "ended with status 3"),
