@@ -301,10 +301,10 @@ def test_parts():
 
 def test_spread_run():
     """A run that came in several records stands where it ends; one that the link took with it is not joined with the next opening's."""
-    data = made(START + 'open 0\nbytes 0 "00200001001         \\0" "0020"\ntick\nbytes 0 "0060"\ntick 2\n'
+    data = made(START + 'open 0\nbytes 0 "00200001001         \\0" "0020"\ntick\nbytes 0 "0060"\nbytes 0\ntick 2\n'
                 'bytes 0 "0010        \\0" "002099"\nhangup 0\nopen 0\nbytes 0 "00200001001         \\0"\n')
     expect("rows", [(second, label) for second, _, label in rows(draw(data))[2:]], [
-        ("0 s", "communication start"), ("0 s", "communication started"), ("", ""),
+        ("0 s", "communication start"), ("0 s", "communication started"), ("", ""), ("1 s", "none"), ("", ""),
         ("3 s", "subscribe to tightenings, in 3 parts from second 0 on"), ("3 s", "accepted: 0060"),
         ("3 s", "6 bytes of a run that did not end"), ("3 s", "the link of server 0 is gone"), ("3 s", "server 0 calls in"),
         ("3 s", "communication start"), ("3 s", "communication started")])
@@ -350,7 +350,7 @@ def script(folder, text):
 
 def test_faults():
     """A clear error, status 1 and no picture."""
-    data = made(SUBSCRIBED + 'open 0\nbytes 1 "a\\0b\\0"\n')
+    data = made(SUBSCRIBED + 'open 0\nbytes 1 "a\\0b\\0"\n') + made("tightening")[:50]
     wrong = [
         ("cat > /dev/null", "its lines can't be told apart"),
         ("%s | sed '/^R 4/d'" % program, "its lines can't be told apart"),
@@ -358,6 +358,7 @@ def test_faults():
         ("%s | sed 's/^R 9/R 7/'" % program, "its lines can't be told apart"),
         ("%s | sed 's/^R 9/R 8\\nR 9/'" % program, "more behind a refusal"),
         ("%s | awk '!/^R 5/ || ! many++'" % program, "one behind it answered"),
+        ("(cat; head -c 60 /dev/zero) | %s" % program, "went on where the run ends"),
         ("%s; echo R 5" % program, "went on where the run ends"),
         ("%s; echo hello" % program, "no line of it"),
         ("%s; exit 3" % program, "ended with status 3"),
