@@ -358,7 +358,7 @@ def test_faults():
         ("%s | sed 's/^R 9/R 7/'" % program, "its lines can't be told apart"),
         ("%s | sed 's/^R 9/R 8\\nR 9/'" % program, "more behind a refusal"),
         ("%s | awk '!/^R 5/ || ! many++'" % program, "one behind it answered"),
-        ("(cat; head -c 60 /dev/zero) | %s" % program, "went on where the run ends"),
+        ("(cat; head -c 60 /dev/zero | tr '\\0' z) | %s" % program, "went on where the run ends"),
         ("%s; echo R 5" % program, "went on where the run ends"),
         ("%s; echo hello" % program, "no line of it"),
         ("%s; exit 3" % program, "ended with status 3"),
