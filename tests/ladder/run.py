@@ -278,7 +278,7 @@ def test_too_long():
                                   "end: a record of 8193 bytes, longer than 8192, ends the run: 16393 bytes not read"])
 
 
-# ---- files, runs, windows
+# ---- files, runs, texts, windows
 
 
 def test_parts():
@@ -316,6 +316,16 @@ def test_order_in_a_record():
     data = made(START + 'open 0\nbytes 0 "00200001001         \\0" "ab\\0" "00209999            \\0" "002000600010        \\0"\n')
     arrows = [re.search("[0-9]{4}|run", rails).group() for _, rails, _ in rows(draw(data))[2:]]
     expect("arrows", arrows, ["0001", "0002", "run", "9999", "9999", "0060", "0005"])
+
+
+def test_texts():
+    """A text reads the same where it comes in and where it goes out, and what is no text is no risk for the picture."""
+    data = made(SUBSCRIBED + 'scan "BODY  7 <&>"\ntightening\nrecord 2 ' + (b"\x1b[2J" + b" " * 21).hex() + "\n")
+    expect("labels", labels(draw(data))[-4:], ['"BODY__7_<&>"', "0.00 Nm, OK", 'notice 1: tightening 1, "BODY__7_<&>", 0.00 Nm, OK',
+                                               '"\\x1b[2J"; refused, 7: tool record bad'])
+    shown = ["".join(text.itertext()) for text in xml.etree.ElementTree.fromstring(draw(data, "--svg")).iter(SVG + "text")]
+    expect("in the SVG", [text for text in shown if "BODY" in text],
+           ['identifier "BODY__7_<&>"', '0061 notice 1: tightening 1, "BODY__7_<&>", 0.00 Nm, OK'])
 
 
 def test_rails():
