@@ -331,7 +331,8 @@ def test_texts():
 def test_rails():
     """A session's rail is dotted where it is closed, also behind the last row and at a window's end."""
     data = made(START + "open 0\ntick 3\nhangup 0\ntick 5\n")
-    for options, folds in ((["--to", "2"], [".. 2 s .. : : :"]), (["--to", "3"], [".. 3 s .. : : :"]), ([], [".. 3 s .. : : :", ".. 5 s .. : : ."])):
+    open_fold, closed_fold = ".. 3 s .. : : :", ".. 5 s .. : : ."
+    for options, folds in ((["--to", "2"], [".. 2 s .. : : :"]), (["--to", "3"], [open_fold]), ([], [open_fold, closed_fold])):
         shown = [" ".join(line.split()) for line in draw(data, *options).splitlines() if line.startswith("..")]
         expect("folds %s" % options, shown, folds)
 
