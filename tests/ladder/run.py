@@ -140,7 +140,7 @@ def test_line_feeds():
     picture = draw(data, "--svg")
     expect("lines", printed_in(picture), lines_of_replay(data))
     expect("frames and refusal", [label for label in labels(draw(data))][-5:], [
-        "keep alive", "keep alive, the same bytes back", "keep alive", "keep alive, the same bytes back",
+        "keep alive", "the same bytes back", "keep alive", "the same bytes back",
         "server 0 calls in; refused, 6: the session is open already"])
 
 
