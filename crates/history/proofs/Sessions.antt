@@ -443,11 +443,13 @@ module _ (st : Settings) (k : ℕ) (R : Reading) where
   opening-steps (opened i run) c l = absurd (true≢false (sym c))
   opening-steps (started i run subs) c l = absurd (true≢false (sym c))
 
-  pub hang-up-steps : (x : Session) → Like R x → Steps st k (R .run) none true false false R x (step st hang-up x)
-  hang-up-steps closed l = steps-by (closed, []) silence refl refl (refl, λ kind. refl) (λ kind h. rest (le-refl k)) refl
-  hang-up-steps (opened i run) l = steps-by (closed, []) silence refl refl (refl, λ kind. refl) (λ kind h. rest (le-refl k)) refl
-  hang-up-steps (started i run subs) l =
+  -- b: it is this session's
+  pub hang-up-steps : (b : Bool) (x : Session) → Like R x → Steps st k (R .run) none b false false R x (step st (cond b hang-up elsewhere) x)
+  hang-up-steps true closed l = steps-by (closed, []) silence refl refl (refl, λ kind. refl) (λ kind h. rest (le-refl k)) refl
+  hang-up-steps true (opened i run) l = steps-by (closed, []) silence refl refl (refl, λ kind. refl) (λ kind h. rest (le-refl k)) refl
+  hang-up-steps true (started i run subs) l =
       steps-by (closed, []) silence refl refl (refl, λ kind. refl) (λ kind h. wiped (newest kind) st k false (getD subs kind unsubscribed)) refl
+  hang-up-steps false x l = elsewhere-steps x l
 
   abbrev shut : Signals
   shut = record { closes = true; welcomes = false; accepts = λ mid. false }

@@ -147,12 +147,8 @@ module _ (w : World) (past : List Turn) (size : length (w .sessions) ≡ 4) (lik
       → Moves st (shared-of w) w past (done (hang-up-session t) (hangs-up-moment t ∷ []) consumed written taken) (next-world w (hangs-up-moment t))
   hang-up-moves t consumed written taken =
       quiet-moves w past size like (hangs-up-moment t) (done (hang-up-session t) (hangs-up-moment t ∷ []) consumed written taken) refl refl refl
-      (length-row (each w (hangs-up-moment t)) 0 (w .sessions)) refl (λ s. false) (λ s h. go s h (eqb s t))
-    where
-      go : (s : ℕ) → s < 4 → (b : Bool)
-          → Steps st (w .events) (run s past) none b false false (R s) (session-at w s) (session-step st (cond b hang-up elsewhere) (session-at w s))
-      go s h true = hang-up-steps st (w .events) (R s) (session-at w s) (like s h)
-      go s h false = elsewhere-steps st (w .events) (R s) (session-at w s) (like s h)
+      (length-row (each w (hangs-up-moment t)) 0 (w .sessions)) refl (λ s. false)
+      (λ s h. hang-up-steps st (w .events) (R s) (eqb s t) (session-at w s) (like s h))
 
   tick-moves : (consumed written taken : ℕ) → Moves st (shared-of w) w past (done one-tick (ticks ∷ []) consumed written taken) (next-world w ticks)
   tick-moves consumed written taken =
