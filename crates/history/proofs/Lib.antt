@@ -1,3 +1,4 @@
+pub mod Output
 pub mod Subscriptions
 pub mod Signals
 pub mod Sessions
