@@ -7,3 +7,4 @@ pub mod Turns
 pub mod Frames
 pub mod Replies
 pub mod Product
+pub mod Cases
