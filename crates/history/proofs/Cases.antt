@@ -43,7 +43,7 @@ call-in slice = call-of (little (places 3 4 slice)) slice
 
 -- what the model answers and writes when these calls are made, the first of them a start, and each is lent a table and an output that
 -- are long enough
-abbrev long-enough : Lent
+abbrev pub long-enough : Lent
 long-enough = record { table = table-least; well-formed = true; output = output-least }
 
 abbrev pub played : List Call → List (Answer × List ℕ)

@@ -8,3 +8,4 @@ pub mod Frames
 pub mod Replies
 pub mod Product
 pub mod Cases
+pub mod Examples
