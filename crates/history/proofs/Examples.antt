@@ -1,6 +1,6 @@
 -- The words in which demand 3 is read off calls, on small histories, computed. Each is session 0, started and subscribed to tightenings with
 -- acknowledge, and a tightening that goes out to it; then what a row says. Assumes nothing.
-use Prim.Native.Nat.{ℕ, zero, suc}
+use Prim.Native.Nat.{ℕ, zero, suc, _/_, _%_}
 use mathlib.Core.Path.{_≡_, refl}
 use mathlib.Core.Bool.{Bool, true, false}
 use mathlib.Core.List.{List, [], _∷_, _++_, map}
@@ -11,8 +11,8 @@ use Rattle.model.specs.Records.{Settings, payload, settings-of}
 use Rattle.model.specs.Events.{tightenings}
 use Rattle.model.specs.World.{begun}
 use Rattle.model.specs.Calls.{Call, Lent}
-use Rattle.model.proofs.Histories.{a-tightening, scan, opened, hung-up, sends, tick, ticks, line4, told, alive, outcome}
-use Rattle.watch.specs.Marks.{Mark, copies, tick-count, T}
+use Rattle.model.proofs.Histories.{a-tightening, scan, opened, hung-up, sends, tick, ticks, line4, told, outcome}
+use Rattle.watch.specs.Marks.{Mark, copies, T}
 use Rattle.history.specs.Turns.{longest-wait, turns}
 use Rattle.history.specs.Demand.{marks}
 use Rattle.history.specs.Output.{read-output}
@@ -40,10 +40,19 @@ all-of h = marks-of (beginning ++ map made h)
 abbrev later : List (List ℕ) → List Mark
 later h = drop 4 (all-of h)
 
+-- so many times fourteen ticks, each time with a message after them that gets no reply
+abbrev fourteens : ℕ → List (List ℕ)
+fourteens zero = []
+fourteens (suc n) = ticks 14 ++ sends 0 "00200053001_________" ∷ fourteens n
+
+-- so many ticks, and the session does not time out
+abbrev stands : ℕ → List (List ℕ)
+stands n = fourteens (n / 14) ++ ticks (n % 14)
+
 -- ==== 01, case (j): the ticks that the notice stood open, and its copies
 
 abbrev stood : ℕ → List ℕ
-stood n = T (later (alive n)) ∷ copies 0 (all-of (alive n)) ∷ []
+stood n = T (later (stands n)) ∷ copies 0 (all-of (stands n)) ∷ []
 
 pub the-copies : map stood (19 ∷ 20 ∷ 99 ∷ 100 ∷ 120 ∷ 130 ∷ [])
     ≡ (19 ∷ 1 ∷ []) ∷ (20 ∷ 2 ∷ []) ∷ (99 ∷ 5 ∷ []) ∷ (100 ∷ 6 ∷ []) ∷ (120 ∷ 6 ∷ []) ∷ (120 ∷ 6 ∷ []) ∷ []
@@ -52,17 +61,10 @@ the-copies = refl
 
 -- ==== 840: eight are taken, and none is acknowledged. The eighth goes out by that tick, and not by the one before
 
--- so many times fourteen ticks, each time with a message after them that gets no reply
-abbrev fourteens : ℕ → List (List ℕ)
-fourteens zero = []
-fourteens (suc n) = ticks 14 ++ sends 0 "00200053001_________" ∷ fourteens n
+abbrev of-the-eighth : ℕ → ℕ
+of-the-eighth n = copies 7 (all-of (replicate 7 a-tightening ++ stands n))
 
-abbrev eight-taken : List (List ℕ) → List Mark
-eight-taken h = all-of (replicate 7 a-tightening ++ h)
-
-pub the-longest-wait :
-    map (λ h. copies 7 (eight-taken h) ∷ tick-count (eight-taken h) ∷ []) ((fourteens 59 ++ ticks 13) ∷ (fourteens 59 ++ ticks 14) ∷ [])
-    ≡ (0 ∷ 839 ∷ []) ∷ (1 ∷ longest-wait ∷ []) ∷ []
+pub the-longest-wait : map of-the-eighth (839 ∷ longest-wait ∷ []) ≡ 0 ∷ 1 ∷ []
 unfolding outcome
 the-longest-wait = refl
 
