@@ -2,30 +2,30 @@
 -- Assumes nothing.
 use Prim.Native.Nat.{ℕ, zero, suc, _+_, _*_, _≤_, _<_}
 use mathlib.Core.Path.{_≡_, refl, sym, _∙_, ap, subst}
-use mathlib.Core.Bool.{Bool, true, false, cond, _&&_, true≢false}
+use mathlib.Core.Bool.{Bool, true, false, cond, true≢false}
 use mathlib.Core.List.{List, [], _∷_, _++_, map, append-nil}
 use mathlib.Core.Option.{Option, none, some}
 use native.Mathlib.Omega.{arith}
 use lib.Dec.{eqb, eqb·suc-zero}
-use lib.ListN.{length, getD, length-map, length-append}
+use lib.ListN.{length, length-map, length-append}
 use borrow.Author.Tests.{eqb-true}
 use Rattle.model.specs.Limits.{idle-limit}
 use Rattle.model.specs.Records.{Settings, Tool, scanned, tightening, read-tool}
 use Rattle.model.specs.Runs.{Run, empty-run, longer, Piece, cut, Message, read-run}
 use Rattle.model.specs.Messages.{Effect, starts, stops, identifies, subscribes, unsubscribes, acknowledges as acknowledging, mirrors, Entry, entry-of, gets-reply, Error, code}
-use Rattle.model.specs.Events.{Event, identified, tightened, kind-of, Notice, identifiers, tightenings, identifier-of}
+use Rattle.model.specs.Events.{Event, identified, tightened, kind-of, Notice, identifier-of}
 use Rattle.model.specs.Frames.{frame-0004, frame-0005}
 use Rattle.model.specs.Notices.{Subscription, unsubscribed, Deed, beats, news, asks, drops, acks}
 use Rattle.model.specs.Row.{Tagged, tag, said, pick}
 use Rattle.model.specs.Session.{Session, closed, opened, started, is-closed, Copy, Emission, reply, copy, close, deal, dealt, only}
 use Rattle.model.specs.Hearing.{message-error, started-standing, opened-standing, error-reply, carry-out, judged, begin}
-use Rattle.model.specs.Steps.{end-run, end-run-opened, Local, opening, hang-up, receives, tick, event, elsewhere, step, announces}
+use Rattle.model.specs.Steps.{end-run, end-run-opened, opening, hang-up, receives, tick, event, elsewhere, step, announces}
 use Rattle.model.specs.World.{World, session-at, Moment, opens as opens-moment, hangs-up as hangs-up-moment, hears, ticks, happens, each, begun, next as next-world, emits, emitted}
 use Rattle.model.specs.Calls.{Call, start, open-session, hang-up-session, bytes, one-tick, tool, Lent, refusal, told, reported, answered, step as call-step}
 use Rattle.model.proofs.RowLaws.{pick-append, length-row}
 use Rattle.model.proofs.Sessions.{session-next, session-emits}
 use Rattle.watch.specs.Marks.{Every, taken, all-sent}
-use Rattle.watch.specs.Course.{Queue, empty as none-waits, Course}
+use Rattle.watch.specs.Course.{empty as none-waits, Course}
 use Rattle.watch.proofs.Histories.{course-before}
 use Rattle.watch.proofs.Theorem.{few}
 use Rattle.history.specs.Turns.{Turn, turn, turns, is-start, opens, frames-in, frames-to}

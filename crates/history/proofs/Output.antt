@@ -4,16 +4,16 @@ use Prim.Native.Nat.{ℕ, zero, suc, _+_, _-_, _*_, _/_, _%_, _≤_, _<_}
 use mathlib.Core.Path.{_≡_, refl, sym, _∙_, ap, ap₂}
 use mathlib.Core.Bool.{Bool, true, false, cond}
 use mathlib.Core.List.{List, [], _∷_, _++_, map}
-use mathlib.Core.Option.{Option, none, some}
+use mathlib.Core.Option.{none, some}
 use native.Mathlib.Omega.{arith}
 use lib.Dec.{leb, eqb}
-use lib.ListN.{length, take, drop, length-append, length-map}
+use lib.ListN.{length, take, drop, length-append}
 use lib.Seq.{take-at, drop-at}
 use borrow.Author.Tests.{eqb-true, eqb-false, eq-eqb, ne-eqb, le-leb}
-use Rattle.model.specs.Bytes.{NUL, in-bytes, places, little}
+use Rattle.model.specs.Bytes.{NUL, in-bytes}
 use Rattle.model.specs.Records.{house-record}
 use Rattle.model.specs.Frames.{frame-record, close-record}
-use Rattle.model.specs.Row.{Tagged, tag, row, said, pick}
+use Rattle.model.specs.Row.{Tagged, tag, said, pick}
 use Rattle.model.specs.Session.{Session, Emission, reply, copy, close}
 use Rattle.model.specs.World.{World, Moment, begins, opens, hangs-up, hears, ticks, happens, each, next, after, emitted}
 use Rattle.model.specs.Calls.{Call, moments, output-record, output, answered, refusal, Lent, step}

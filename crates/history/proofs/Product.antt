@@ -1,29 +1,29 @@
 -- DEMAND 3, OF THE PRODUCT: whatever calls are made after a start that is done, whatever they are lent, and only they write the table.
 -- Assumes nothing.
-use Prim.Native.Nat.{ℕ, zero, suc, _≤_, _<_, min}
+use Prim.Native.Nat.{ℕ, _≤_}
 use mathlib.Core.Path.{_≡_, refl, sym, _∙_, ap, ap₂, subst}
-use mathlib.Core.Bool.{Bool, true, false, _&&_}
+use mathlib.Core.Bool.{_&&_}
 use mathlib.Core.List.{List, [], _∷_, map}
-use mathlib.Core.Option.{Option, none, some}
+use mathlib.Core.Option.{Option}
 use native.Mathlib.Omega.{arith}
 use lib.Dec.{eqb}
 use lib.ListN.{length, length-take}
-use Rattle.model.specs.Records.{Settings, payload, settings-of, read-settings}
+use Rattle.model.specs.Records.{Settings, payload, settings-of}
 use Rattle.model.specs.World.{World, uncounted, begun, after}
-use Rattle.model.specs.Calls.{Call, start, Lent, settled, Answer as ModelAnswer, answered, step}
+use Rattle.model.specs.Calls.{Call, start, settled, Answer as ModelAnswer, answered, step}
 use Rattle.model.proofs.Erase.{erase-world}
 use Rattle.table.specs.Table.{decode, Table}
-use Rattle.refusal.specs.Numbers.{lent, number}
+use Rattle.refusal.specs.Numbers.{number}
 use Rattle.refusal.proofs.Numbers.{start-passes}
 use Rattle.controller.specs.declared.Answer.{Answer}
-use Rattle.controller.specs.Contract.{Said, said, Outcome}
+use Rattle.controller.specs.Contract.{Outcome}
 use Rattle.controller.specs.Trace.{Made, Trace, none as no-call, and, History, lendings}
 use Rattle.controller.proofs.Traces.{number-is, table-left, table-begun}
 use Rattle.controller.proofs.Modelled.{lending, one-call}
 use Rattle.history.specs.Turns.{Turn, starts-call, turns}
 use Rattle.history.specs.Output.{read-output, record-of}
 use Rattle.history.specs.Demand.{NoStart}
-use Rattle.history.specs.Product.{Shows, Tells, Once, Meets}
+use Rattle.history.specs.Product.{Tells, Once, Meets}
 use Rattle.history.proofs.Output.{step-below, step-four, read-written, frames-back, closes-back}
 use Rattle.history.proofs.Turns.{demand-3-of-runs, in-time-of-runs}
 use Rattle.history.proofs.Frames.{few-frames-of-runs}

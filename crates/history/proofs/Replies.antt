@@ -6,26 +6,26 @@ use mathlib.Core.Bool.{Bool, true, false, cond, true≢false}
 use mathlib.Core.List.{List, [], _∷_, _++_, map, append-nil}
 use mathlib.Core.Option.{Option, none, some}
 use native.Mathlib.Omega.{arith}
-use lib.Dec.{eqb, eqb·suc-zero}
+use lib.Dec.{eqb}
 use lib.ListN.{length}
 use borrow.Author.Tests.{eqb-true, eq-eqb, ne-eqb}
 use Rattle.model.specs.Limits.{idle-limit}
 use Rattle.model.specs.Bytes.{digits}
 use Rattle.model.specs.Records.{Settings, Tool, scanned, tightening, read-tool}
 use Rattle.model.specs.Runs.{Run, empty-run, longer, Piece, cut, Message, read-run}
-use Rattle.model.specs.Messages.{Entry, entry-of, gets-reply, Error, code}
+use Rattle.model.specs.Messages.{Entry, gets-reply, Error, code}
 use Rattle.model.specs.Events.{Event, identified, tightened, kind-of, Notice, identifier-of}
 use Rattle.model.specs.Frames.{header, frame, frame-0002, frame-0004, frame-0005, frame-0052, frame-0061, event-frame}
 use Rattle.model.specs.Notices.{Subscription, Deed, beats, news, asks, drops, acks}
 use Rattle.model.specs.Row.{Tagged, said, pick}
 use Rattle.model.specs.Session.{Session, closed, opened, started, Copy, Emission, reply, copy, close, deal, dealt, only}
-use Rattle.model.specs.Hearing.{message-error, started-standing, opened-standing, error-reply, judged, hear, begin}
+use Rattle.model.specs.Hearing.{message-error, started-standing, opened-standing, error-reply, judged, begin}
 use Rattle.model.specs.Steps.{end-run, end-run-opened, opening, hang-up, receives, tick, event, elsewhere, step, announces}
 use Rattle.model.specs.World.{World, session-at, Moment, opens as opens-moment, hangs-up as hangs-up-moment, hears, ticks, happens, each, begun, next as next-world, emits, emitted}
 use Rattle.model.specs.Calls.{Call, start, open-session, hang-up-session, bytes, one-tick, tool, Lent, refusal, told, reported, answered, step as call-step}
 use Rattle.model.proofs.RowLaws.{pick-append, length-row}
 use Rattle.model.proofs.Sessions.{session-emits}
-use Rattle.watch.specs.Marks.{Seen, Mark, all-sent, or-later, frame-of, Every, Demand3}
+use Rattle.watch.specs.Marks.{Seen, Mark, all-sent, or-later, frame-of, Every}
 use Rattle.history.specs.Turns.{Turn, turn, turns, is-start, mid-of, frames-in}
 use Rattle.history.specs.Reading.{Wish, wish, event as event-of, shared, frame-for}
 use Rattle.history.specs.Demand.{notice, NoNotice, of-number, ToldApart, seen-in, mark, marks, NoStart}

@@ -1,13 +1,11 @@
 -- Demand 3, of a history of calls: the marks of its turns, and what is asked of them. Assumes nothing: these are definitions.
-use Prim.Native.Nat.{ℕ, zero, suc, _+_, _*_, _≤_, _<_}
+use Prim.Native.Nat.{ℕ, suc, _+_, _*_, _≤_, _<_}
 use mathlib.Core.Path.{_≡_}
-use mathlib.Core.Bool.{Bool, true, false, cond}
+use mathlib.Core.Bool.{true, false, cond}
 use mathlib.Core.List.{List, [], _∷_, _++_, map}
-use mathlib.Core.Option.{Option, none, some}
 use lib.Dec.{eqb}
 use lib.ListN.{length, getD}
 use Rattle.model.specs.Records.{Settings}
-use Rattle.model.specs.Runs.{Message}
 use Rattle.model.specs.Events.{identifiers, tightenings}
 use Rattle.model.specs.Session.{Copy, Emission, reply, copy, close}
 use Rattle.model.specs.Row.{Tagged, pick}
