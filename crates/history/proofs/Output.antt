@@ -13,12 +13,11 @@ use borrow.Author.Tests.{eqb-true, eqb-false, eq-eqb, ne-eqb, le-leb}
 use Rattle.model.specs.Bytes.{NUL, in-bytes}
 use Rattle.model.specs.Records.{house-record}
 use Rattle.model.specs.Frames.{frame-record, close-record}
-use Rattle.model.specs.Row.{Tagged, tag, said, pick}
-use Rattle.model.specs.Session.{Session, Emission, reply, copy, close}
-use Rattle.model.specs.World.{World, Moment, begins, opens, hangs-up, hears, ticks, happens, each, next, after, emitted}
-use Rattle.model.specs.Calls.{Call, moments, output-record, output, answered, refusal, Lent, step}
-use Rattle.model.proofs.RowLaws.{length-row}
+use Rattle.model.specs.Row.{Tagged, pick}
+use Rattle.model.specs.Session.{Emission, reply, copy, close}
+use Rattle.model.specs.Calls.{output-record, output}
 use Rattle.watch.specs.Marks.{Every}
+use Rattle.controller.proofs.Outputs.{Below}
 use Rattle.history.specs.Turns.{frames-in, orders-close}
 use Rattle.history.specs.Output.{Read, first-size, first-read, and-more, read-within, read-output, frames-read, close-read, as-read, record-of}
 
@@ -93,57 +92,6 @@ read-back es f =
     ap read-output (output-bytes es) ∙ read-all rs f (length (joined rs)) (few-records rs)
 
 -- ==== whatever a call sends fits, as it goes to one of four sessions and is written in 2,048 bytes
-
-abbrev pub Below : ℕ → List (Tagged Emission) → Type 0
-Below n es = Every (λ (x : Tagged Emission). x .who < n) es
-
-below-append : (n : ℕ) (xs ys : List (Tagged Emission)) → Below n xs → Below n ys → Below n (xs ++ ys)
-below-append n [] ys p q = q
-below-append n (x ∷ xs) ys p q = (p .0, below-append n xs ys (p .1) q)
-
-below-tag : (n i : ℕ) (es : List Emission) → i < n → Below n (tag i es)
-below-tag n i [] h = tt
-below-tag n i (e ∷ es) h = (h, below-tag n i es h)
-
-below-said : (act : ℕ → Session → Session × List Emission) (n i : ℕ) (xs : List Session) → i + length xs ≤ n → Below n (said act i xs)
-below-said act n i [] h = tt
-below-said act n i (x ∷ xs) h =
-    below-append n (tag i ((act i x) .1)) (said act (suc i) xs) (below-tag n i ((act i x) .1) (omega arith)) (below-said act n (suc i) xs (omega arith))
-
-pub still-four : (w : World) (m : Moment) → length (w .sessions) ≡ 4 → length ((next w m) .sessions) ≡ 4
-still-four w (begins st) h = refl
-still-four w (opens s) h = length-row (each w (opens s)) 0 (w .sessions) ∙ h
-still-four w (hangs-up s) h = length-row (each w (hangs-up s)) 0 (w .sessions) ∙ h
-still-four w (hears s p) h = length-row (each w (hears s p)) 0 (w .sessions) ∙ h
-still-four w ticks h = length-row (each w ticks) 0 (w .sessions) ∙ h
-still-four w (happens e) h = length-row (each w (happens e)) 0 (w .sessions) ∙ h
-
-below-emitted : (w : World) (ms : List Moment) → length (w .sessions) ≡ 4 → Below 4 (emitted w ms)
-below-emitted w [] h = tt
-below-emitted w (m ∷ ms) h =
-    below-append 4 (said (each w m) 0 (w .sessions)) (emitted (next w m) ms) (below-said (each w m) 4 0 (w .sessions) (omega arith))
-    (below-emitted (next w m) ms (still-four w m h))
-
-four-after : (w : World) (ms : List Moment) → length (w .sessions) ≡ 4 → length ((after w ms) .sessions) ≡ 4
-four-after w [] h = h
-four-after w (m ∷ ms) h = four-after (next w m) ms (still-four w m h)
-
-module _ (l : Lent) (w : World) (c : Call) (h : length (w .sessions) ≡ 4) where
-  pub step-below : Below 4 ((step l w c) .2)
-  unfolding step
-  step-below = go (refusal l w c)
-    where
-      go : (n : ℕ) → Below 4 ((answered w c n) .2)
-      go zero = below-emitted w (moments w c) h
-      go (suc n) = tt
-
-  pub step-four : length (((step l w c) .0) .sessions) ≡ 4
-  unfolding step
-  step-four = go (refusal l w c)
-    where
-      go : (n : ℕ) → length (((answered w c n) .0) .sessions) ≡ 4
-      go zero = four-after w (moments w c) h
-      go (suc n) = h
 
 fits-one : (s : ℕ) (e : Emission) → s < 4 → length (bytes-of (as-read s e)) ≤ 2_048 → Fits (as-read s e)
 fits-one s (reply frame) h n = let k = record-length (as-read s (reply frame)) in (omega arith, omega arith)

@@ -18,13 +18,14 @@ use Rattle.refusal.proofs.Numbers.{start-passes}
 use Rattle.controller.specs.declared.Answer.{Answer}
 use Rattle.controller.specs.Contract.{Outcome}
 use Rattle.controller.specs.Trace.{Made, Trace, none as no-call, and, History, lendings}
+use Rattle.controller.proofs.Outputs.{step-below, step-four}
 use Rattle.controller.proofs.Traces.{number-is, table-left, table-begun}
 use Rattle.controller.proofs.Modelled.{lending, one-call}
 use Rattle.history.specs.Turns.{Turn, starts-call, turns}
 use Rattle.history.specs.Output.{read-output, record-of}
 use Rattle.history.specs.Demand.{NoStart}
 use Rattle.history.specs.Product.{Tells, Once, Meets}
-use Rattle.history.proofs.Output.{step-below, step-four, read-written, frames-back, closes-back}
+use Rattle.history.proofs.Output.{read-written, frames-back, closes-back}
 use Rattle.history.proofs.Turns.{demand-3-of-runs, in-time-of-runs}
 use Rattle.history.proofs.Frames.{few-frames-of-runs}
 use Rattle.history.proofs.Replies.{told-apart-in-runs}
