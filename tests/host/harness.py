@@ -47,7 +47,7 @@ def test(function):
 
 
 def in_memory(function):
-    """The test's files stand in memory where there is such a folder: it tries the host and not the disk."""
+    """The test's files stand in memory where there is such a folder: it tries the host, which is not to wait for the disk."""
     if os.access("/dev/shm", os.W_OK | os.X_OK):
         function.parent = "/dev/shm"
     return function

@@ -95,6 +95,7 @@ def ticks_since(records, kind):
 
 
 @test
+@in_memory
 def silence_until_the_time_out(place):
     """A silent link is closed by the host after fifteen ticks and not before, started or not; one that speaks stays."""
     tick = 0.04
@@ -103,7 +104,6 @@ def silence_until_the_time_out(place):
     speaking.start()
     silent.start()
     unstarted.tell(openprotocol.SUBSCRIBE_RESULTS)
-    wait_for = time.monotonic()
     place.wait_for_journal(lambda records: any(kind == BYTES + 2 for kind, _ in records), "the unstarted one's message")
     for quiet, session, spoken in ((silent, 1, BYTES + 1), (unstarted, 2, OPEN + 2)):
         # The other end speaks on while this one is waited for.
@@ -117,7 +117,6 @@ def silence_until_the_time_out(place):
                 check(time.monotonic() < until, "session %d is open yet", session)
             equal(speaking.fence(), [], "what the speaking one is sent")
         check(ticks_since(place.journaled(), spoken) >= 15, "session %d was closed before its time", session)
-        check(time.monotonic() - wait_for >= 14 * tick, "session %d was closed too soon", session)
     before = place.ticks()
     while place.ticks() < before + 20:
         equal(speaking.fence(), [], "what the speaking one is sent")
@@ -151,6 +150,7 @@ def ticks_are_made_up_for(place):
 
 
 @test
+@in_memory
 def a_link_cut_with_a_notice_open(place):
     """After a reset the re-opened session gets nothing old; the next tightening arrives under its own number."""
     tick = 0.04

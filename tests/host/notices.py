@@ -3,7 +3,7 @@
 import re
 import time
 
-from harness import check, equal, openprotocol, test, tightening_fields
+from harness import check, equal, in_memory, openprotocol, test, tightening_fields
 
 
 @test
@@ -74,6 +74,7 @@ def an_identifier_over_the_net(place):
 
 
 @test
+@in_memory
 def a_notice_that_is_not_acknowledged(place):
     """It is repeated byte for byte, six copies in all, while keep-alives go on; then the next is sent."""
     tick = 0.04
