@@ -20,7 +20,7 @@ import time
 
 HERE = os.path.dirname(os.path.abspath(__file__))
 ROOT = os.path.join(HERE, "..", "..")
-sys.path[:0] = [os.path.join(ROOT, "tools"), os.path.join(HERE, "..", "vectors")]
+sys.path[:0] = [os.path.join(ROOT, "tools"), os.path.join(HERE, "..", "vectors"), os.path.join(HERE, "..", "histories")]
 
 import history  # noqa: E402
 import openprotocol  # noqa: E402
