@@ -131,6 +131,8 @@ class Generated:
             self.happen(kind, payload.replace(b"\n", b" "))  # a line is a frame in what replay prints
         self.tool.close()
         place.finish(self.host, self.servers, self.refusals)
+        for server in self.servers:
+            server.close()
 
     def happen(self, kind, payload):
         session = kind % 16
@@ -173,13 +175,14 @@ class Generated:
 def generated_histories(place):
     """Histories that were made to reach deep states, over sockets: replay prints of their journals what the servers saw."""
     openings = frames = 0
-    for seed in range(1, 21):
+    histories = max(1, place.count // 100)
+    for seed in range(1, histories + 1):
         generated = Generated(place, seed, 500)
         openings += len(generated.servers)
         frames += sum(len(server.seen) for server in generated.servers)
         for path in place.journal_parts():
             os.remove(path)
-    place.said.append("%d openings, %d frames" % (openings, frames))
+    place.said.append("%d histories, %d openings, %d frames" % (histories, openings, frames))
 
 
 @test
