@@ -3,7 +3,8 @@
 
     run.py --host PROGRAM --replay PROGRAM [--only NAME,NAME,..] [--count N] [--seconds N]
 
---count says how many results the load sends (and, in hundreds, how many histories are made to happen), --seconds how long something is waited for that does not come.
+--count says how many results the load sends and, in hundreds, how many histories are made to happen; --seconds how long something
+is waited for that does not come.
 Prints a line for each test. Exit status 0: all right."""
 
 import argparse
