@@ -1,6 +1,6 @@
--- 01, "Counted and compared": the cases (a) to (l), of the product. Whatever the contracts allow along the calls of a case, the answers and
--- the output's bytes are those of the model's run of these calls, and read back they are what the case's row of the table says. Assumes
--- nothing.
+-- 01, "Counted and compared": the cases (a) to (l), of the product, and the slips that look right. Whatever the contracts allow along the
+-- calls of a case, the answers and the output's bytes are those of the model's run of these calls, and read back they are what the case's
+-- row of the table says. Assumes nothing.
 use Prim.Native.Nat.{ℕ, _-_, _≤_}
 use mathlib.Core.Path.{_≡_, refl, sym, _∙_, ap, ap₂, subst}
 use mathlib.Core.Bool.{Bool, true, false, cond, _&&_, true≢false}
@@ -21,7 +21,7 @@ use Rattle.model.specs.Session.{Emission}
 use Rattle.model.specs.Program.{zeros, call-of, shown as underlined}
 use Rattle.model.proofs.Text.{ascii, same-bytes, same-lines}
 use Rattle.model.proofs.Histories.{Wanted, prints, answers, Example, outcome}
-use Rattle.model.proofs.Cases.{cases}
+use Rattle.model.proofs.Cases.{cases, slips}
 use Rattle.model.proofs.Erase.{observed}
 use Rattle.watch.specs.Marks.{Every}
 use Rattle.table.specs.Table.{decode}
@@ -88,6 +88,10 @@ all-show (e ∷ es) = shows (e .wanted) (played (map call-in (e .history))) && a
 the-cases-show : all-show cases ≡ true
 unfolding shows outcome
 the-cases-show = refl
+
+the-slips-show : all-show slips ≡ true
+unfolding shows outcome
+the-slips-show = refl
 
 both : (a b : Bool) → (a && b) ≡ true → (a ≡ true) × (b ≡ true)
 both true b e = (refl, e)
@@ -206,3 +210,6 @@ holds (x ∷ es) e =
 
 pub the-cases-hold-of-the-product : Every HoldsOfTheProduct cases
 the-cases-hold-of-the-product = holds cases the-cases-show
+
+pub the-slips-show-of-the-product : Every HoldsOfTheProduct slips
+the-slips-show-of-the-product = holds slips the-slips-show

@@ -10,13 +10,20 @@ use Rattle.model.specs.Limits.{table-least}
 use Rattle.model.specs.Records.{Settings, payload, settings-of}
 use Rattle.model.specs.Events.{tightenings}
 use Rattle.model.specs.World.{begun}
-use Rattle.model.specs.Calls.{Call, Lent}
-use Rattle.model.proofs.Histories.{a-tightening, scan, opened, hung-up, sends, tick, ticks, line4, told, outcome}
+use Rattle.model.specs.Calls.{Call, start, open-session, hang-up-session, bytes, one-tick, tool, Lent}
+use Rattle.model.proofs.Histories.{a-tightening, scan, opened, hung-up, message, sends, tick, ticks, line4, told, outcome}
 use Rattle.watch.specs.Marks.{Mark, copies, T}
 use Rattle.history.specs.Turns.{longest-wait, turns}
 use Rattle.history.specs.Demand.{marks}
 use Rattle.history.specs.Output.{read-output}
 use Rattle.history.proofs.Cases.{call-in, long-enough}
+
+-- ==== the calls that records stand for
+
+pub the-calls : map call-in (told ++ a-tightening ∷ hung-up 0 ∷ tick ∷ [])
+    ≡ start line4 ∷ open-session 0 ∷ bytes 0 (message "00200001001_________") ∷ bytes 0 (message "00200060001_________") ∷ tool a-tightening ∷ hang-up-session 0 ∷ one-tick ∷ []
+unfolding outcome
+the-calls = refl
 
 -- ==== marks of histories
 
