@@ -126,7 +126,8 @@ calls-of [] = []
 calls-of (m ∷ ms) = m .call ∷ calls-of ms
 
 -- longer than long enough makes no difference
-same-refusal : (size room : ℕ) (w : World) (c : Call) → table-least ≤ size → output-least ≤ room → refusal (lending size room) w c ≡ refusal long-enough w c
+same-refusal : (size room : ℕ) (w : World) (c : Call) → table-least ≤ size → output-least ≤ room
+    → refusal (lending size room) w c ≡ refusal long-enough w c
 unfolding refusal
 same-refusal size room w (start slice) h g = rw (le-ltb size table-least h)
 same-refusal size room w (open-session s) h g = rw (le-ltb size table-least h, le-ltb room output-least g)
@@ -135,7 +136,8 @@ same-refusal size room w (bytes s bs) h g = rw (le-ltb size table-least h, le-lt
 same-refusal size room w one-tick h g = rw (le-ltb size table-least h, le-ltb room output-least g)
 same-refusal size room w (tool slice) h g = rw (le-ltb size table-least h, le-ltb room output-least g)
 
-same-step : (size room : ℕ) (w : World) (c : Call) → table-least ≤ size → output-least ≤ room → step (lending size room) w c ≡ step long-enough w c
+same-step : (size room : ℕ) (w : World) (c : Call) → table-least ≤ size → output-least ≤ room
+    → step (lending size room) w c ≡ step long-enough w c
 unfolding step
 same-step size room w c h g = ap (answered w c) (same-refusal size room w c h g)
 
