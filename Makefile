@@ -1,41 +1,77 @@
-# Two commands matter: `make run` shows what there is, `make test` runs everything that the gate runs.
+# Two commands matter: `make run` builds a controller and starts it, `make test` runs everything that the gate runs.
 SHELL := /bin/bash
 .SHELLFLAGS := -euo pipefail -c
 .DEFAULT_GOAL := help
-.PHONY: help run test soak bench built wrong format tools clean
+.PHONY: help run watch test install host proved soak bench built wrong format tools clean
 
 # How many histories make soak compares.
 COUNT := 2000
 
+# Where make install puts things.
+PREFIX := /usr/local
+
 help:
-	@echo "make run    proves the library and its test program, and shows what is proved"
-	@echo "make test   everything that the gate runs: layout, proofs, must-fail edits, and the comparison with the implementation in C"
-	@echo "make soak   a longer comparison: COUNT=2000 histories, a million calls, every planted fault"
-	@echo "make bench  the library's time and stack beside those of the implementation in C"
-	@echo "make wrong  the wrong programs that the gate leaves out for its time: the prover must refuse each"
-	@echo "make format lays the sources out"
-	@echo "make clean  removes what was built"
+	@echo "make run     proves the library, builds the host around it, and starts that with a simulated tool on 127.0.0.1:4545"
+	@echo "make watch   a small line server that shows what the host sends; in another terminal"
+	@echo "make test    everything that the gate runs: layout, proofs, must-fail edits, the comparison with the implementation in C, the host"
+	@echo "make install header, archive, pkg-config file and host, to PREFIX=$(PREFIX)"
+	@echo "make proved  proves every crate and lists the public functions"
+	@echo "make soak    a longer comparison: COUNT=2000 histories, a million calls, every planted fault"
+	@echo "make bench   the library's time and stack beside those of the implementation in C"
+	@echo "make wrong   the wrong programs that the gate leaves out for its time: the prover must refuse each"
+	@echo "make format  lays the sources out"
+	@echo "make clean   removes what was built"
 
 # What the commands need besides the toolchain, from Debian's packages. What rt builds is for x86-64: on another processor C code that
 # links it takes a cross compiler.
-CROSS := $(if $(filter x86_64,$(shell uname -m)),,x86_64-linux-gnu-gcc)
-PACKAGES := git gcc libc6-dev python3 $(if $(CROSS),gcc-x86-64-linux-gnu libc6-dev-amd64-cross)
+FOREIGN := $(filter-out x86_64,$(shell uname -m))
+COMMANDS := git gcc g++ pkg-config python3 $(if $(FOREIGN),x86_64-linux-gnu-gcc x86_64-linux-gnu-g++)
+PACKAGES := git gcc g++ libc6-dev pkg-config python3 $(if $(FOREIGN),gcc-x86-64-linux-gnu g++-x86-64-linux-gnu libc6-dev-amd64-cross)
 tools:
-	@missing=; for tool in git gcc python3 $(CROSS); do command -v $$tool > /dev/null || missing="$$missing $$tool"; done; \
+	@missing=; for tool in $(COMMANDS); do command -v $$tool > /dev/null || missing="$$missing $$tool"; done; \
 	if [ -n "$$missing" ]; then \
 	  apt-get update -qq && apt-get install -y -qq $(PACKAGES) || { echo "missing:$$missing (Debian's packages: $(PACKAGES))" >&2; exit 1; }; \
 	fi
 	@command -v rt > /dev/null || { echo "the Rattle toolchain's command rt is not on the PATH" >&2; exit 1; }
 
-run: tools
+ARCHIVE := target/staticlib/libserifladder.a
+
+# The host with a simulated tool. Its state and its journal stay in target/demo, so that the numbers go on the next time.
+DEMO := target/demo
+run: host
+	@mkdir -p $(DEMO)
+	@echo "The host begins, with a simulated tool; Ctrl-C ends it. Its log follows: < is received from a session, > is sent to it."
+	@echo "In another terminal:"
+	@echo "  make watch                                                     a line server that shows each result"
+	@echo "  tests/x86-64 --kit target/bin/replay < $(DEMO)/journal     the journal: what was sent in this run"
+	@exec tests/x86-64 target/host/serifladder-host --settings host/demo.settings --state $(DEMO)/state \
+	  $$(test -e $(DEMO)/state || echo --new-state 0) --journal $(DEMO)/journal --demo
+
+watch:
+	@exec tools/watch
+
+host: tools $(ARCHIVE)
+	@$(MAKE) --silent --no-print-directory -C host
+
+# The archive that the host links, and the program that replays its journal: proved anew when a source has changed.
+$(ARCHIVE): crates.txt $(shell find crates -type f -not -path '*/must-fail/*') | tools
+	@echo "Proving the library and its test program: this takes some minutes where nothing is proved yet."
+	@rt check serifladder replay | grep '^rt:'
+	@said=$$(rt staticlib serifladder 2>&1) || { echo "$$said" >&2; exit 1; }; echo "$$said" | tail -n 1
+
+install: host
+	@$(MAKE) --silent --no-print-directory -C host install PREFIX=$(PREFIX)
+
+proved: tools
 	@rt check | grep '^rt:'
 	@echo "each of these public functions is proved to answer what its ensures says:"
 	@grep -oE '^ *pub (extern "C" )?fn [a-z0-9_]+' crates/*/src/*.rt | sed -E 's#crates/([a-z]+)/.*fn (.*)#  \1::\2#'
 
-# The layout, then the gate itself, then the comparison over what the gate built and left. The gate's own last line is said again at the
-# end: it is the last line of a run in which nothing failed.
+# The layout, and that the must-fail edits fit; then the gate itself, then the comparison over what the gate built and left. The gate's own
+# last line is said again at the end: it is the last line of a run in which nothing failed.
 test: tools
 	@rt fmt --check
+	@python3 tests/wrong/check.py
 	@said=$$(mktemp); trap 'rm -f "$$said"' EXIT; \
 	rt ci | tee "$$said"; \
 	rt staticlib serifladder | tail -n 1; \

@@ -10,6 +10,7 @@
 
    The stack is painted: the calls run on a stack of their own, filled with a pattern, and the
    lowest byte that is not the pattern any more shows how deep they went. */
+#include "../../include/serifladder.h"
 #include "../independent/independent.h"
 
 #include <stdbool.h>
@@ -20,10 +21,10 @@
 #include <x86intrin.h>
 
 enum {
-    TABLE = 16384,
-    OUTPUT = 2048,
-    ANSWER = 32,
-    SESSIONS = 4,
+    TABLE = SERIFLADDER_TABLE_SIZE,
+    OUTPUT = SERIFLADDER_OUTPUT_SIZE,
+    ANSWER = SERIFLADDER_ANSWER_SIZE,
+    SESSIONS = SERIFLADDER_SESSIONS,
     REPEATS = 2001,
     ROUNDS_LEAST = 15,
     ROUNDS_MOST = 201,
@@ -33,15 +34,6 @@ enum {
 
 static const double STEADY = 5.0, RATIO_MOST = 1.5;
 static const long STACK_MOST = 4096;
-
-uint64_t serifladder_start(uint8_t *, size_t, const uint8_t *, size_t, uint8_t *, size_t);
-uint64_t serifladder_open(uint8_t *, size_t, uint8_t *, size_t, uint64_t, uint8_t *, size_t);
-uint64_t serifladder_hang_up(uint8_t *, size_t, uint8_t *, size_t, uint64_t, uint8_t *, size_t);
-uint64_t serifladder_bytes(uint8_t *, size_t, uint8_t *, size_t, uint64_t, const uint8_t *, size_t,
-                           uint8_t *, size_t);
-uint64_t serifladder_tick(uint8_t *, size_t, uint8_t *, size_t, uint8_t *, size_t);
-uint64_t serifladder_record(uint8_t *, size_t, uint8_t *, size_t, const uint8_t *, size_t,
-                            uint8_t *, size_t);
 
 struct library {
     uint64_t (*start)(uint8_t *, size_t, const uint8_t *, size_t, uint8_t *, size_t);

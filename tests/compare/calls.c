@@ -12,7 +12,10 @@
    The second form is built with -DLINKED: the independent implementation and the product
    are linked in, and standard input holds any number of histories, a 4-byte length
    (little-endian) before each. It says how many calls it made. */
-#ifndef LINKED
+#ifdef LINKED
+#include "../../include/serifladder.h"
+#include "../independent/independent.h"
+#else
 #include <dlfcn.h>
 #endif
 #include <stdbool.h>
@@ -311,19 +314,10 @@ static uint8_t *take_input(size_t most, size_t *size)
 
 #ifdef LINKED
 
-#define DECLARE(prefix) \
-    start_call prefix##_start; \
-    session_call prefix##_open, prefix##_hang_up; \
-    bytes_call prefix##_bytes; \
-    tick_call prefix##_tick; \
-    record_call prefix##_record
 #define BIND(side, prefix) \
     ((side)->start = prefix##_start, (side)->open = prefix##_open, \
      (side)->hang_up = prefix##_hang_up, (side)->bytes = prefix##_bytes, \
      (side)->tick = prefix##_tick, (side)->record = prefix##_record)
-
-DECLARE(independent);
-DECLARE(serifladder);
 
 int main(void)
 {

@@ -5,6 +5,7 @@
 #include "../independent/independent.h"
 
 #ifdef PREFIX
+#include "../../include/serifladder.h"
 #define JOINED(prefix, name) prefix##_##name
 #define NAMED(prefix, name) JOINED(prefix, name)
 #define independent_start NAMED(PREFIX, start)
@@ -13,14 +14,6 @@
 #define independent_bytes NAMED(PREFIX, bytes)
 #define independent_tick NAMED(PREFIX, tick)
 #define independent_record NAMED(PREFIX, record)
-uint64_t independent_start(uint8_t *, size_t, const uint8_t *, size_t, uint8_t *, size_t);
-uint64_t independent_open(uint8_t *, size_t, uint8_t *, size_t, uint64_t, uint8_t *, size_t);
-uint64_t independent_hang_up(uint8_t *, size_t, uint8_t *, size_t, uint64_t, uint8_t *, size_t);
-uint64_t independent_bytes(uint8_t *, size_t, uint8_t *, size_t, uint64_t, const uint8_t *, size_t,
-                           uint8_t *, size_t);
-uint64_t independent_tick(uint8_t *, size_t, uint8_t *, size_t, uint8_t *, size_t);
-uint64_t independent_record(uint8_t *, size_t, uint8_t *, size_t, const uint8_t *, size_t,
-                            uint8_t *, size_t);
 #endif
 
 #include <stdio.h>

@@ -1,37 +1,33 @@
 -- What a call does, as it is read off the calls: the reading of every session stays true, and to the notices of each kind to each
 -- session one of the things is done that a call can do. Assumes nothing.
-use Prim.Native.Nat.{ℕ, zero, suc, _+_, _-_, _*_, _/_, _%_, _^_, _≤_, _<_}
-use mathlib.Core.Path.{_≡_, refl, sym, _∙_, ap, ap₂, subst}
-use mathlib.Core.Bool.{Bool, true, false, cond, _&&_, _||_, not, and-false, true≢false}
+use Prim.Native.Nat.{ℕ, suc, _<_}
+use mathlib.Core.Path.{_≡_, refl, sym, _∙_, ap, subst}
+use mathlib.Core.Bool.{Bool, true, false, cond, _&&_}
 use mathlib.Core.List.{List, [], _∷_, _++_, map, map-append, append-nil}
 use mathlib.Core.Option.{Option, none, some}
 use native.Mathlib.Omega.{arith}
 use native.Mathlib.Nat.{le-refl}
-use lib.Dec.{leb, ltb, eqb, eqb·suc-zero}
+use lib.Dec.{eqb, eqb·suc-zero}
 use lib.ListN.{length, getD}
-use borrow.Author.Tests.{eqb-true, eq-eqb, leb-false}
-use Rattle.model.specs.Limits.{session-count, table-least, output-least}
-use Rattle.model.specs.Tests.{_gives_, first}
-use Rattle.model.specs.Records.{Settings, Tool, scanned, tightening, read-tool}
-use Rattle.model.specs.Runs.{Piece, cut, Message}
-use Rattle.model.specs.Events.{Event, identified, tightened, kind-of, identifiers, tightenings, identifier-of}
+use Rattle.model.specs.Records.{Settings}
+use Rattle.model.specs.Events.{Event, identified, tightened, kind-of}
 use Rattle.model.specs.Frames.{event-frame}
-use Rattle.model.specs.Notices.{room-of, Subscription, unsubscribed, plain, acked, empty, busy, is-subscribed, takes as takes-event}
-use Rattle.model.specs.Row.{Tagged, row, pick}
-use Rattle.model.specs.Session.{Session, closed, opened, started, is-closed, Copy, Emission, reply, copy, close}
-use Rattle.model.specs.Steps.{opening, hang-up, receives, elsewhere, event as event-seen, step as session-step, takes as takes-in, announces}
-use Rattle.model.specs.World.{World, session-at, Moment, opens as opens-moment, hangs-up as hangs-up-moment, hears, ticks, happens, each, sessions-after, next as next-world, emits, after, emitted}
-use Rattle.model.specs.Calls.{Call, start, open-session, hang-up-session, bytes, one-tick, tool, Lent, lent-tests, refusal, told, reported, moments, takers, taken-by, Answer, answered, step}
-use Rattle.model.proofs.RowLaws.{pick-append, length-row}
+use Rattle.model.specs.Notices.{Subscription, unsubscribed, is-subscribed}
+use Rattle.model.specs.Row.{Tagged, pick}
+use Rattle.model.specs.Session.{Session, closed, opened, started, Copy, Emission, reply, copy, close}
+use Rattle.model.specs.Steps.{event as event-seen, step as session-step, takes as takes-in}
+use Rattle.model.specs.World.{World, session-at, Moment, each, next as next-world, emits}
+use Rattle.model.specs.Calls.{Call, answered}
+use Rattle.model.proofs.RowLaws.{pick-append}
 use Rattle.model.proofs.Sessions.{session-next, session-emits}
 use Rattle.watch.specs.Marks.{Seen}
 use Rattle.watch.specs.Course.{Queue, Eff, Rises}
-use Rattle.history.specs.Turns.{Turn, turn, is-done, is-start, opens, hangs-up, is-tick, given, accepted}
-use Rattle.history.specs.Reading.{run-with, run, ended, message, started as is-started, Wish, wish, is-some, asks-acknowledge, subscribed, closes, Shared, tool-event, identifier-event, event, shared-with, frame-for, in-sum, of-kind, takes-call, takes}
+use Rattle.history.specs.Turns.{Turn, turn, hangs-up, is-tick}
+use Rattle.history.specs.Reading.{run, message, started as is-started, Wish, wish, is-some, asks-acknowledge, subscribed, closes, Shared, event, shared-with, frame-for, of-kind, takes-call, takes}
 use Rattle.history.specs.Demand.{copies-in, seen, seen-in}
 use Rattle.history.proofs.Subscriptions.{wish-in, is-some-wish, view, unchanged}
-use Rattle.history.proofs.Signals.{Signals, signals, silence, silent-after}
-use Rattle.history.proofs.Sessions.{Reading, next, closing, Like, sub-at, Stepped, newest, Steps, two, told-event, elsewhere-steps, opening-steps, hang-up-steps, tick-steps, receives-steps, told-steps, event-silent, event-like, event-does}
+use Rattle.history.proofs.Signals.{Signals, signals, silent-after}
+use Rattle.history.proofs.Sessions.{Reading, next, closing, Like, sub-at, Stepped, newest, Steps, event-silent, event-like, event-does}
 
 -- ==== what is read of a session, and of what all share
 

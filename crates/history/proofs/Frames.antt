@@ -2,30 +2,30 @@
 -- Assumes nothing.
 use Prim.Native.Nat.{ℕ, zero, suc, _+_, _*_, _≤_, _<_}
 use mathlib.Core.Path.{_≡_, refl, sym, _∙_, ap, subst}
-use mathlib.Core.Bool.{Bool, true, false, cond, _&&_, true≢false}
+use mathlib.Core.Bool.{Bool, true, false, cond, true≢false}
 use mathlib.Core.List.{List, [], _∷_, _++_, map, append-nil}
 use mathlib.Core.Option.{Option, none, some}
 use native.Mathlib.Omega.{arith}
 use lib.Dec.{eqb, eqb·suc-zero}
-use lib.ListN.{length, getD, length-map, length-append}
+use lib.ListN.{length, length-map, length-append}
 use borrow.Author.Tests.{eqb-true}
 use Rattle.model.specs.Limits.{idle-limit}
 use Rattle.model.specs.Records.{Settings, Tool, scanned, tightening, read-tool}
 use Rattle.model.specs.Runs.{Run, empty-run, longer, Piece, cut, Message, read-run}
 use Rattle.model.specs.Messages.{Effect, starts, stops, identifies, subscribes, unsubscribes, acknowledges as acknowledging, mirrors, Entry, entry-of, gets-reply, Error, code}
-use Rattle.model.specs.Events.{Event, identified, tightened, kind-of, Notice, identifiers, tightenings, identifier-of}
+use Rattle.model.specs.Events.{Event, identified, tightened, kind-of, Notice, identifier-of}
 use Rattle.model.specs.Frames.{frame-0004, frame-0005}
 use Rattle.model.specs.Notices.{Subscription, unsubscribed, Deed, beats, news, asks, drops, acks}
 use Rattle.model.specs.Row.{Tagged, tag, said, pick}
 use Rattle.model.specs.Session.{Session, closed, opened, started, is-closed, Copy, Emission, reply, copy, close, deal, dealt, only}
 use Rattle.model.specs.Hearing.{message-error, started-standing, opened-standing, error-reply, carry-out, judged, begin}
-use Rattle.model.specs.Steps.{end-run, end-run-opened, Local, opening, hang-up, receives, tick, event, elsewhere, step, announces}
+use Rattle.model.specs.Steps.{end-run, end-run-opened, opening, hang-up, receives, tick, event, elsewhere, step, announces}
 use Rattle.model.specs.World.{World, session-at, Moment, opens as opens-moment, hangs-up as hangs-up-moment, hears, ticks, happens, each, begun, next as next-world, emits, emitted}
 use Rattle.model.specs.Calls.{Call, start, open-session, hang-up-session, bytes, one-tick, tool, Lent, refusal, told, reported, answered, step as call-step}
 use Rattle.model.proofs.RowLaws.{pick-append, length-row}
 use Rattle.model.proofs.Sessions.{session-next, session-emits}
 use Rattle.watch.specs.Marks.{Every, taken, all-sent}
-use Rattle.watch.specs.Course.{Queue, empty as none-waits, Course}
+use Rattle.watch.specs.Course.{empty as none-waits, Course}
 use Rattle.watch.proofs.Histories.{course-before}
 use Rattle.watch.proofs.Theorem.{few}
 use Rattle.history.specs.Turns.{Turn, turn, turns, is-start, opens, frames-in, frames-to}
@@ -53,7 +53,7 @@ few-append b xs ys p q =
     ))
 
 -- tags below two
-abbrev Low : List (Tagged Copy) → Type 0
+abbrev pub Low : List (Tagged Copy) → Type 0
 Low cs = Every (λ (c : Tagged Copy). c .who < 2) cs
 
 low-append : (xs ys : List (Tagged Copy)) → Low xs → Low ys → Low (xs ++ ys)
@@ -64,7 +64,7 @@ low-tag : (i : ℕ) (xs : List Copy) → i < 2 → Low (tag i xs)
 low-tag i [] h = tt
 low-tag i (x ∷ xs) h = (h, low-tag i xs h)
 
-low-said : (f : ℕ → Subscription → Subscription × List Copy) (i : ℕ) (xs : List Subscription) → i + length xs ≤ 2 → Low (said f i xs)
+pub low-said : (f : ℕ → Subscription → Subscription × List Copy) (i : ℕ) (xs : List Subscription) → i + length xs ≤ 2 → Low (said f i xs)
 low-said f i [] h = tt
 low-said f i (x ∷ xs) h =
     low-append (tag i ((f i x) .1)) (said f (suc i) xs) (low-tag i ((f i x) .1) (omega arith)) (low-said f (suc i) xs (omega arith))
@@ -86,12 +86,12 @@ frames-copied (c ∷ cs) = ap suc (frames-copied cs)
 seen-copied : (kind : ℕ) (cs : List (Tagged Copy)) → length (seen-in kind (map copy cs)) ≡ length (pick kind cs)
 seen-copied kind cs = length-map (pick kind (copies-in (map copy cs))) seen ∙ ap (λ (xs : List (Tagged Copy)). length (pick kind xs)) (copies-copied cs)
 
-abbrev Two : Session → Type 0
+abbrev pub Two : Session → Type 0
 Two closed = Unit {0}
 Two (opened idle run) = Unit {0}
 Two (started idle run subs) = length subs ≡ 2
 
-like-two : (R : Reading) (x : Session) → Like R x → Two x
+pub like-two : (R : Reading) (x : Session) → Like R x → Two x
 like-two R closed l = tt
 like-two R (opened i run) l = tt
 like-two R (started i run subs) l = l .3
@@ -209,36 +209,38 @@ module _ (w : World) (past : List Turn) (size : length (w .sessions) ≡ 4) (lik
   abbrev st : Settings
   st = w .settings
 
-  two-now : Two (session-at w s)
+  pub two-now : Two (session-at w s)
   two-now = like-two (reading-of s past) (session-at w s) (like s h)
+
+  pub two-heard : (t : ℕ) (p : Piece) → Two (session-at (next-world w (hears t p)) s)
+  two-heard t p = subst Two (sym (session-next w s (omega arith) (hears t p))) (go (eqb s t))
+    where
+      go : (b : Bool) → Two ((step st (cond b (receives p) elsewhere) (session-at w s)) .0)
+      go true = steps-two (receives-steps st (w .events) (reading-of s past) p (session-at w s) (like s h))
+      go false = steps-two (elsewhere-steps st (w .events) (reading-of s past) (session-at w s) (like s h))
 
   -- of one moment
   one-moment : (b : Bool) (m : Moment) → FewIn b ((each w m s (session-at w s)) .1) → FewIn b (pick s (emits w m ++ []))
   one-moment b m f = subst (FewIn b) (sym (out-one w past size like m s h)) f
 
-  few-told : (t : ℕ) (p : Piece) (b : Bool) (o : Option (List ℕ)) → FewIn b ((each w (hears t p) s (session-at w s)) .1) → Two (session-at (next-world w (hears t p)) s)
+  few-told : (t : ℕ) (p : Piece) (b : Bool) (o : Option (List ℕ)) → FewIn b ((each w (hears t p) s (session-at w s)) .1)
       → FewIn b (pick s (emitted w (hears t p ∷ told o)))
-  few-told t p b none f u = one-moment b (hears t p) f
-  few-told t p b (some y) f u =
+  few-told t p b none f = one-moment b (hears t p) f
+  few-told t p b (some y) f =
       let v = next-world w (hears t p) in
       rw (pick-append s (emits w (hears t p)) (emits v (happens (identified y)) ++ []))
       (few-append b (pick s (emits w (hears t p))) (pick s (emits v (happens (identified y)) ++ []))
       (subst (FewIn b) (sym (session-emits w s (omega arith) (hears t p))) f)
       (rw (append-nil (emits v (happens (identified y))), session-emits v s (rw (length-row (each w (hears t p)) 0 (w .sessions)) (omega arith)) (happens (identified y)))
-      (few-event st (record { id = w .events; event = identified y }) (session-at v s) u)))
+      (few-event st (record { id = w .events; event = identified y }) (session-at v s) (two-heard t p))))
 
   few-bytes : (t : ℕ) (p : Piece) (o : Option (List ℕ)) → FewIn (is-some (ended (run s past) (cond (eqb s t) (some p) none))) (pick s (emitted w (hears t p ∷ told o)))
   few-bytes t p o =
       few-told t p (is-some (ended (run s past) (cond (eqb s t) (some p) none))) o (go (eqb s t))
-      (subst Two (sym (session-next w s (omega arith) (hears t p))) (still-two (eqb s t)))
     where
       go : (b : Bool) → FewIn (is-some (ended (run s past) (cond b (some p) none))) ((step st (cond b (receives p) elsewhere) (session-at w s)) .1)
       go true = few-receives st (reading-of s past) p (session-at w s) (like s h)
       go false = few-opening st false (session-at w s)
-
-      still-two : (b : Bool) → Two ((step st (cond b (receives p) elsewhere) (session-at w s)) .0)
-      still-two true = steps-two (receives-steps st (w .events) (reading-of s past) p (session-at w s) (like s h))
-      still-two false = steps-two (elsewhere-steps st (w .events) (reading-of s past) (session-at w s) (like s h))
 
   few-reported : (o : Option Tool) → FewIn false (pick s (emitted w (reported w o)))
   few-reported none = omega arith

@@ -1,3 +1,4 @@
+pub mod Output
 pub mod Subscriptions
 pub mod Signals
 pub mod Sessions
@@ -6,3 +7,5 @@ pub mod Turns
 pub mod Frames
 pub mod Replies
 pub mod Product
+pub mod Cases
+pub mod Examples

@@ -1,40 +1,59 @@
 -- DEMAND 3, OF THE PRODUCT: whatever calls are made after a start that is done, whatever they are lent, and only they write the table.
 -- Assumes nothing.
-use Prim.Native.Nat.{ℕ, zero, suc, _<_}
+use Prim.Native.Nat.{ℕ, _≤_}
 use mathlib.Core.Path.{_≡_, refl, sym, _∙_, ap, ap₂, subst}
-use mathlib.Core.Bool.{Bool, true, false, _&&_}
-use mathlib.Core.List.{List, [], _∷_}
-use mathlib.Core.Option.{Option, none, some}
+use mathlib.Core.Bool.{_&&_}
+use mathlib.Core.List.{List, [], _∷_, map}
+use mathlib.Core.Option.{Option}
+use native.Mathlib.Omega.{arith}
 use lib.Dec.{eqb}
-use lib.ListN.{length}
-use Rattle.model.specs.Records.{Settings, payload, settings-of, read-settings}
+use lib.ListN.{length, length-take}
+use Rattle.model.specs.Records.{Settings, payload, settings-of}
 use Rattle.model.specs.World.{World, uncounted, begun, after}
-use Rattle.model.specs.Calls.{Call, start, Lent, settled, Answer as ModelAnswer, answered, step}
+use Rattle.model.specs.Calls.{Call, start, settled, Answer as ModelAnswer, answered, step}
 use Rattle.model.proofs.Erase.{erase-world}
 use Rattle.table.specs.Table.{decode, Table}
-use Rattle.refusal.specs.Numbers.{lent, number}
+use Rattle.refusal.specs.Numbers.{number}
 use Rattle.refusal.proofs.Numbers.{start-passes}
 use Rattle.controller.specs.declared.Answer.{Answer}
-use Rattle.controller.specs.Contract.{Said, said, Outcome}
+use Rattle.controller.specs.Contract.{Outcome}
 use Rattle.controller.specs.Trace.{Made, Trace, none as no-call, and, History, lendings}
+use Rattle.controller.proofs.Outputs.{step-below, step-four}
 use Rattle.controller.proofs.Traces.{number-is, table-left, table-begun}
 use Rattle.controller.proofs.Modelled.{lending, one-call}
 use Rattle.history.specs.Turns.{Turn, starts-call, turns}
+use Rattle.history.specs.Output.{read-output, record-of}
 use Rattle.history.specs.Demand.{NoStart}
-use Rattle.history.specs.Product.{Shows, Tells, Once, Meets}
+use Rattle.history.specs.Product.{Tells, Once, Meets}
+use Rattle.history.proofs.Output.{read-written, frames-back, closes-back}
 use Rattle.history.proofs.Turns.{demand-3-of-runs, in-time-of-runs}
 use Rattle.history.proofs.Frames.{few-frames-of-runs}
 use Rattle.history.proofs.Replies.{told-apart-in-runs}
 
 -- ==== a trace is a run of the model, with the numbers of events
 
-told : {t t′ : List ℕ} {ms : List Made} (w : World) → Table t → decode t ≡ erase-world w → Trace t ms t′ → Tells ms (turns w (lendings (length t) ms))
-told w h e no-call = tt
-told {t = t} w h e (and {t₁ = t₁} {m = m} {ms = ms} out rest) =
+told : {t t′ : List ℕ} {ms : List Made} (w : World) → length (w .sessions) ≡ 4 → Table t → decode t ≡ erase-world w → Trace t ms t′
+    → Tells ms (turns w (lendings (length t) ms))
+told w four h e no-call = tt
+told {t = t} w four h e (and {t₁ = t₁} {m = m} {ms = ms} out rest) =
     let k = one-call w h e out in
-    let q = step (lending (length t) (length (m .output))) w (m .call) in (
-      record { call = refl; answer = sym (k .answer); bytes = sym (k .bytes) },
-      subst (λ (n : ℕ). Tells ms (turns (q .0) (lendings n ms))) (out .size) (told (q .0) (table-left h out) (k .world) rest),
+    let l = lending (length t) (length (m .output)) in
+    let q = step l w (m .call) in
+    let below = step-below l w (m .call) four in
+    let long = ap length (k .bytes) in
+    let taken = length-take (m .answer .written) (m .output-left) in
+    let most : m .answer .written ≤ 2_048 = out .fits in (
+      record {
+        call = refl;
+        answer = sym (k .answer);
+        bytes = sym (k .bytes);
+        records = map record-of (q .2);
+        read = ap read-output (k .bytes) ∙ read-written (q .2) below (omega arith);
+        frames = λ s u. sym (frames-back s u (q .2) below);
+        closes = λ s u. sym (closes-back s u (q .2) below);
+      },
+      subst (λ (n : ℕ). Tells ms (turns (q .0) (lendings n ms))) (out .size)
+          (told (q .0) (step-four l w (m .call) four) (table-left h out) (k .world) rest),
     )
 
 -- what a start leaves
@@ -61,7 +80,7 @@ pub demand-3-of-the-product : {t t′ : List ℕ} {ms : List Made} (h : History 
 demand-3-of-the-product {t = t} {ms = ms} h o =
     let st = settings-of (payload (h .settings)) in
     let cs = lendings (length t) ms in
-    let k = told (begun st 0) (table-begun (h .begins) (h .done)) (world-begun (h .begins) (h .done)) (h .then) in
+    let k = told (begun st 0) refl (table-begun (h .begins) (h .done)) (world-begun (h .begins) (h .done)) (h .then) in
     let ns = no-start ms (turns (begun st 0) cs) k o in
     record {
       settings = st;

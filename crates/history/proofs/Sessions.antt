@@ -1,6 +1,6 @@
 -- What a moment does to a session, as it is read off the calls: the reading stays true, and to the notices of each kind one of the
 -- things is done that a call can do. Assumes nothing.
-use Prim.Native.Nat.{ℕ, zero, suc, _+_, _-_, _≤_, _<_, min}
+use Prim.Native.Nat.{ℕ, zero, suc, _<_}
 use mathlib.Core.Path.{_≡_, refl, sym, _∙_, ap, subst}
 use mathlib.Core.Bool.{Bool, true, false, cond, _&&_, _||_, not, and-false, true≢false}
 use mathlib.Core.List.{List, [], _∷_, _++_, map}
@@ -9,29 +9,28 @@ use native.Mathlib.Omega.{arith}
 use native.Mathlib.Nat.{le-refl}
 use lib.Dec.{leb, eqb}
 use lib.ListN.{length, getD, take, drop, length-take, drop-of-length-le}
-use borrow.Author.Tests.{eqb-true, eqb-false, eq-eqb, ne-eqb, leb-true}
-use Rattle.model.specs.Limits.{idle-limit, header-length, identifier-length}
-use Rattle.model.specs.Bytes.{digits, within, padded, decimal, places, is-text, all}
+use borrow.Author.Tests.{eqb-true, eqb-false, ne-eqb, leb-true}
+use Rattle.model.specs.Limits.{idle-limit}
+use Rattle.model.specs.Bytes.{digits, within, decimal, is-text, all}
 use Rattle.model.specs.Tests.{_gives_, first}
 use Rattle.model.specs.Records.{Settings}
 use Rattle.model.specs.Runs.{Run, empty-run, longer, Piece, Message, is-message, message-of, read-run}
-use Rattle.model.specs.Messages.{Effect, starts, stops, identifies, subscribes, unsubscribes, acknowledges as acknowledging, mirrors, Revisions, not-read, revisions, Entry, entry, entry-of, Error, already-started, wrong-length, wrong-revision, wrong-data, own, code, good-length, good-among, good-data, Standing, tested, error-of}
+use Rattle.model.specs.Messages.{Effect, starts, stops, identifies, subscribes, unsubscribes, acknowledges as acknowledging, mirrors, not-read, revisions, Entry, entry, entry-of, Error, wrong-length, wrong-revision, wrong-data, own, code, good-length, good-among, good-data, tested, error-of}
 use Rattle.model.specs.Events.{Event, identified, kind-of, Notice}
 use Rattle.model.specs.Frames.{frame-0002, frame-0004, frame-0005}
-use Rattle.model.specs.Notices.{Room, room-of, Subscription, unsubscribed, plain, acked, is-subscribed, takes as takes-event, Deed, nothing, beats, news, asks, drops, acks, act}
-use Rattle.model.specs.Row.{Tagged, row, said, pick}
+use Rattle.model.specs.Notices.{room-of, Subscription, unsubscribed, is-subscribed, Deed, beats, news, asks, drops, acks, act}
+use Rattle.model.specs.Row.{Tagged, row, said}
 use Rattle.model.specs.Session.{Session, closed, opened, started, is-closed, no-subscriptions, Copy, Emission, reply, copy, close, copies-to, deal, dealt, only}
-use Rattle.model.specs.Hearing.{started-standing, opened-standing, message-error, error-reply, accepted, carry-out, judged, hear, begin, hear-opened, identifier-told, identifier-judged, identifier-heard}
-use Rattle.model.specs.Steps.{end-run, end-run-opened, Local, opening, hang-up, receives, tick, event, elsewhere, tick-at, receive, receive-opened, step, takes, identifier-run, announces}
+use Rattle.model.specs.Hearing.{started-standing, opened-standing, message-error, accepted, judged, hear, begin, identifier-told, identifier-judged, identifier-heard}
+use Rattle.model.specs.Steps.{end-run, end-run-opened, opening, hang-up, receives, tick, event, elsewhere, step, takes, identifier-run, announces}
 use Rattle.model.proofs.RowLaws.{row-at, said-at, length-row}
 use Rattle.model.proofs.Cuts.{longer-longer}
-use Rattle.watch.specs.Marks.{Seen}
 use Rattle.watch.specs.Course.{Eff, rest}
 use Rattle.history.specs.Turns.{mid-of}
-use Rattle.history.specs.Reading.{subscribe, acknowledge, unsubscribe, run-with, ended, Wish, wish-of, is-some, asks-acknowledge, acknowledges, identifier-event, frame-for}
+use Rattle.history.specs.Reading.{subscribe, unsubscribe, run-with, ended, Wish, wish-of, is-some, asks-acknowledge, acknowledges, identifier-event, frame-for}
 use Rattle.history.specs.Demand.{copies-in, seen, seen-in}
-use Rattle.history.proofs.Subscriptions.{wish-in, is-some-wish, as-seen, view, is-newest, Done, few-rooms, unchanged, wiped, beats-does, news-does, asks-does, drops-does, acks-does, beats-wish, news-wish, acks-wish, asks-wish}
-use Rattle.history.proofs.Signals.{Signals, signals, silence, copies-silent, signals-by, reply-first, silent-0004, welcome-0002, silent-other, accepting, accepting-0005}
+use Rattle.history.proofs.Subscriptions.{wish-in, as-seen, view, is-newest, Done, few-rooms, unchanged, wiped, beats-does, news-does, asks-does, drops-does, acks-does, beats-wish, news-wish, acks-wish, asks-wish}
+use Rattle.history.proofs.Signals.{Signals, signals, silence, copies-silent, reply-first, silent-0004, welcome-0002, silent-other, accepting, accepting-0005}
 
 -- ==== what is read of a session
 
@@ -443,11 +442,13 @@ module _ (st : Settings) (k : ℕ) (R : Reading) where
   opening-steps (opened i run) c l = absurd (true≢false (sym c))
   opening-steps (started i run subs) c l = absurd (true≢false (sym c))
 
-  pub hang-up-steps : (x : Session) → Like R x → Steps st k (R .run) none true false false R x (step st hang-up x)
-  hang-up-steps closed l = steps-by (closed, []) silence refl refl (refl, λ kind. refl) (λ kind h. rest (le-refl k)) refl
-  hang-up-steps (opened i run) l = steps-by (closed, []) silence refl refl (refl, λ kind. refl) (λ kind h. rest (le-refl k)) refl
-  hang-up-steps (started i run subs) l =
+  -- b: it is this session's
+  pub hang-up-steps : (b : Bool) (x : Session) → Like R x → Steps st k (R .run) none b false false R x (step st (cond b hang-up elsewhere) x)
+  hang-up-steps true closed l = steps-by (closed, []) silence refl refl (refl, λ kind. refl) (λ kind h. rest (le-refl k)) refl
+  hang-up-steps true (opened i run) l = steps-by (closed, []) silence refl refl (refl, λ kind. refl) (λ kind h. rest (le-refl k)) refl
+  hang-up-steps true (started i run subs) l =
       steps-by (closed, []) silence refl refl (refl, λ kind. refl) (λ kind h. wiped (newest kind) st k false (getD subs kind unsubscribed)) refl
+  hang-up-steps false x l = elsewhere-steps x l
 
   abbrev shut : Signals
   shut = record { closes = true; welcomes = false; accepts = λ mid. false }

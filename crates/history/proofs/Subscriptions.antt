@@ -1,7 +1,7 @@
 -- What a deed does to a subscription is one of the things that a call can do to the notices of its kind. One proof for every kind.
 -- Assumes nothing.
-use Prim.Native.Nat.{ℕ, zero, suc, _+_, _%_, _≤_, _<_}
-use mathlib.Core.Path.{_≡_, refl, sym, _∙_, ap}
+use Prim.Native.Nat.{ℕ, zero, suc, _%_, _≤_, _<_}
+use mathlib.Core.Path.{_≡_, refl}
 use mathlib.Core.Bool.{Bool, true, false, cond, _&&_, true≢false}
 use mathlib.Core.List.{List, [], _∷_, _++_, map, map-append}
 use mathlib.Core.Option.{Option, none, some}
@@ -13,7 +13,7 @@ use borrow.Author.Tests.{eqb-true, eqb-false, ltb-true}
 use Rattle.model.specs.Limits.{given-up-at, copy-every}
 use Rattle.model.specs.Records.{Settings}
 use Rattle.model.specs.Events.{Event, kind-of, Notice}
-use Rattle.model.specs.Notices.{Room, the-newest, up-to, room-of, empty, busy, Subscription, unsubscribed, plain, acked, is-subscribed, has-room, takes, Deed, nothing, beats, news, asks, drops, acks, next-one, waits, clock-at, act}
+use Rattle.model.specs.Notices.{Room, the-newest, up-to, room-of, empty, busy, Subscription, unsubscribed, plain, acked, is-subscribed, has-room, takes, nothing, beats, news, asks, drops, acks, next-one, waits, act}
 use Rattle.model.specs.Session.{frame-to}
 use Rattle.watch.specs.Marks.{Seen}
 use Rattle.watch.specs.Course.{Queue, empty as none-waits, busy as waiting, Eff, rest, lone, first, keep, wait, swap, wipe, over, pass, beat, again, quit, quit-pass}

@@ -1,36 +1,36 @@
 -- Every call of the model does, to the notices of each kind to each session, one of the things that a call can do. Assumes nothing.
-use Prim.Native.Nat.{ℕ, zero, suc, _+_, _-_, _*_, _/_, _%_, _^_, _≤_, _<_}
+use Prim.Native.Nat.{ℕ, zero, suc, _+_, _*_, _/_, _%_, _≤_, _<_}
 use mathlib.Core.Path.{_≡_, refl, sym, _∙_, ap, ap₂, subst}
-use mathlib.Core.Bool.{Bool, true, false, cond, _&&_, _||_, not, and-false, true≢false}
+use mathlib.Core.Bool.{Bool, true, false, cond, _&&_, not, true≢false}
 use mathlib.Core.List.{List, [], _∷_, _++_, append-nil}
 use mathlib.Core.Option.{Option, none, some}
 use native.Mathlib.Omega.{arith}
 use native.Mathlib.Nat.{le-refl}
-use lib.Dec.{leb, ltb, eqb, eqb·suc-zero}
+use lib.Dec.{leb, ltb, eqb}
 use lib.ListN.{length, getD, getD-replicate}
 use borrow.Author.Tests.{eqb-true, eq-eqb, ne-eqb, leb-false, not-false}
 use Rattle.model.specs.Limits.{session-count, table-least, output-least}
 use Rattle.model.specs.Tests.{_gives_, first}
-use Rattle.model.specs.Records.{Settings, Tool, scanned, tightening, Tightening, read-tool}
-use Rattle.model.specs.Runs.{Piece, cut, consumed-by, Message}
-use Rattle.model.specs.Events.{Event, identified, tightened, kind-of, identifiers, tightenings, identifier-of}
-use Rattle.model.specs.Notices.{room-of, Subscription, unsubscribed, plain, acked, empty, busy, is-subscribed, takes as takes-event}
-use Rattle.model.specs.Row.{Tagged, row, pick}
+use Rattle.model.specs.Records.{Settings, Tool, scanned, tightening, read-tool}
+use Rattle.model.specs.Runs.{Piece, cut, consumed-by}
+use Rattle.model.specs.Events.{Event, identified, tightened, identifiers, tightenings, identifier-of}
+use Rattle.model.specs.Notices.{room-of, Subscription, unsubscribed, plain, acked, empty, busy, takes as takes-event}
+use Rattle.model.specs.Row.{Tagged, pick}
 use Rattle.model.specs.Session.{Session, closed, opened, started, is-closed, Emission}
-use Rattle.model.specs.Steps.{opening, hang-up, receives, elsewhere, event as event-seen, step as session-step, takes as takes-in, announces}
+use Rattle.model.specs.Steps.{opening, receives, elsewhere, event as event-seen, step as session-step, takes as takes-in, announces}
 use Rattle.model.specs.World.{World, session-at, Moment, opens as opens-moment, hangs-up as hangs-up-moment, hears, ticks, happens, each, begun, next as next-world, emits, after, emitted}
-use Rattle.model.specs.Calls.{Call, start, open-session, hang-up-session, bytes, one-tick, tool, Lent, lent-tests, refusal, settled, told, reported, moments, output, takers, taken-by, Answer, answered, step}
+use Rattle.model.specs.Calls.{Call, start, open-session, hang-up-session, bytes, one-tick, tool, Lent, refusal, told, reported, moments, output, takers, taken-by, answered, step}
 use Rattle.model.proofs.RowLaws.{pick-append, length-row}
 use Rattle.model.proofs.Sessions.{session-next, session-emits}
-use Rattle.watch.specs.Marks.{Seen, Mark, Demand3, InTime}
-use Rattle.watch.specs.Course.{Queue, empty as none-waits, Eff, Rises, Course, end, call}
+use Rattle.watch.specs.Marks.{Demand3, InTime}
+use Rattle.watch.specs.Course.{Queue, empty as none-waits, Course, end, call}
 use Rattle.watch.proofs.Theorem.{demand-3, goes-out-in-time}
-use Rattle.history.specs.Turns.{Turn, turn, turns, is-done, is-start, opens, hangs-up, is-tick, given, accepted}
-use Rattle.history.specs.Reading.{run-with, run, ended, message, Wish, wish, is-some, asks-acknowledge, subscribed, closes, Shared, tool-event, identifier-event, event, shared-with, shared, frame-for, in-sum, of-kind, takes-call, takes}
-use Rattle.history.specs.Demand.{seen-in, mark, marks, NoStart}
-use Rattle.history.proofs.Subscriptions.{wish-in, is-some-wish, view, unchanged}
-use Rattle.history.proofs.Signals.{Signals, signals, silence, silent-after}
-use Rattle.history.proofs.Sessions.{Reading, next, closing, Like, sub-at, Stepped, newest, Steps, two, told-event, elsewhere-steps, opening-steps, hang-up-steps, tick-steps, receives-steps, told-steps, event-silent, event-like, event-does}
+use Rattle.history.specs.Turns.{Turn, turn, turns, is-start}
+use Rattle.history.specs.Reading.{run-with, run, ended, wish, is-some, asks-acknowledge, Shared, tool-event, identifier-event, event, shared, in-sum, of-kind}
+use Rattle.history.specs.Demand.{seen-in, marks, NoStart}
+use Rattle.history.proofs.Subscriptions.{wish-in, view, unchanged}
+use Rattle.history.proofs.Signals.{Signals, signals, silent-after}
+use Rattle.history.proofs.Sessions.{Reading, closing, Like, sub-at, newest, Steps, two, told-event, elsewhere-steps, opening-steps, hang-up-steps, tick-steps, receives-steps, told-steps, event-silent}
 use Rattle.history.proofs.Calls.{reading-of, shared-of, sub-of, like-wish, like-started, Moves, frame-none, recast, out-one, refused-moves, quiet-moves, event-moves}
 
 -- ==== what a call that is done has passed
@@ -147,12 +147,8 @@ module _ (w : World) (past : List Turn) (size : length (w .sessions) ≡ 4) (lik
       → Moves st (shared-of w) w past (done (hang-up-session t) (hangs-up-moment t ∷ []) consumed written taken) (next-world w (hangs-up-moment t))
   hang-up-moves t consumed written taken =
       quiet-moves w past size like (hangs-up-moment t) (done (hang-up-session t) (hangs-up-moment t ∷ []) consumed written taken) refl refl refl
-      (length-row (each w (hangs-up-moment t)) 0 (w .sessions)) refl (λ s. false) (λ s h. go s h (eqb s t))
-    where
-      go : (s : ℕ) → s < 4 → (b : Bool)
-          → Steps st (w .events) (run s past) none b false false (R s) (session-at w s) (session-step st (cond b hang-up elsewhere) (session-at w s))
-      go s h true = hang-up-steps st (w .events) (R s) (session-at w s) (like s h)
-      go s h false = elsewhere-steps st (w .events) (R s) (session-at w s) (like s h)
+      (length-row (each w (hangs-up-moment t)) 0 (w .sessions)) refl (λ s. false)
+      (λ s h. hang-up-steps st (w .events) (R s) (eqb s t) (session-at w s) (like s h))
 
   tick-moves : (consumed written taken : ℕ) → Moves st (shared-of w) w past (done one-tick (ticks ∷ []) consumed written taken) (next-world w ticks)
   tick-moves consumed written taken =

@@ -1,12 +1,11 @@
 -- Demand 3, of a history of calls: the marks of its turns, and what is asked of them. Assumes nothing: these are definitions.
-use Prim.Native.Nat.{ℕ, zero, suc, _+_, _*_, _≤_, _<_}
+use Prim.Native.Nat.{ℕ, suc, _+_, _*_, _≤_, _<_}
 use mathlib.Core.Path.{_≡_}
-use mathlib.Core.Bool.{Bool, true, false, cond}
+use mathlib.Core.Bool.{true, false, cond}
 use mathlib.Core.List.{List, [], _∷_, _++_, map}
-use mathlib.Core.Option.{Option, none, some}
+use lib.Dec.{eqb}
 use lib.ListN.{length, getD}
 use Rattle.model.specs.Records.{Settings}
-use Rattle.model.specs.Runs.{Message}
 use Rattle.model.specs.Events.{identifiers, tightenings}
 use Rattle.model.specs.Session.{Copy, Emission, reply, copy, close}
 use Rattle.model.specs.Row.{Tagged, pick}
@@ -83,16 +82,24 @@ FewFrames st s xs = (before : List Turn) (x : Turn) (during later : List Turn) �
 abbrev pub notice : ℕ → ℕ
 notice kind = getD (0052 ∷ 0061 ∷ []) kind 0
 
--- a reply has neither
+-- a reply has neither, and a copy is of one of the two kinds
 abbrev pub NoNotice : Emission → Type 0
 NoNotice (reply frame) = (mid-of frame ≡ notice identifiers → ⊥) × (mid-of frame ≡ notice tightenings → ⊥)
-NoNotice (copy c) = Unit {0}
+NoNotice (copy c) = c .who < 2
 NoNotice close = Unit {0}
 
--- what is counted as a copy has its kind's, and what is not counted has neither
+-- those frames that have that number
+abbrev pub of-number : ℕ → List (List ℕ) → List (List ℕ)
+of-number mid [] = []
+of-number mid (f ∷ fs) = let r = of-number mid fs in cond (eqb (mid-of f) mid) (f ∷ r) r
+
+-- what is counted as a copy has its kind's, and what is not counted has neither: the copies that a turn sends of a kind are those of
+-- its frames that have the kind's number, in their order
 pub record ToldApart (st : Settings) (s : ℕ) (xs : List Turn) : Type 0 where
   pub counted : (kind : ℕ) → kind < 2 → Every (λ x. mid-of (x .frame) ≡ notice kind) (all-sent (marks st s kind [] xs))
   pub others : Every (λ x. Every NoNotice (pick s (x .out))) xs
+  pub exactly : (kind : ℕ) → kind < 2
+      → Every (λ x. map (λ c. c .frame) (seen-in kind (pick s (x .out))) ≡ of-number (notice kind) (frames-to s x)) xs
 
 -- ==== no second start is done
 

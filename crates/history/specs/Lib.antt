@@ -1,4 +1,5 @@
 pub mod Turns
 pub mod Reading
+pub mod Output
 pub mod Demand
 pub mod Product

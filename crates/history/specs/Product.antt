@@ -1,7 +1,7 @@
 -- Demand 3, of the product: of every history of calls that the contracts of the six calls allow. Assumes nothing: these are definitions.
 use Prim.Native.Nat.{ℕ, _<_}
 use mathlib.Core.Path.{_≡_}
-use mathlib.Core.Bool.{Bool, false, _&&_}
+use mathlib.Core.Bool.{false, _&&_}
 use mathlib.Core.List.{List, [], _∷_}
 use mathlib.Core.Option.{some}
 use lib.Dec.{eqb}
@@ -12,7 +12,8 @@ use Rattle.model.specs.Calls.{output}
 use Rattle.watch.specs.Marks.{Every, Demand3, InTime}
 use Rattle.controller.specs.Contract.{model-answer}
 use Rattle.controller.specs.Trace.{Made}
-use Rattle.history.specs.Turns.{Turn, starts-call}
+use Rattle.history.specs.Turns.{Turn, starts-call, frames-to, times-out}
+use Rattle.history.specs.Output.{Read, read-output, frames-read, close-read}
 use Rattle.history.specs.Demand.{marks, FewFrames, ToldApart}
 
 -- ==== the turns of a history are its calls, their answers and the bytes that they wrote
@@ -21,6 +22,11 @@ pub record Shows (m : Made) (x : Turn) : Type 0 where
   pub call : x .call ≡ m .call
   pub answer : x .answer ≡ model-answer (m .answer)
   pub bytes : output (x .out) ≡ take (m .answer .written) (m .output-left)
+  -- these bytes, read as house records to their end; and what is counted of the turn is what is read
+  pub records : List Read
+  pub read : read-output (take (m .answer .written) (m .output-left)) ≡ some records
+  pub frames : (s : ℕ) → s < 4 → frames-to s x ≡ frames-read s records
+  pub closes : (s : ℕ) → s < 4 → times-out s x ≡ close-read s records
 
 abbrev pub Tells : List Made → List Turn → Type 0
 Tells [] [] = Unit {0}

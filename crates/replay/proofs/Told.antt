@@ -1,8 +1,8 @@
 -- 01, "Counted and compared": what a call has the program print are the model's lines for it. Assumes nothing.
 use mathlib.Core.Path.{_≡_, refl, sym, ap, ap₂, _∙_}
-use Prim.Native.Nat.{ℕ, zero, suc, _+_, _-_, _%_, _≤_, _<_}
+use Prim.Native.Nat.{ℕ, _+_, _-_, _%_, _≤_, _<_}
 use native.Mathlib.Omega.{arith}
-use mathlib.Core.Bool.{Bool, true, false, cond}
+use mathlib.Core.Bool.{Bool, cond}
 use mathlib.Core.List.{List, [], _∷_, _++_, map}
 use lib.Dec.{eqb}
 use lib.ListN.{length, take, drop, length-append}
@@ -11,58 +11,20 @@ use borrow.Author.Tests.{ne-eqb}
 use Rattle.model.specs.Bytes.{NUL, space, digits, in-bytes, little, places}
 use Rattle.model.specs.Frames.{frame-record, close-record}
 use Rattle.model.specs.Records.{house-record}
-use Rattle.model.specs.Session.{Session, Emission, reply, copy, close}
-use Rattle.model.specs.World.{World, Moment, begins, opens, hangs-up, hears, ticks, happens, each, next, emitted}
-use Rattle.model.specs.Calls.{Call, moments, answered, output-record, output, step}
-use Rattle.model.specs.Row.{Tagged, tag, row, said}
+use Rattle.model.specs.Session.{Emission, reply, copy, close}
+use Rattle.model.specs.Calls.{Call, output-record, output, step}
+use Rattle.model.specs.Row.{Tagged, said}
 use Rattle.model.specs.Program.{shown, line-of, lines-of, slices, printed}
-use Rattle.model.proofs.RowLaws.{length-row}
 use Rattle.text.proofs.Cells.{length-cells}
 use Rattle.table.specs.Table.{decode}
 use Rattle.refusal.specs.Numbers.{number}
 use Rattle.controller.specs.declared.Answer.{Answer}
 use Rattle.controller.specs.Contract.{model-answer, Outcome}
 use Rattle.controller.specs.Contract as contract
-use Rattle.controller.proofs.Outputs.{so-long, stands}
+use Rattle.controller.proofs.Outputs.{so-long, stands, Below, answered-below}
 use Rattle.replay.specs.Lines.{line-in, lines-in, text-of}
 use Rattle.replay.specs.Whole.{whole-size}
 use Rattle.replay.proofs.Sizes.{size-whole, slices-first}
-
--- ==== whatever goes out goes to one of four sessions
-
-abbrev Below : ℕ → List (Tagged Emission) → Type 0
-Below n [] = Unit {0}
-Below n (x ∷ xs) = (x .who < n) × Below n xs
-
-below-append : (n : ℕ) (xs ys : List (Tagged Emission)) → Below n xs → Below n ys → Below n (xs ++ ys)
-below-append n [] ys p q = q
-below-append n (x ∷ xs) ys p q = (p .0, below-append n xs ys (p .1) q)
-
-below-tag : (n i : ℕ) (xs : List Emission) → i < n → Below n (tag i xs)
-below-tag n i [] h = tt
-below-tag n i (x ∷ xs) h = (h, below-tag n i xs h)
-
-below-said : (act : ℕ → Session → Session × List Emission) (n i : ℕ) (xs : List Session) → i + length xs ≤ n → Below n (said act i xs)
-below-said act n i [] h = tt
-below-said act n i (x ∷ xs) h =
-    below-append n (tag i ((act i x) .1)) (said act (suc i) xs) (below-tag n i ((act i x) .1) (omega arith)) (below-said act n (suc i) xs (omega arith))
-
-still-four : (w : World) (m : Moment) → length (w .sessions) ≡ 4 → length ((next w m) .sessions) ≡ 4
-still-four w (begins st) h = refl
-still-four w (opens s) h = length-row (each w (opens s)) 0 (w .sessions) ∙ h
-still-four w (hangs-up s) h = length-row (each w (hangs-up s)) 0 (w .sessions) ∙ h
-still-four w (hears s p) h = length-row (each w (hears s p)) 0 (w .sessions) ∙ h
-still-four w ticks h = length-row (each w ticks) 0 (w .sessions) ∙ h
-still-four w (happens e) h = length-row (each w (happens e)) 0 (w .sessions) ∙ h
-
-below-emitted : (w : World) (ms : List Moment) → length (w .sessions) ≡ 4 → Below 4 (emitted w ms)
-below-emitted w [] h = tt
-below-emitted w (m ∷ ms) h =
-    below-append 4 (said (each w m) 0 (w .sessions)) (emitted (next w m) ms) (below-said (each w m) 4 0 (w .sessions) (omega arith)) (below-emitted (next w m) ms (still-four w m h))
-
-below-answered : (w : World) (c : Call) (n : ℕ) → length (w .sessions) ≡ 4 → Below 4 ((answered w c n) .2)
-below-answered w c zero h = below-emitted w (moments w c) h
-below-answered w c (suc n) h = tt
 
 four-sessions : (t : List ℕ) → length ((decode t) .sessions) ≡ 4
 unfolding decode
@@ -169,4 +131,4 @@ told {c = c} {t = t} {o = o} {r = r} {t′ = t′} {o′ = o′} out =
     let n = so-long out in
     let f : r .written ≤ 2_048 = out .fits in
     ap (λ (ls : List (List ℕ)). printed (cond (eqb (r .number) 0) ls ((0x52 ∷ space ∷ digits 1 (r .number)) ∷ [])))
-    (ap lines-in (s .records) ∙ lines-in-output es (below-answered (decode t) c (number t (length o) c) (four-sessions t)) (omega arith))
+    (ap lines-in (s .records) ∙ lines-in-output es (answered-below (decode t) c (number t (length o) c) (four-sessions t)) (omega arith))

@@ -5,3 +5,4 @@ pub mod Sessions
 pub mod Hearing
 pub mod Afterwards
 pub mod Acknowledges
+pub mod Lent

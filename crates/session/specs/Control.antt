@@ -13,6 +13,9 @@ use Rattle.session.specs.declared.Subscription.{Subscription}
 use Rattle.session.specs.declared.Session.{Session}
 use Rattle.session.specs.declared.Beat.{Beat}
 use Rattle.session.specs.declared.Beat.the-variants.{Runs, Copy, GivenUp}
+use Rattle.session.specs.declared.Clock.{Clock}
+use Rattle.session.specs.declared.Due.{Due}
+use Rattle.session.specs.declared.Due.the-variants as due
 use Rattle.session.specs.declared.Step.{Step}
 use Rattle.session.specs.declared.Take.{Take}
 use Rattle.session.specs.declared.Take.the-variants as take
@@ -55,6 +58,17 @@ beat-at clock =
     cond (leb given-up-at (clock + 1)) GivenUp
     (cond (eqb ((clock + 1) % copy-every) 0) (Copy (clock + 1)) (Runs (clock + 1)))
 
+-- where a beat leaves the clock of whichever notice is then open, and what it is time for
+abbrev pub clock-after : Beat → Clock
+clock-after (Runs clock) = record { ticks = clock }
+clock-after (Copy clock) = record { ticks = clock }
+clock-after GivenUp = record { ticks = 0 }
+
+abbrev pub due-by : Beat → Due
+due-by (Runs clock) = due.Nothing
+due-by (Copy clock) = due.Copy
+due-by GivenUp = due.GivenUp
+
 -- ==== a tick and an acknowledge
 
 abbrev pub step : Subscription → Bool → Bool → Step
@@ -74,6 +88,12 @@ abbrev pub by-beat : Subscription → Beat → Step
 by-beat x (Runs clock) = step (holding x clock (x .held)) false false
 by-beat x (Copy clock) = step (holding x clock (x .held)) false true
 by-beat x GivenUp = next-goes-out x
+
+-- the same, over what a clock that is lent leaves
+abbrev pub step-at : Subscription → ℕ → Due → Step
+step-at x clock due.Nothing = step (holding x clock (x .held)) false false
+step-at x clock due.Copy = step (holding x clock (x .held)) false true
+step-at x clock due.GivenUp = next-goes-out x
 
 abbrev pub ticked-from : Form → Subscription → Step
 ticked-from form.Not x = still x

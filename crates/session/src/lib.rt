@@ -10,6 +10,9 @@ ghost use Rattle.session.specs.Control.{
   fresh as fresh-session,
   cleared as cleared-session,
   beat-at,
+  clock-after,
+  due-by,
+  step-at,
   still as still-one,
   next-goes-out,
   by-beat,
@@ -178,6 +181,48 @@ pub fn beat_of(clock: u64) -> Beat
     Beat::Runs(next)
 }
 
+// The clock of an open notice as a record, which whoever holds it lends.
+pub struct Clock {
+    pub ticks: u64,
+}
+
+// What it is time for, once a clock is advanced: nothing; another copy; to give the notice up.
+pub enum Due {
+    Nothing,
+    Copy,
+    GivenUp,
+}
+
+// Where a beat leaves the clock. The notice after one that is given up begins with a new clock.
+fn ticks_after(b: Beat) -> u64
+    ensures { λ r. ⌜ r ≡ (clock-after b) .ticks ⌝ }
+{
+    match b {
+        Beat::Runs(clock) => clock,
+        Beat::Copy(clock) => clock,
+        Beat::GivenUp => 0,
+    }
+}
+
+fn due_after(b: Beat) -> Due
+    ensures { λ r. ⌜ r ≡ due-by b ⌝ }
+{
+    match b {
+        Beat::Runs(_) => Due::Nothing,
+        Beat::Copy(_) => Due::Copy,
+        Beat::GivenUp => Due::GivenUp,
+    }
+}
+
+// The same as `beat_of`, in place: the clock is lent.
+pub fn advance(clock: &mut Clock) -> Due
+    ensures { λ r. ⌜ (now (clock .exit) ≡ clock-after (beat-at (now (clock .entry) .ticks))) × (r ≡ due-by (beat-at (now (clock .entry) .ticks))) ⌝ }
+{
+    let beat = beat_of(clock.ticks);
+    clock.ticks = ticks_after(beat);
+    due_after(beat)
+}
+
 // ---- a tick and an acknowledge, to a subscription
 
 // The subscription after it; whether the held notices shift down, so that the first is gone; whether the one that is then the
@@ -226,23 +271,33 @@ fn next_one(x: Subscription) -> Step
     }
 }
 
-fn beaten(x: Subscription, b: Beat) -> Step
-    ensures { λ r. ⌜ r ≡ by-beat x b ⌝ }
+// What is done where the open one's clock came to `clock`.
+fn done_at(x: Subscription, clock: u64, due: Due) -> Step
+    ensures { λ r. ⌜ r ≡ step-at x clock due ⌝ }
 {
     let held = x.held;
-    match b {
-        Beat::Runs(clock) => Step {
+    match due {
+        Due::Nothing => Step {
             next: holding(x, clock, held),
             shift: false,
             send: false,
         },
-        Beat::Copy(clock) => Step {
+        Due::Copy => Step {
             next: holding(x, clock, held),
             shift: false,
             send: true,
         },
-        Beat::GivenUp => next_one(x),
+        Due::GivenUp => next_one(x),
     }
+}
+
+// One is open: its clock is advanced in place.
+fn beaten(x: Subscription) -> Step
+    ensures { λ r. ⌜ r ≡ by-beat x (beat-at (x .clock)) ⌝ }
+{
+    let mut clock = Clock { ticks: x.clock };
+    let due = advance(&mut clock);
+    done_at(x, clock.ticks, due)
 }
 
 pub fn ticked(x: Subscription) -> Step
@@ -256,7 +311,7 @@ pub fn ticked(x: Subscription) -> Step
             if x.held == 0 {
                 return still(x);
             }
-            beaten(x, beat_of(x.clock))
+            beaten(x)
         }
     }
 }

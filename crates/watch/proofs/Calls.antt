@@ -1,6 +1,6 @@
 -- What one call does to the notices of one kind to one session, of a notice that is open, gone, not sent yet or waiting. Assumes nothing.
-use Prim.Native.Nat.{ℕ, zero, suc, _+_, _-_, _*_, _/_, _%_, _≤_, _<_}
-use mathlib.Core.Path.{_≡_, refl, sym, _∙_, ap}
+use Prim.Native.Nat.{ℕ, zero, suc, _+_, _-_, _*_, _/_, _≤_, _<_}
+use mathlib.Core.Path.{_≡_, refl, sym, ap}
 use mathlib.Core.Bool.{Bool, true, false, cond, true≢false}
 use mathlib.Core.List.{List, [], _∷_, _++_}
 use mathlib.Core.Option.{Option, none, some}
@@ -98,7 +98,7 @@ pub data Fate (n c : ℕ) (q′ : Queue) (k′ : ℕ) (es : List Seen) : Bool �
   shut : {t : Bool} → copies-among n es ≡ 0 → Gone n q′ k′ → Fate n c q′ k′ es true t
   same : copies-among n es ≡ 0 → OpenAt n c q′ k′ → Fate n c q′ k′ es false false
   runs : copies-among n es + c / 20 ≡ suc c / 20 → OpenAt n (suc c) q′ k′ → Fate n c q′ k′ es false true
-  ends : suc c ≡ 120 → copies-among n es ≡ 0 → Gone n q′ k′ → Fate n c q′ k′ es false true
+  ends : suc c ≡ 120 → copies-among n es + c / 20 ≡ 5 → Gone n q′ k′ → Fate n c q′ k′ es false true
 
 module _ {z : Bool} {k k′ : ℕ} where
   pub open-step : (n c : ℕ) {e : Option (List ℕ)} {o a s t p p′ : Bool} {q q′ : Queue} {es : List Seen}
@@ -120,9 +120,10 @@ module _ {z : Bool} {k k′ : ℕ} where
   open-step n c (again {x = x} {q = r} h u v) g =
       let z = one n _ (g .0) in
       runs (omega arith) (g .0, ap suc (g .1), omega arith, above-up (suc (x .id)) r h (g .3))
-  open-step n c (quit h u) g = ends (omega arith) refl (omega arith)
+  open-step n c (quit h u) g = ends (omega arith) (omega arith) (omega arith)
   open-step n c (quit-pass {y = y} {q = r} h u) g =
-      ends (omega arith) (none-of n (y .id) (omega arith)) (omega arith, above-up (suc (y .id)) r h (g .3 .1))
+      let z = none-of n (y .id) (omega arith) in
+      ends (omega arith) (omega arith) (omega arith, above-up (suc (y .id)) r h (g .3 .1))
 
 -- ==== a notice that is not open
 
@@ -138,6 +139,10 @@ by-test {P} a b f g = go (eqb a b) refl
     go true e = f (eqb-true a b e)
     go false e = g (eqb-false a b e)
 
+-- the next one goes out, with a new clock
+goes-out : (n : ℕ) (y : Seen) {c : ℕ} (q : List Seen) {k : ℕ} → c ≡ 0 → Above (suc (y .id)) q k → Start n (busy y c q) k (y ∷ []) true
+goes-out n y q e a = by-test (y .id) n (λ z. opens (one n _ z) (z, e, omega arith, a)) (λ z. not-yet (none-of n _ z) z)
+
 module _ {z : Bool} {k k′ : ℕ} where
   pub start-step : (n : ℕ) {e : Option (List ℕ)} {o a s t p p′ : Bool} {q q′ : Queue} {es : List Seen}
       → Eff z k k′ e o a s t p p′ q q′ es → Good q k → NotOpen n q → Start n q′ k′ es a
@@ -151,15 +156,11 @@ module _ {z : Bool} {k k′ : ℕ} where
   start-step n (swap z′ h) g u = not-yet refl u
   start-step n (wipe h) g u = not-yet refl tt
   start-step n (over h) g u = not-yet refl tt
-  start-step n (pass {y = y} {q = r} h) g u =
-      by-test (y .id) n (λ z. opens (one n _ z) (z, refl, omega arith, above-up (suc (y .id)) r h (g .1 .1)))
-      (λ z. not-yet (none-of n _ z) z)
+  start-step n (pass {y = y} {q = r} h) g u = goes-out n y r (omega arith) (above-up (suc (y .id)) r h (g .1 .1))
   start-step n (beat h u′ v) g u = not-yet refl u
   start-step n (again {x = x} h u′ v) g u = not-yet (none-of n _ u) u
   start-step n (quit h v) g u = not-yet refl tt
-  start-step n (quit-pass {y = y} {q = r} h v) g u =
-      by-test (y .id) n (λ z. opens (one n _ z) (z, refl, omega arith, above-up (suc (y .id)) r h (g .1 .1)))
-      (λ z. not-yet (none-of n _ z) z)
+  start-step n (quit-pass {y = y} {q = r} h v) g u = goes-out n y r (omega arith) (above-up (suc (y .id)) r h (g .1 .1))
 
 -- ==== frames: F says which frame a notice has
 

@@ -1,5 +1,5 @@
 -- What the calls of a whole history do to the notices of one kind to one session. Assumes nothing.
-use Prim.Native.Nat.{ℕ, zero, suc, _+_, _-_, _*_, _/_, _≤_, _<_, min}
+use Prim.Native.Nat.{ℕ, suc, _+_, _-_, _*_, _/_, _≤_, _<_, min}
 use mathlib.Core.Path.{_≡_, refl, sym, _∙_, ap, subst}
 use mathlib.Core.Bool.{Bool, true, false, cond}
 use mathlib.Core.List.{List, [], _∷_, _++_}
@@ -10,7 +10,7 @@ use lib.Dec.{eqb}
 use lib.ListN.{length, length-append}
 use borrow.Author.Tests.{eq-eqb, ne-eqb}
 use Rattle.watch.specs.Marks.{Seen, Mark, copies-among, all-sent, copies, tick-count, ticks-open, or-later, frame-of, Every, taken}
-use Rattle.watch.specs.Course.{Queue, empty, busy, Eff, Rises, Course, end, call}
+use Rattle.watch.specs.Course.{Queue, empty, busy, Rises, Course, end, call}
 use Rattle.watch.proofs.Calls.{Good, OpenAt, Gone, NotOpen, good-step, gone-step, Fate, shut, same, runs, ends, open-step, Start, not-yet, opens, single, start-step, Framed, all, framed-append, Says, frame-step, subscribed-step, credit, six, credit-step, Due, less, due-step, due-taken}
 
 pub copies-append : (n : ℕ) (xs ys : List Seen) → copies-among n (xs ++ ys) ≡ copies-among n xs + copies-among n ys

@@ -1,3 +1,4 @@
 pub mod Calls
 pub mod Histories
 pub mod Theorem
+pub mod Examples

@@ -1,13 +1,13 @@
 -- Demand 3 of every history of such calls that begins with nothing open and nothing waiting. Assumes nothing.
-use Prim.Native.Nat.{ℕ, zero, suc, _+_, _*_, _/_, _≤_, _<_, min}
+use Prim.Native.Nat.{ℕ, _+_, _*_, _/_, _≤_, min}
 use mathlib.Core.Path.{_≡_, refl, sym, _∙_, ap, subst}
 use mathlib.Core.Bool.{Bool, true, false, cond}
 use mathlib.Core.List.{List, [], _∷_, _++_, append-assoc}
 use native.Mathlib.Omega.{arith}
 use lib.ListN.{length}
-use Rattle.watch.specs.Marks.{Seen, Mark, copies-among, all-sent, copies, tick-count, ticks-open, T, copies-due, First, frame-of, Every, taken, Demand3, InTime}
-use Rattle.watch.specs.Course.{Queue, empty, busy, Course}
-use Rattle.watch.proofs.Histories.{copies-append, copies-join, course-before, counted, framed, subscribers, bounded, taken-in-time}
+use Rattle.watch.specs.Marks.{Mark, all-sent, copies, ticks-open, First, frame-of, taken, Demand3, InTime}
+use Rattle.watch.specs.Course.{empty, Course}
+use Rattle.watch.proofs.Histories.{copies-join, course-before, counted, framed, subscribers, bounded, taken-in-time}
 
 -- what comes after a call that closes does not count
 ticks-to : (xs : List Mark) (c : Mark) (ys : List Mark) → c .closes ≡ true → ticks-open (xs ++ c ∷ ys) ≡ ticks-open xs

@@ -1,0 +1,135 @@
+-- The words in which demand 3 is read off calls, on small histories, computed. Each is session 0, started and subscribed to tightenings with
+-- acknowledge, and a tightening that goes out to it; then what a row says. Assumes nothing.
+use Prim.Native.Nat.{ℕ, zero, suc, _/_, _%_}
+use mathlib.Core.Path.{_≡_, refl}
+use mathlib.Core.Bool.{Bool, true, false}
+use mathlib.Core.List.{List, [], _∷_, _++_, map}
+use mathlib.Core.Option.{none, some}
+use lib.ListN.{length, drop, replicate}
+use Rattle.model.specs.Limits.{table-least}
+use Rattle.model.specs.Records.{Settings, payload, settings-of}
+use Rattle.model.specs.Events.{tightenings}
+use Rattle.model.specs.World.{begun}
+use Rattle.model.specs.Calls.{Call, Lent}
+use Rattle.model.proofs.Histories.{a-tightening, scan, opened, hung-up, sends, tick, ticks, line4, told, outcome}
+use Rattle.watch.specs.Marks.{Mark, copies, T}
+use Rattle.history.specs.Turns.{longest-wait, turns}
+use Rattle.history.specs.Demand.{marks}
+use Rattle.history.specs.Output.{read-output}
+use Rattle.history.proofs.Cases.{call-in, long-enough}
+
+-- ==== marks of histories
+
+abbrev of-line4 : Settings
+of-line4 = settings-of (payload line4)
+
+abbrev made : List ℕ → Lent × Call
+made slice = (long-enough, call-in slice)
+
+-- the marks of the calls after the start, for session 0 and tightenings
+abbrev marks-of : List (Lent × Call) → List Mark
+marks-of cs = marks of-line4 0 tightenings [] (turns (begun of-line4 0) cs)
+
+-- of the beginning, and of what comes after it: it is four calls, of which the last sends the first copy
+abbrev beginning : List (Lent × Call)
+beginning = map made (drop 1 told ++ a-tightening ∷ [])
+
+abbrev all-of : List (List ℕ) → List Mark
+all-of h = marks-of (beginning ++ map made h)
+
+abbrev later : List (List ℕ) → List Mark
+later h = drop 4 (all-of h)
+
+-- so many times fourteen ticks, each time with a message after them that gets no reply
+abbrev fourteens : ℕ → List (List ℕ)
+fourteens zero = []
+fourteens (suc n) = ticks 14 ++ sends 0 "00200053001_________" ∷ fourteens n
+
+-- so many ticks, and the session does not time out
+abbrev stands : ℕ → List (List ℕ)
+stands n = fourteens (n / 14) ++ ticks (n % 14)
+
+-- ==== 01, case (j): the ticks that the notice stood open, and its copies
+
+abbrev stood : ℕ → List ℕ
+stood n = T (later (stands n)) ∷ copies 0 (all-of (stands n)) ∷ []
+
+pub the-copies : map stood (19 ∷ 20 ∷ 99 ∷ 100 ∷ 120 ∷ 130 ∷ [])
+    ≡ (19 ∷ 1 ∷ []) ∷ (20 ∷ 2 ∷ []) ∷ (99 ∷ 5 ∷ []) ∷ (100 ∷ 6 ∷ []) ∷ (120 ∷ 6 ∷ []) ∷ (120 ∷ 6 ∷ []) ∷ []
+unfolding outcome
+the-copies = refl
+
+-- ==== 840: eight are taken, and none is acknowledged. The eighth goes out by that tick, and not by the one before
+
+abbrev of-the-eighth : ℕ → ℕ
+of-the-eighth n = copies 7 (all-of (replicate 7 a-tightening ++ stands n))
+
+pub the-longest-wait : map of-the-eighth (839 ∷ longest-wait ∷ []) ≡ 0 ∷ 1 ∷ []
+unfolding outcome
+the-longest-wait = refl
+
+-- ==== what closes, call by call
+
+abbrev closed-by : List (List ℕ) → List Bool
+closed-by h = map (λ m. m .closes) (later h)
+
+pub the-closers :
+    map closed-by
+    ((hung-up 0 ∷ [])
+    ∷ (sends 0 "00200003001_________" ∷ [])
+    ∷ (sends 0 "00200063001_________" ∷ [])
+    ∷ (sends 0 "00200062001_________" ∷ [])
+    ∷ ticks 15
+    ∷ [])
+    ≡ (true ∷ []) ∷ (true ∷ []) ∷ (true ∷ []) ∷ (true ∷ []) ∷ (replicate 14 false ++ true ∷ []) ∷ []
+unfolding outcome
+the-closers = refl
+
+-- an acknowledge of the other kind, one that is too long, an unsubscribe that is refused, one of another session, and its hang-up; a lone
+-- NUL, another event
+pub no-closers :
+    map closed-by
+    ((sends 0 "00200053001_________" ∷ [])
+    ∷ (sends 0 "00210062001_________X" ∷ [])
+    ∷ (sends 0 "00200054001_________" ∷ [])
+    ∷ (hung-up 1 ∷ opened 1 ∷ sends 1 "00200062001_________" ∷ hung-up 1 ∷ [])
+    ∷ (sends 0 "" ∷ a-tightening ∷ scan "A" ∷ [])
+    ∷ [])
+    ≡ (false ∷ []) ∷ (false ∷ []) ∷ (false ∷ []) ∷ replicate 4 false ∷ replicate 3 false ∷ []
+unfolding outcome
+no-closers = refl
+
+-- ==== a refused call is nothing: no tick, no event, closes nothing, sends nothing
+
+abbrev too-short : Lent
+too-short = record { table = table-least; well-formed = true; output = 2_047 }
+
+-- whether it is a tick, whether it closes, whether it is taken, how many copies it sends, and how many events there were before it
+abbrev said-of : Mark → Bool × Bool × Bool × ℕ × ℕ
+said-of m = (m .tick, m .closes, m .took, length (m .sent), m .number)
+
+abbrev lent-too-little : List (List ℕ) → List (Bool × Bool × Bool × ℕ × ℕ)
+lent-too-little h = map said-of (drop 4 (marks-of (beginning ++ map (λ slice. (too-short, call-in slice)) h)))
+
+pub refused : lent-too-little (tick ∷ hung-up 0 ∷ sends 0 "00200062001_________" ∷ a-tightening ∷ tick ∷ [])
+    ≡ replicate 5 (false, false, false, 0, 1)
+unfolding outcome
+refused = refl
+
+-- and the same calls, done
+pub done : map said-of (later (tick ∷ a-tightening ∷ sends 0 "00200062001_________" ∷ hung-up 0 ∷ tick ∷ []))
+    ≡ (true, false, false, 0, 1) ∷ (false, false, true, 0, 1) ∷ (false, true, false, 1, 2) ∷ (false, true, false, 0, 2) ∷ (true, false, false, 0, 2) ∷ []
+unfolding outcome
+done = refl
+
+-- ==== an output's records: one frame's, an order to close; and bytes that are cut, or one too many
+
+pub the-records :
+    map read-output
+    ([] ∷ (2 ∷ 0 ∷ 0 ∷ 1 ∷ 65 ∷ 0 ∷ 0 ∷ 0 ∷ 3 ∷ 2 ∷ []) ∷ (2 ∷ 0 ∷ 0 ∷ 1 ∷ 65 ∷ []) ∷ (0 ∷ 0 ∷ 3 ∷ 2 ∷ 0 ∷ []) ∷ [])
+    ≡ some []
+    ∷ some (record { kind = 256; payload = 65 ∷ 0 ∷ [] } ∷ record { kind = 515; payload = [] } ∷ [])
+    ∷ none
+    ∷ none
+    ∷ []
+the-records = refl

@@ -1,0 +1,167 @@
+-- The output read back: reading the bytes of any emissions as house records gives exactly the records of these emissions, so that neither
+-- silence nor a byte more can stand for them. Assumes nothing.
+use Prim.Native.Nat.{ℕ, zero, suc, _+_, _-_, _*_, _/_, _%_, _≤_, _<_}
+use mathlib.Core.Path.{_≡_, refl, sym, _∙_, ap, ap₂}
+use mathlib.Core.Bool.{Bool, true, false, cond}
+use mathlib.Core.List.{List, [], _∷_, _++_, map}
+use mathlib.Core.Option.{none, some}
+use native.Mathlib.Omega.{arith}
+use lib.Dec.{leb, eqb}
+use lib.ListN.{length, take, drop, length-append}
+use lib.Seq.{take-at, drop-at}
+use borrow.Author.Tests.{eqb-true, eqb-false, eq-eqb, ne-eqb, le-leb}
+use Rattle.model.specs.Bytes.{NUL, in-bytes}
+use Rattle.model.specs.Records.{house-record}
+use Rattle.model.specs.Frames.{frame-record, close-record}
+use Rattle.model.specs.Row.{Tagged, pick}
+use Rattle.model.specs.Session.{Emission, reply, copy, close}
+use Rattle.model.specs.Calls.{output-record, output}
+use Rattle.watch.specs.Marks.{Every}
+use Rattle.controller.proofs.Outputs.{Below}
+use Rattle.history.specs.Turns.{frames-in, orders-close}
+use Rattle.history.specs.Output.{Read, first-size, first-read, and-more, read-within, read-output, frames-read, close-read, as-read, record-of}
+
+-- ==== one record, and more behind it
+
+-- its kind and its length fit two bytes each
+abbrev pub Fits : Read → Type 0
+Fits r = (r .kind < 65_536) × (length (r .payload) < 65_536)
+
+abbrev bytes-of : Read → List ℕ
+bytes-of r = house-record (r .kind) (r .payload)
+
+record-length : (r : Read) → length (bytes-of r) ≡ 4 + length (r .payload)
+unfolding in-bytes
+record-length r = omega arith
+
+two-bytes : (n : ℕ) → n < 65_536 → n % 256 + 256 * (n / 256 % 256 + 256 * 0) ≡ n
+two-bytes n h = omega arith
+
+-- the first is read, and then what is left
+read-next : (more b : ℕ) (bs rest : List ℕ) (r : Read) → first-size (b ∷ bs) ≤ length (b ∷ bs) → first-read (b ∷ bs) ≡ r
+    → drop (first-size (b ∷ bs)) (b ∷ bs) ≡ rest → read-within (suc more) (b ∷ bs) ≡ and-more r (read-within more rest)
+read-next more b bs rest r h e d =
+    go (leb (first-size (b ∷ bs)) (length (b ∷ bs))) (le-leb (first-size (b ∷ bs)) (length (b ∷ bs)) h)
+  where
+    go : (t : Bool) → t ≡ true
+        → elim t [ true ↦ and-more (first-read (b ∷ bs)) (read-within more (drop (first-size (b ∷ bs)) (b ∷ bs))) | false ↦ none ]
+        ≡ and-more r (read-within more rest)
+    go true q = ap₂ and-more e (ap (read-within more) d)
+    go false q = absurd (let z : _≡_ {A = ℕ} 0 1 = cc in omega arith)
+
+record-next : (more : ℕ) (r : Read) (rest : List ℕ) → Fits r → read-within (suc more) (bytes-of r ++ rest) ≡ and-more r (read-within more rest)
+unfolding in-bytes
+record-next more r rest f =
+    let n = length (r .payload) in
+    let size = two-bytes n (f .1) in
+    let a = length-append (r .payload) rest in
+    read-next more (n % 256) ((n / 256 % 256) ∷ (r .kind % 256) ∷ (r .kind / 256 % 256) ∷ (r .payload ++ rest)) rest r (omega arith)
+    (ap₂ (λ (k : ℕ) (bs : List ℕ). record { kind = k; payload = bs }) (two-bytes (r .kind) (f .0)) (take-at (r .payload) rest _ (sym size)))
+    (drop-at (bytes-of r) rest (first-size (bytes-of r ++ rest)) (omega arith))
+
+-- ==== all of them
+
+abbrev joined : List Read → List ℕ
+joined [] = []
+joined (r ∷ rs) = bytes-of r ++ joined rs
+
+read-all : (rs : List Read) → Every Fits rs → (more : ℕ) → length rs ≤ more → read-within more (joined rs) ≡ some rs
+read-all [] f zero h = refl
+read-all [] f (suc more) h = refl
+read-all (r ∷ rs) f zero h = absurd (omega arith)
+read-all (r ∷ rs) f (suc more) h = record-next more r (joined rs) (f .0) ∙ ap (and-more r) (read-all rs (f .1) more (omega arith))
+
+few-records : (rs : List Read) → length rs ≤ length (joined rs)
+few-records [] = omega arith
+few-records (r ∷ rs) = let h = few-records rs in let n = record-length r in omega (arith, length-append (bytes-of r) (joined rs))
+
+emission-bytes : (s : ℕ) (e : Emission) → output-record (record { who = s; what = e }) ≡ bytes-of (as-read s e)
+unfolding frame-record close-record
+emission-bytes s (reply frame) = refl
+emission-bytes s (copy c) = refl
+emission-bytes s close = refl
+
+output-bytes : (es : List (Tagged Emission)) → output es ≡ joined (map record-of es)
+output-bytes [] = refl
+output-bytes (x ∷ xs) = ap₂ _++_ (emission-bytes (x .who) (x .what)) (output-bytes xs)
+
+-- THE OUTPUT READ BACK
+pub read-back : (es : List (Tagged Emission)) → Every Fits (map record-of es) → read-output (output es) ≡ some (map record-of es)
+read-back es f =
+    let rs = map record-of es in
+    ap read-output (output-bytes es) ∙ read-all rs f (length (joined rs)) (few-records rs)
+
+-- ==== whatever a call sends fits, as it goes to one of four sessions and is written in 2,048 bytes
+
+fits-one : (s : ℕ) (e : Emission) → s < 4 → length (bytes-of (as-read s e)) ≤ 2_048 → Fits (as-read s e)
+fits-one s (reply frame) h n = let k = record-length (as-read s (reply frame)) in (omega arith, omega arith)
+fits-one s (copy c) h n = let k = record-length (as-read s (copy c)) in (omega arith, omega arith)
+fits-one s close h n = (omega arith, omega arith)
+
+fits-all : (es : List (Tagged Emission)) → Below 4 es → length (joined (map record-of es)) ≤ 2_048 → Every Fits (map record-of es)
+fits-all [] b n = tt
+fits-all (x ∷ xs) b n =
+    let a = length-append (bytes-of (record-of x)) (joined (map record-of xs)) in
+    (fits-one (x .who) (x .what) (b .0) (omega arith), fits-all xs (b .1) (omega arith))
+
+pub read-written : (es : List (Tagged Emission)) → Below 4 es → length (output es) ≤ 2_048 → read-output (output es) ≡ some (map record-of es)
+read-written es b n = read-back es (fits-all es b (rw (output-bytes es) at n))
+
+-- ==== what a session is sent, read from the records
+
+same-test : (a b n : ℕ) → eqb (n + a) (n + b) ≡ eqb a b
+same-test a b n = go (eqb a b) refl
+  where
+    go : (t : Bool) → eqb a b ≡ t → eqb (n + a) (n + b) ≡ t
+    go true e = eq-eqb (n + a) (n + b) (ap (n +_) (eqb-true a b e))
+    go false e = ne-eqb (n + a) (n + b) (λ z. eqb-false a b e (omega arith))
+
+without-NUL : (frame : List ℕ) → take (length (frame ++ NUL ∷ []) - 1) (frame ++ NUL ∷ []) ≡ frame
+without-NUL frame = let n = length-append frame (NUL ∷ []) in take-at frame (NUL ∷ []) (length (frame ++ NUL ∷ []) - 1) (omega arith)
+
+module _ (s : ℕ) (h : s < 4) where
+  -- one record more
+  module _ (rs : List Read) (picked : List Emission) where
+    a-frame : (t : ℕ) (frame : List ℕ) (e : Emission) → frames-in (e ∷ picked) ≡ frame ∷ frames-in picked → frames-read s rs ≡ frames-in picked
+        → frames-read s (record { kind = 256 + t; payload = frame ++ NUL ∷ [] } ∷ rs) ≡ frames-in (cond (eqb t s) (e ∷ picked) picked)
+    a-frame t frame e q ih = rw (same-test t s 256, without-NUL frame) (go (eqb t s))
+      where
+        go : (b : Bool) → cond b (frame ∷ frames-read s rs) (frames-read s rs) ≡ frames-in (cond b (e ∷ picked) picked)
+        go true = ap (frame ∷_) ih ∙ sym q
+        go false = ih
+
+    frames-more : (t : ℕ) (e : Emission) → t < 4 → frames-read s rs ≡ frames-in picked
+        → frames-read s (as-read t e ∷ rs) ≡ frames-in (cond (eqb t s) (e ∷ picked) picked)
+    frames-more t (reply frame) u ih = a-frame t frame (reply frame) refl ih
+    frames-more t (copy c) u ih = a-frame t (c .what .frame) (copy c) refl ih
+    frames-more t close u ih = rw (ne-eqb (512 + t) (256 + s) (λ z. omega arith)) (go (eqb t s))
+      where
+        go : (b : Bool) → frames-read s rs ≡ frames-in (cond b (close ∷ picked) picked)
+        go true = ih
+        go false = ih
+
+    no-close : (t : ℕ) (e : Emission) → t < 4 → orders-close (e ∷ picked) ≡ orders-close picked → close-read s rs ≡ orders-close picked → (bs : List ℕ)
+        → close-read s (record { kind = 256 + t; payload = bs } ∷ rs) ≡ orders-close (cond (eqb t s) (e ∷ picked) picked)
+    no-close t e u q ih bs = rw (ne-eqb (256 + t) (512 + s) (λ z. omega arith)) (go (eqb t s))
+      where
+        go : (b : Bool) → close-read s rs ≡ orders-close (cond b (e ∷ picked) picked)
+        go true = ih ∙ sym q
+        go false = ih
+
+    closes-more : (t : ℕ) (e : Emission) → t < 4 → close-read s rs ≡ orders-close picked
+        → close-read s (as-read t e ∷ rs) ≡ orders-close (cond (eqb t s) (e ∷ picked) picked)
+    closes-more t (reply frame) u ih = no-close t (reply frame) u refl ih (frame ++ NUL ∷ [])
+    closes-more t (copy c) u ih = no-close t (copy c) u refl ih (c .what .frame ++ NUL ∷ [])
+    closes-more t close u ih = rw (same-test t s 512) (go (eqb t s))
+      where
+        go : (b : Bool) → cond b true (close-read s rs) ≡ orders-close (cond b (close ∷ picked) picked)
+        go true = refl
+        go false = ih
+
+  pub frames-back : (es : List (Tagged Emission)) → Below 4 es → frames-read s (map record-of es) ≡ frames-in (pick s es)
+  frames-back [] b = refl
+  frames-back (x ∷ xs) b = frames-more (map record-of xs) (pick s xs) (x .who) (x .what) (b .0) (frames-back xs (b .1))
+
+  pub closes-back : (es : List (Tagged Emission)) → Below 4 es → close-read s (map record-of es) ≡ orders-close (pick s es)
+  closes-back [] b = refl
+  closes-back (x ∷ xs) b = closes-more (map record-of xs) (pick s xs) (x .who) (x .what) (b .0) (closes-back xs (b .1))

@@ -1,0 +1,64 @@
+-- 01, "House records": what a reader makes of an output's bytes. Assumes nothing: these are definitions.
+use Prim.Native.Nat.{ℕ, zero, suc, _+_, _-_}
+use mathlib.Core.Bool.{Bool, true, false, cond}
+use mathlib.Core.List.{List, [], _∷_, _++_}
+use mathlib.Core.Option.{Option, none, some}
+use lib.Dec.{leb, eqb}
+use lib.ListN.{length, take, drop}
+use Rattle.model.specs.Bytes.{NUL, places, little}
+use Rattle.model.specs.Records.{record-head}
+use Rattle.model.specs.Session.{Emission, reply, copy, close}
+use Rattle.model.specs.Row.{Tagged}
+
+-- a record that was read
+pub record Read : Type 0 where
+  pub kind : ℕ
+  pub payload : List ℕ
+
+-- ==== the records of an output: length, kind and payload, one after another, to its end
+
+-- how long the record is that the bytes begin with, and the record
+abbrev pub first-size : List ℕ → ℕ
+first-size bs = record-head + little (places 1 2 bs)
+
+abbrev pub first-read : List ℕ → Read
+first-read bs = record { kind = little (places 3 4 bs); payload = take (little (places 1 2 bs)) (drop record-head bs) }
+
+abbrev pub and-more : Read → Option (List Read) → Option (List Read)
+and-more r none = none
+and-more r (some rs) = some (r ∷ rs)
+
+-- none where a record is cut. `more` bounds the records: there are no more than bytes
+abbrev pub read-within : ℕ → List ℕ → Option (List Read)
+read-within zero [] = some []
+read-within zero (b ∷ bs) = none
+read-within (suc more) [] = some []
+read-within (suc more) (b ∷ bs) =
+    elim (leb (first-size (b ∷ bs)) (length (b ∷ bs))) [
+      | true ↦ and-more (first-read (b ∷ bs)) (read-within more (drop (first-size (b ∷ bs)) (b ∷ bs)))
+      | false ↦ none
+    ]
+
+abbrev pub read-output : List ℕ → Option (List Read)
+read-output bs = read-within (length bs) bs
+
+-- ==== output records: kind 256 + s is a frame to session s, with its NUL, and kind 512 + s the order to close it
+
+abbrev pub frames-read : ℕ → List Read → List (List ℕ)
+frames-read s [] = []
+frames-read s (r ∷ rs) =
+    let more = frames-read s rs in
+    cond (eqb (r .kind) (256 + s)) (take (length (r .payload) - 1) (r .payload) ∷ more) more
+
+abbrev pub close-read : ℕ → List Read → Bool
+close-read s [] = false
+close-read s (r ∷ rs) = let more = close-read s rs in cond (eqb (r .kind) (512 + s)) true more
+
+-- the record of an emission
+abbrev pub as-read : ℕ → Emission → Read
+as-read s (reply frame) = record { kind = 256 + s; payload = frame ++ NUL ∷ [] }
+as-read s (copy c) = record { kind = 256 + s; payload = c .what .frame ++ NUL ∷ [] }
+as-read s close = record { kind = 512 + s; payload = [] }
+
+abbrev pub record-of : Tagged Emission → Read
+record-of x = as-read (x .who) (x .what)

@@ -1,0 +1,80 @@
+-- The words of demand 3 on small histories, computed. Assumes nothing.
+use Prim.Native.Nat.{ℕ}
+use mathlib.Core.Path.{_≡_, refl}
+use mathlib.Core.Bool.{Bool, true, false}
+use mathlib.Core.List.{List, [], _∷_, _++_, map}
+use mathlib.Core.Option.{Option, none, some}
+use lib.ListN.{replicate}
+use Rattle.watch.specs.Marks.{Seen, Mark, copies, tick-count, T, copies-due, frame-of, taken}
+
+-- ==== calls: it is a tick; it closes; the event's frame, if it is one that is taken; what it sends
+
+abbrev a-call : Bool → Bool → Option (List ℕ) → Bool → List Seen → Mark
+a-call tick closes event took sent = record {
+  number = 0;
+  event = event;
+  took = took;
+  subscribed = true;
+  still = true;
+  asked = true;
+  closes = closes;
+  tick = tick;
+  sent = sent;
+}
+
+-- nothing of note; a tick; a call that closes; a tick that closes, as that of a time-out does
+abbrev nothing : Mark
+nothing = a-call false false none false []
+
+abbrev tick : Mark
+tick = a-call true false none false []
+
+abbrev closing : Mark
+closing = a-call false true none false []
+
+abbrev closing-tick : Mark
+closing-tick = a-call true true none false []
+
+abbrev ticks : ℕ → List Mark
+ticks n = replicate n tick
+
+-- a copy of the notice of that event, by a tick
+abbrev copy-of : ℕ → Seen
+copy-of n = record { id = n; frame = n ∷ [] }
+
+abbrev repeats : ℕ → Mark
+repeats n = a-call true false none false (copy-of n ∷ [])
+
+-- event 0, taken and sent at once
+abbrev happens : Mark
+happens = a-call false false (some (0 ∷ [])) true (copy-of 0 ∷ [])
+
+-- ==== T, and the copies that are due
+
+pub the-ticks : map T (ticks 0 ∷ ticks 19 ∷ ticks 20 ∷ ticks 99 ∷ ticks 100 ∷ ticks 120 ∷ ticks 121 ∷ ticks 500 ∷ []) ≡ 0 ∷ 19 ∷ 20 ∷ 99 ∷ 100 ∷ 120 ∷ 120 ∷ 120 ∷ []
+the-ticks = refl
+
+-- other calls are not counted, nor what comes after one that closes, nor the tick that closes
+pub the-ticks-open :
+    map T ((nothing ∷ ticks 3 ++ nothing ∷ ticks 2) ∷ (ticks 5 ++ closing ∷ ticks 40) ∷ (ticks 14 ++ closing-tick ∷ ticks 40) ∷ (closing ∷ []) ∷ [])
+    ≡ 5 ∷ 5 ∷ 14 ∷ 0 ∷ []
+the-ticks-open = refl
+
+-- 01, case (j)
+pub the-copies-due : map copies-due (0 ∷ 19 ∷ 20 ∷ 39 ∷ 40 ∷ 99 ∷ 100 ∷ 119 ∷ 120 ∷ []) ≡ 1 ∷ 1 ∷ 2 ∷ 2 ∷ 3 ∷ 5 ∷ 6 ∷ 6 ∷ 6 ∷ []
+the-copies-due = refl
+
+-- ==== copies, frames, events
+
+-- one copy at once, one by the twentieth tick; none of an event that was not sent
+pub the-copies : map (λ n. copies n (happens ∷ ticks 19 ++ repeats 0 ∷ repeats 1 ∷ [])) (0 ∷ 1 ∷ 2 ∷ []) ≡ 2 ∷ 1 ∷ 0 ∷ []
+the-copies = refl
+
+pub the-frames : map (λ n. frame-of n (nothing ∷ happens ∷ ticks 3)) (0 ∷ 1 ∷ []) ≡ some (0 ∷ []) ∷ none ∷ []
+the-frames = refl
+
+pub the-events : taken (nothing ∷ happens ∷ ticks 3 ++ happens ∷ []) ≡ 2
+the-events = refl
+
+pub all-ticks : tick-count (ticks 5 ++ closing ∷ nothing ∷ ticks 40) ≡ 45
+all-ticks = refl

@@ -1,0 +1,163 @@
+/* The log, numbers, files, and bytes that wait to be sent. */
+#include "host.h"
+
+#include <errno.h>
+#include <fcntl.h>
+#include <stdarg.h>
+#include <stdio.h>
+#include <stdlib.h>
+#include <string.h>
+#include <sys/socket.h>
+#include <time.h>
+#include <unistd.h>
+
+/* Writes a line, unless standard error is a pipe that nobody empties: no reader of the log may hold the host up. Lines that are left out
+   are counted, and the count is said once lines are taken again. */
+static void write_line(const char *line, size_t length)
+{
+    static unsigned long left_out;
+    struct pollfd standard_error = { .fd = STDERR_FILENO, .events = POLLOUT };
+    if (poll(&standard_error, 1, 0) != 1) {
+        left_out += 1;
+        return;
+    }
+    if (left_out > 0) {
+        char said[80];
+        int size = snprintf(said, sizeof said, "%lu lines of the log are left out: they were not read\n", left_out);
+        left_out = 0;
+        write_all(STDERR_FILENO, said, (size_t)size);
+    }
+    write_all(STDERR_FILENO, line, length);
+}
+
+static void say_list(const char *before, const char *format, va_list values)
+{
+    char line[1024];
+    struct timespec now;
+    struct tm parts;
+    clock_gettime(CLOCK_REALTIME, &now);
+    gmtime_r(&now.tv_sec, &parts);
+    size_t at = strftime(line, sizeof line, "%Y-%m-%dT%H:%M:%S", &parts);
+    at += (size_t)snprintf(line + at, sizeof line - at, ".%03ldZ %s", now.tv_nsec / 1000000, before);
+    int said = vsnprintf(line + at, sizeof line - at - 1, format, values);
+    at = said < 0 ? at : at + (size_t)said < sizeof line - 2 ? at + (size_t)said : sizeof line - 2;
+    line[at++] = '\n';
+    write_line(line, at);
+}
+
+void say(const char *format, ...)
+{
+    va_list values;
+    va_start(values, format);
+    say_list("", format, values);
+    va_end(values);
+}
+
+void fail(const char *format, ...)
+{
+    va_list values;
+    va_start(values, format);
+    say_list("error: ", format, values);
+    va_end(values);
+    exit(1);
+}
+
+uint64_t little(const uint8_t *bytes, size_t size)
+{
+    uint64_t number = 0;
+    while (size > 0)
+        number = number << 8 | bytes[--size];
+    return number;
+}
+
+void put_little(uint8_t *bytes, size_t size, uint64_t number)
+{
+    for (size_t i = 0; i < size; i++, number >>= 8)
+        bytes[i] = (uint8_t)number;
+}
+
+bool read_number(const char *text, uint64_t greatest, uint64_t *number)
+{
+    uint64_t read = 0;
+    if (*text == '\0')
+        return false;
+    for (; *text != '\0'; text++) {
+        if (*text < '0' || *text > '9')
+            return false;
+        uint64_t digit = (uint64_t)(*text - '0');
+        if (digit > greatest || read > (greatest - digit) / 10)
+            return false;
+        read = 10 * read + digit;
+    }
+    *number = read;
+    return true;
+}
+
+bool write_all(int file, const void *bytes, size_t length)
+{
+    const char *from = bytes;
+    while (length > 0) {
+        ssize_t written = write(file, from, length);
+        if (written < 0 && errno == EINTR)
+            continue;
+        if (written <= 0)
+            return false;
+        from += written;
+        length -= (size_t)written;
+    }
+    return true;
+}
+
+bool lock_file(int file)
+{
+    struct flock whole = { .l_type = F_WRLCK, .l_whence = SEEK_SET };
+    return fcntl(file, F_SETLK, &whole) == 0;
+}
+
+const char *name_in_folder(const char *path)
+{
+    const char *slash = strrchr(path, '/');
+    return slash == NULL ? path : slash + 1;
+}
+
+int open_folder(const char *path)
+{
+    size_t length = (size_t)(name_in_folder(path) - path);
+    char *folder = length == 0 ? strdup(".") : strndup(path, length);
+    int opened = folder == NULL ? -1 : open(folder, O_RDONLY | O_DIRECTORY | O_CLOEXEC);
+    free(folder);
+    return opened;
+}
+
+void unblock(int descriptor)
+{
+    if (fcntl(descriptor, F_SETFL, fcntl(descriptor, F_GETFL) | O_NONBLOCK) != 0)
+        fail("a descriptor cannot be made non-blocking: %s", strerror(errno));
+}
+
+bool waiting_add(struct waiting *waiting, const void *bytes, size_t length)
+{
+    if (length > sizeof waiting->bytes - waiting->length)
+        return false;
+    memcpy(waiting->bytes + waiting->length, bytes, length);
+    waiting->length += length;
+    return true;
+}
+
+bool waiting_send(struct waiting *waiting, int socket)
+{
+    size_t sent = 0;
+    while (sent < waiting->length) {
+        ssize_t taken = send(socket, waiting->bytes + sent, waiting->length - sent, MSG_NOSIGNAL);
+        if (taken < 0 && errno == EINTR)
+            continue;
+        if (taken < 0 && errno != EAGAIN && errno != EWOULDBLOCK)
+            return false;
+        if (taken < 0)
+            break;
+        sent += (size_t)taken;
+    }
+    waiting->length -= sent;
+    memmove(waiting->bytes, waiting->bytes + sent, waiting->length);
+    return true;
+}

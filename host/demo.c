@@ -1,0 +1,119 @@
+/* A simulated tool: it scans the identifier of a body, then tightens its bolts one after the other; a bolt that is not OK is done again. */
+#include "host.h"
+
+#include <stdio.h>
+#include <stdlib.h>
+#include <string.h>
+#include <time.h>
+
+enum { BOLTS = 4, TIME_LENGTH = 19, ONE_NOT_OK_IN = 8, PARAMETER_SET = 7 };
+
+/* In hundredths of Nm, and in degrees. */
+enum { TORQUE_LEAST = 2250, TORQUE_MOST = 2750, TORQUE_TARGET = 2500, ANGLE_LEAST = 70, ANGLE_MOST = 110, ANGLE_TARGET = 90 };
+
+/* A tightening record, as it is filled from its front. */
+static struct {
+    uint8_t bytes[SERIFLADDER_RECORD_HEADER + 106];
+    size_t length;
+} record;
+
+static void begin(unsigned kind, size_t payload)
+{
+    put_little(record.bytes, 2, payload);
+    put_little(record.bytes + 2, 2, kind);
+    record.length = SERIFLADDER_RECORD_HEADER;
+}
+
+static void add(size_t size, uint64_t number)
+{
+    put_little(record.bytes + record.length, size, number);
+    record.length += size;
+}
+
+static void add_text(size_t size, const char *text)
+{
+    memset(record.bytes + record.length, ' ', size);
+    memcpy(record.bytes + record.length, text, strlen(text));
+    record.length += size;
+}
+
+static void give(void)
+{
+    char line[ANSWER_LINE];
+    tool_record(record.bytes, record.length, line);
+}
+
+static void write_time(char text[TIME_LENGTH + 1], time_t when)
+{
+    struct tm parts;
+    localtime_r(&when, &parts);
+    strftime(text, TIME_LENGTH + 1, "%Y-%m-%d:%H:%M:%S", &parts);
+}
+
+static unsigned between(unsigned least, unsigned most)
+{
+    return least + (unsigned)rand() % (most - least + 1);
+}
+
+static void scan(unsigned body)
+{
+    char identifier[NAME_LENGTH + 1];
+    snprintf(identifier, sizeof identifier, "BODY %06u", body % 1000000);
+    begin(SERIFLADDER_IDENTIFIER, NAME_LENGTH);
+    add_text(NAME_LENGTH, identifier);
+    give();
+}
+
+/* A status is 0 where the value is low, 1 where it is OK and 2 where it is high. */
+static unsigned status(unsigned value, unsigned least, unsigned most)
+{
+    return value < least ? 0 : value > most ? 2 : 1;
+}
+
+/* Tightens the bolt that is the next of its batch; true where it is OK. */
+static bool tighten(unsigned done)
+{
+    static char changed[TIME_LENGTH + 1]; /* when the parameter set was last changed: when the demo began */
+    char now[TIME_LENGTH + 1];
+    bool slips = rand() % ONE_NOT_OK_IN == 0;
+    unsigned torque = slips ? between(1200, TORQUE_LEAST - 1) : between(TORQUE_LEAST + 100, TORQUE_MOST - 100);
+    unsigned angle = slips ? between(ANGLE_MOST + 1, ANGLE_MOST + 60) : between(ANGLE_LEAST + 8, ANGLE_MOST - 8);
+    write_time(now, time(NULL));
+    if (changed[0] == '\0')
+        write_time(changed, time(NULL));
+    begin(SERIFLADDER_TIGHTENING, sizeof record.bytes - SERIFLADDER_RECORD_HEADER);
+    add_text(NAME_LENGTH, ""); /* the identifier in force */
+    add(1, 1);                 /* job */
+    add(2, PARAMETER_SET);
+    add(2, BOLTS);
+    add(2, slips ? done : done + 1);
+    add(1, !slips);
+    add(1, status(torque, TORQUE_LEAST, TORQUE_MOST));
+    add(1, status(angle, ANGLE_LEAST, ANGLE_MOST));
+    add(4, TORQUE_LEAST);
+    add(4, TORQUE_MOST);
+    add(4, TORQUE_TARGET);
+    add(4, torque);
+    add(4, ANGLE_LEAST);
+    add(4, ANGLE_MOST);
+    add(4, ANGLE_TARGET);
+    add(4, angle);
+    add_text(TIME_LENGTH, now);
+    add_text(TIME_LENGTH, changed);
+    add(1, !slips && done + 1 == BOLTS); /* batch status: 1 where the batch is complete */
+    give();
+    return !slips;
+}
+
+void demo_step(void)
+{
+    static unsigned body, done = BOLTS;
+    if (body == 0)
+        srand((unsigned)time(NULL));
+    if (done == BOLTS) {
+        scan(++body);
+        done = 0;
+    } else if (tighten(done)) {
+        done += 1;
+    }
+}

@@ -1,0 +1,124 @@
+/* The host: up to four line servers over TCP and one tool, around the library's six calls. docs/HOST.md says how they fit together. */
+#ifndef HOST_H
+#define HOST_H
+
+#include "serifladder.h"
+
+#include <netinet/in.h>
+#include <poll.h>
+#include <stdbool.h>
+#include <stddef.h>
+#include <stdint.h>
+
+enum {
+    PAYLOAD_GREATEST = 8192, /* of a house record that the tool sends or the journal holds */
+    RECORD_GREATEST = SERIFLADDER_RECORD_HEADER + PAYLOAD_GREATEST,
+    SETTINGS_RECORD = SERIFLADDER_RECORD_HEADER + 33,
+    NAME_LENGTH = 25,          /* of a controller's name and of an identifier */
+    WAITING_GREATEST = 65536,  /* so many bytes may wait for a peer that does not read */
+    TOOL_CONNECTIONS = 8,      /* so many at once; a further one waits */
+    LINKS_POLLED = 1 + SERIFLADDER_SESSIONS,
+    TOOL_POLLED = 1 + TOOL_CONNECTIONS
+};
+
+/* ---- common.c: the log, and what several files need */
+
+/* A line on standard error, with the time before it. */
+void say(const char *format, ...) __attribute__((format(printf, 1, 2)));
+
+/* Says why the host cannot go on, and ends it with status 1. */
+_Noreturn void fail(const char *format, ...) __attribute__((format(printf, 1, 2)));
+
+/* Numbers of `size` bytes, little-endian. */
+uint64_t little(const uint8_t *bytes, size_t size);
+void put_little(uint8_t *bytes, size_t size, uint64_t number);
+
+/* Reads a text that is a decimal number and nothing else, `greatest` at most. */
+bool read_number(const char *text, uint64_t greatest, uint64_t *number);
+
+/* Writes all of it, or answers false with errno. */
+bool write_all(int file, const void *bytes, size_t length);
+
+/* Locks a file against other processes; false where another holds it, or it cannot be locked. */
+bool lock_file(int file);
+
+/* The file's name within its folder, and the folder opened (-1 with errno where it cannot be). */
+const char *name_in_folder(const char *path);
+int open_folder(const char *path);
+
+/* Makes a descriptor non-blocking. */
+void unblock(int descriptor);
+
+/* Bytes that wait to be sent, in order. */
+struct waiting {
+    uint8_t bytes[WAITING_GREATEST];
+    size_t length;
+};
+
+/* False where they do not fit. */
+bool waiting_add(struct waiting *waiting, const void *bytes, size_t length);
+
+/* Sends what is taken now. False with errno where the peer is gone. */
+bool waiting_send(struct waiting *waiting, int socket);
+
+/* ---- settings.c: the settings file as a settings record, its last number 0 */
+void settings_read(const char *path, uint8_t record[SETTINGS_RECORD]);
+
+/* ---- state.c: the file that keeps the last tightening number */
+
+/* Locks and reads the state file. Where `fresh` is not NULL, the file is created with that number, and must not be there yet. */
+uint32_t state_open(const char *path, const uint32_t *fresh);
+
+/* Keeps the number: when this returns it has reached the disk. */
+void state_keep(uint32_t number);
+
+/* ---- journal.c: every call as house records, as the test program replay reads them */
+
+/* The kinds besides those of the library; a session's number is added. */
+enum { JOURNAL_OPEN = 16, JOURNAL_HANG_UP = 32, JOURNAL_BYTES = 48, JOURNAL_TICK = 64 };
+
+/* Begins a new file; without this call nothing is journaled. */
+void journal_open(const char *path, uint64_t size_greatest);
+void journal_record(unsigned kind, const uint8_t *payload, size_t length);
+
+/* ---- calls.c: the library's calls. Each is settled in this order: number kept, call journaled, output sent */
+
+struct answer {
+    uint64_t number, consumed, written, taken;
+};
+
+void call_start(uint8_t settings[SETTINGS_RECORD], uint32_t last);
+void call_open(unsigned session);
+void call_hang_up(unsigned session);
+size_t call_bytes(unsigned session, const uint8_t *bytes, size_t length); /* answers how many were consumed */
+void call_tick(void);
+struct answer call_record(const uint8_t *record, size_t length);
+
+/* The last tightening number that was given. */
+uint32_t last_number(void);
+
+/* What a number that a call answers means. */
+const char *meaning(uint64_t number);
+
+/* ---- links.c: the TCP connections of the line servers; link s is session s */
+void links_listen(const struct sockaddr_in *address);
+void links_poll(struct pollfd set[LINKS_POLLED]);
+void links_serve(const struct pollfd set[LINKS_POLLED]);
+void links_send(unsigned session, const uint8_t *frame, size_t length);
+void links_close(unsigned session);  /* the library has closed the session */
+void links_hang_up_failed(void);     /* ends the links that could not be sent to */
+void links_end(void);
+
+/* ---- tool.c: house records from a FIFO or over a Unix socket */
+void tool_open(const char *path);
+void tool_poll(struct pollfd set[TOOL_POLLED]);
+void tool_serve(const struct pollfd set[TOOL_POLLED]);
+
+/* Gives a record to the library, says what came of it in the log and in `line`. */
+enum { ANSWER_LINE = 80 };
+void tool_record(const uint8_t *record, size_t length, char line[ANSWER_LINE]);
+
+/* ---- demo.c: a simulated tool; does one thing each time it is asked */
+void demo_step(void);
+
+#endif

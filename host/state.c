@@ -1,0 +1,118 @@
+/* The state file: the last tightening number, as text with a check sum. A new number goes to a file beside it, which is synced and then
+   takes its place, so that the file is always whole, with the old number or the new one. */
+#include "host.h"
+
+#include <errno.h>
+#include <fcntl.h>
+#include <inttypes.h>
+#include <limits.h>
+#include <stdio.h>
+#include <string.h>
+#include <sys/stat.h>
+#include <unistd.h>
+
+enum { TEXT = 256 };
+#define BEGINNING "serifladder state\nlast tightening number "
+
+static const char *state_path, *name;
+static char name_beside[NAME_MAX + 1];
+static int folder;
+
+/* CRC-32, as in zip files. */
+static uint32_t check_sum(const char *bytes, size_t length)
+{
+    uint32_t sum = UINT32_MAX;
+    for (size_t i = 0; i < length; i++) {
+        sum ^= (uint8_t)bytes[i];
+        for (unsigned bit = 0; bit < 8; bit++)
+            sum = sum >> 1 ^ (sum & 1 ? UINT32_C(0xEDB88320) : 0);
+    }
+    return ~sum;
+}
+
+static size_t write_text(char text[TEXT], uint32_t number)
+{
+    int length = snprintf(text, TEXT, BEGINNING "%" PRIu32 "\n", number);
+    return (size_t)(length + snprintf(text + length, TEXT - (size_t)length, "check sum %08" PRIx32 "\n",
+                                      check_sum(text, (size_t)length)));
+}
+
+static _Noreturn void damaged(const char *how)
+{
+    fail("state %s is damaged: %s. Put a good copy in its place, or move it away and give the last tightening number with --new-state",
+         state_path, how);
+}
+
+static uint32_t read_state(void)
+{
+    char text[TEXT + 1], expected[TEXT];
+    unsigned long long number;
+    int file = openat(folder, name, O_RDONLY);
+    ssize_t got = file < 0 ? -1 : read(file, text, TEXT);
+    if (got < 0)
+        fail("state %s cannot be read: %s", state_path, strerror(errno));
+    close(file);
+    size_t length = (size_t)got;
+    text[length] = '\0';
+    if (sscanf(text, BEGINNING "%19llu", &number) != 1)
+        damaged("it has not the form of a state file");
+    if (number > UINT32_MAX)
+        damaged("its number is greater than 4294967295");
+    size_t whole = write_text(expected, (uint32_t)number);
+    if (length > whole && memcmp(text, expected, whole) == 0)
+        damaged("bytes follow its end");
+    if (length != whole || memcmp(text, expected, whole) != 0)
+        damaged("it is not what was written for its number");
+    return (uint32_t)number;
+}
+
+/* One host at a time: the lock stands on a file of its own, because the state file itself is replaced again and again. It is held until
+   the program ends. */
+static void lock_state(void)
+{
+    char name_locked[NAME_MAX + 1];
+    if (snprintf(name_locked, sizeof name_locked, "%s.lock", name) > NAME_MAX
+        || snprintf(name_beside, sizeof name_beside, "%s.new", name) > NAME_MAX)
+        fail("state %s: the name is too long", state_path);
+    int lock = openat(folder, name_locked, O_RDWR | O_CREAT | O_CLOEXEC, 0644);
+    if (lock < 0)
+        fail("state %s: %s.lock cannot be opened: %s", state_path, state_path, strerror(errno));
+    if (!lock_file(lock))
+        fail("state %s is in use by another host: %s.lock: %s", state_path, state_path, strerror(errno));
+}
+
+uint32_t state_open(const char *path, const uint32_t *fresh)
+{
+    struct stat found;
+    state_path = path;
+    name = name_in_folder(path);
+    if (*name == '\0')
+        fail("state %s is not the name of a file", path);
+    folder = open_folder(path);
+    if (folder < 0)
+        fail("state %s: its folder cannot be opened: %s", path, strerror(errno));
+    lock_state();
+    bool there = fstatat(folder, name, &found, AT_SYMLINK_NOFOLLOW) == 0;
+    if (!there && errno != ENOENT)
+        fail("state %s cannot be read: %s", path, strerror(errno));
+    if (there && !S_ISREG(found.st_mode))
+        fail("state %s is not a regular file", path);
+    if (fresh == NULL && !there)
+        fail("state %s is not there: --new-state NUMBER creates it, NUMBER being the last tightening number that was given (0 for none)", path);
+    if (fresh == NULL)
+        return read_state();
+    if (there)
+        fail("state %s is there already: --new-state is for a controller that has none", path);
+    state_keep(*fresh);
+    return *fresh;
+}
+
+void state_keep(uint32_t number)
+{
+    char text[TEXT];
+    size_t length = write_text(text, number);
+    int file = openat(folder, name_beside, O_WRONLY | O_CREAT | O_TRUNC | O_CLOEXEC, 0644);
+    if (file < 0 || !write_all(file, text, length) || fsync(file) != 0 || close(file) != 0
+        || renameat(folder, name_beside, folder, name) != 0 || fsync(folder) != 0)
+        fail("state %s cannot be written: %s", state_path, strerror(errno));
+}

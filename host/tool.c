@@ -1,0 +1,242 @@
+/* The tool: house records over a Unix stream socket, a line back for each, or from a FIFO, which takes no answers. */
+#include "host.h"
+
+#include <errno.h>
+#include <fcntl.h>
+#include <stdio.h>
+#include <stdlib.h>
+#include <string.h>
+#include <sys/socket.h>
+#include <sys/stat.h>
+#include <sys/un.h>
+#include <unistd.h>
+
+/* Where records come from: the FIFO, or one connection. */
+static struct source {
+    int descriptor; /* -1: none */
+    uint8_t record[RECORD_GREATEST]; /* the one that is coming in */
+    size_t length;                   /* so many bytes of it are there */
+    bool skipping;                   /* what still comes cannot be told apart into records */
+    bool ended;                      /* nothing comes any more, but answers wait */
+    struct waiting answers;
+} sources[TOOL_CONNECTIONS];
+
+static const char *tool_path;
+static bool fifo;
+static int door = -1; /* listens for connections */
+
+/* ---- a record */
+
+static void write_taken(char text[ANSWER_LINE], uint64_t taken)
+{
+    int at = snprintf(text, ANSWER_LINE, "taken by%s", taken == 0 ? " none" : "");
+    for (unsigned s = 0; s < SERIFLADDER_SESSIONS; s++)
+        if (taken >> s & 1)
+            at += snprintf(text + at, ANSWER_LINE - (size_t)at, " %u", s);
+}
+
+void tool_record(const uint8_t *record, size_t length, char line[ANSWER_LINE])
+{
+    char taken[ANSWER_LINE];
+    struct answer answer = call_record(record, length);
+    const char *text = meaning(answer.number);
+    write_taken(taken, answer.taken);
+    if (answer.number != SERIFLADDER_DONE) {
+        snprintf(line, ANSWER_LINE, "%u %s", (unsigned)answer.number, text);
+        say("tool: refused, %s", line);
+        return;
+    }
+    snprintf(line, ANSWER_LINE, "0 %s, %.40s", text, taken);
+    if (little(record + 2, 2) == SERIFLADDER_TIGHTENING) {
+        say("tool: tightening %u, %s", last_number(), taken);
+        return;
+    }
+    while (length > SERIFLADDER_RECORD_HEADER && record[length - 1] == ' ')
+        length--;
+    say("tool: identifier \"%.*s\", %s", (int)(length - SERIFLADDER_RECORD_HEADER), (const char *)record + SERIFLADDER_RECORD_HEADER, taken);
+}
+
+/* ---- a source */
+
+static void close_source(struct source *source)
+{
+    close(source->descriptor);
+    source->descriptor = -1;
+}
+
+static void begin_source(struct source *source, int descriptor)
+{
+    unblock(descriptor);
+    source->descriptor = descriptor;
+    source->length = 0;
+    source->skipping = source->ended = false;
+    source->answers.length = 0;
+}
+
+static void answer_line(struct source *source, const char *line)
+{
+    if (fifo)
+        return;
+    waiting_add(&source->answers, line, strlen(line)); /* there is room: a record is read only where no answer waits */
+    waiting_add(&source->answers, "\n", 1);
+}
+
+static void open_fifo(void)
+{
+    int descriptor = open(tool_path, O_RDONLY | O_NONBLOCK | O_CLOEXEC);
+    if (descriptor < 0)
+        fail("tool %s cannot be opened: %s", tool_path, strerror(errno));
+    int before = sources[0].descriptor;
+    begin_source(&sources[0], descriptor);
+    if (before >= 0)
+        close(before);
+}
+
+/* The writers of the FIFO have left, or the peer of a connection sends no more. */
+static void end_source(struct source *source)
+{
+    if (source->length > 0 && !source->skipping) {
+        say("tool: record cut after %zu bytes", source->length);
+        answer_line(source, "record cut");
+    }
+    if (fifo)
+        open_fifo();
+    else
+        source->ended = true;
+}
+
+/* Reads what is missing of one record, or some of what is skipped. */
+static void receive(struct source *source)
+{
+    size_t whole = SERIFLADDER_RECORD_HEADER;
+    char line[ANSWER_LINE];
+    if (source->skipping)
+        source->length = 0;
+    if (source->length >= SERIFLADDER_RECORD_HEADER)
+        whole += (size_t)little(source->record, 2);
+    ssize_t got = read(source->descriptor, source->record + source->length, source->skipping ? RECORD_GREATEST : whole - source->length);
+    if (got < 0 && (errno == EAGAIN || errno == EWOULDBLOCK || errno == EINTR))
+        return;
+    if (got <= 0) {
+        end_source(source);
+        return;
+    }
+    source->length += (size_t)got;
+    if (source->skipping || source->length < SERIFLADDER_RECORD_HEADER)
+        return;
+    whole = SERIFLADDER_RECORD_HEADER + (size_t)little(source->record, 2);
+    if (whole > RECORD_GREATEST) {
+        say("tool: record too long, %zu bytes; what follows it is not read", whole - SERIFLADDER_RECORD_HEADER);
+        answer_line(source, "record too long");
+        source->skipping = true;
+    } else if (source->length == whole) {
+        tool_record(source->record, whole, line);
+        answer_line(source, line);
+        source->length = 0;
+    }
+}
+
+/* Sends the answers. A tool that has left takes none, but the records that it sent are still read. Behind the last answer the connection
+   is closed where nothing comes any more, and shut on our side where nothing is answered any more. */
+static void send_answers(struct source *source)
+{
+    if (!waiting_send(&source->answers, source->descriptor))
+        source->answers.length = 0;
+    if (source->answers.length == 0 && source->ended)
+        close_source(source);
+    else if (source->answers.length == 0 && source->skipping)
+        shutdown(source->descriptor, SHUT_WR);
+}
+
+/* ---- the door */
+
+/* A socket file that nobody listens on any more is removed; anything else that stands there is left alone. */
+static void make_way(const struct sockaddr_un *address)
+{
+    struct stat found;
+    if (lstat(tool_path, &found) != 0) {
+        if (errno != ENOENT)
+            fail("tool %s: %s", tool_path, strerror(errno));
+        return;
+    }
+    if (!S_ISSOCK(found.st_mode))
+        fail("tool %s is neither a FIFO nor a socket", tool_path);
+    int asked = socket(AF_UNIX, SOCK_STREAM, 0);
+    if (connect(asked, (const struct sockaddr *)address, sizeof *address) == 0)
+        fail("tool %s is in use by another host", tool_path);
+    if (errno != ECONNREFUSED || unlink(tool_path) != 0)
+        fail("tool %s cannot be replaced: %s", tool_path, strerror(errno));
+    close(asked);
+}
+
+static void remove_door(void)
+{
+    unlink(tool_path);
+}
+
+void tool_open(const char *path)
+{
+    struct sockaddr_un address = { .sun_family = AF_UNIX };
+    struct stat found;
+    tool_path = path;
+    for (unsigned i = 0; i < TOOL_CONNECTIONS; i++)
+        sources[i].descriptor = -1;
+    if (path == NULL)
+        return;
+    fifo = stat(path, &found) == 0 && S_ISFIFO(found.st_mode);
+    if (fifo) {
+        open_fifo();
+        return;
+    }
+    if (strlen(path) >= sizeof address.sun_path)
+        fail("tool %s: the path of a socket has at most %zu bytes", path, sizeof address.sun_path - 1);
+    memcpy(address.sun_path, path, strlen(path));
+    make_way(&address);
+    door = socket(AF_UNIX, SOCK_STREAM, 0);
+    if (door < 0 || bind(door, (const struct sockaddr *)&address, sizeof address) != 0 || listen(door, SOMAXCONN) != 0)
+        fail("tool %s: no socket can be made there: %s", path, strerror(errno));
+    atexit(remove_door);
+    unblock(door);
+}
+
+static struct source *free_source(void)
+{
+    for (unsigned i = 0; i < TOOL_CONNECTIONS; i++)
+        if (sources[i].descriptor < 0)
+            return &sources[i];
+    return NULL;
+}
+
+static void take_in(struct source *source)
+{
+    int descriptor = accept(door, NULL, NULL);
+    if (descriptor >= 0)
+        begin_source(source, descriptor);
+    else if (errno != EAGAIN && errno != EWOULDBLOCK && errno != EINTR && errno != ECONNABORTED)
+        say("tool: a connection cannot be taken: %s", strerror(errno));
+}
+
+void tool_poll(struct pollfd set[TOOL_POLLED])
+{
+    set[0] = (struct pollfd){ .fd = free_source() == NULL ? -1 : door, .events = POLLIN };
+    for (unsigned i = 0; i < TOOL_CONNECTIONS; i++) {
+        struct source *source = &sources[i];
+        short events = source->answers.length > 0 ? POLLOUT : source->ended ? 0 : POLLIN;
+        set[1 + i] = (struct pollfd){ .fd = source->descriptor, .events = events };
+    }
+}
+
+void tool_serve(const struct pollfd set[TOOL_POLLED])
+{
+    for (unsigned i = 0; i < TOOL_CONNECTIONS; i++) {
+        struct source *source = &sources[i];
+        if (source->descriptor < 0 || set[1 + i].revents == 0)
+            continue;
+        if (source->answers.length == 0 && !source->ended)
+            receive(source);
+        if (!fifo)
+            send_answers(source);
+    }
+    if (set[0].revents != 0 && free_source() != NULL)
+        take_in(free_source());
+}
