@@ -1,6 +1,6 @@
--- 01, "Counted and compared": the cases (a) to (l), of the product. Whatever the contracts allow along the calls of a case, the answers and
--- the output's bytes are those of the model's run of these calls, and read back they are what the case's row of the table says. Assumes
--- nothing.
+-- 01, "Counted and compared": the cases (a) to (l), of the product, and the slips that look right. Whatever the contracts allow along the
+-- calls of a case, the answers and the output's bytes are those of the model's run of these calls, and read back they are what the case's
+-- row of the table says. Assumes nothing.
 use Prim.Native.Nat.{ℕ, _-_, _≤_}
 use mathlib.Core.Path.{_≡_, refl, sym, _∙_, ap, ap₂, subst}
 use mathlib.Core.Bool.{Bool, true, false, cond, _&&_, true≢false}
@@ -21,7 +21,7 @@ use Rattle.model.specs.Session.{Emission}
 use Rattle.model.specs.Program.{zeros, call-of, shown as underlined}
 use Rattle.model.proofs.Text.{ascii, same-bytes, same-lines}
 use Rattle.model.proofs.Histories.{Wanted, prints, answers, Example, outcome}
-use Rattle.model.proofs.Cases.{cases}
+use Rattle.model.proofs.Cases.{cases, slips}
 use Rattle.model.proofs.Erase.{observed}
 use Rattle.watch.specs.Marks.{Every}
 use Rattle.table.specs.Table.{decode}
@@ -89,6 +89,10 @@ the-cases-show : all-show cases ≡ true
 unfolding shows outcome
 the-cases-show = refl
 
+the-slips-show : all-show slips ≡ true
+unfolding shows outcome
+the-slips-show = refl
+
 both : (a b : Bool) → (a && b) ≡ true → (a ≡ true) × (b ≡ true)
 both true b e = (refl, e)
 both false b e = absurd (true≢false (sym e))
@@ -122,7 +126,8 @@ calls-of [] = []
 calls-of (m ∷ ms) = m .call ∷ calls-of ms
 
 -- longer than long enough makes no difference
-same-refusal : (size room : ℕ) (w : World) (c : Call) → table-least ≤ size → output-least ≤ room → refusal (lending size room) w c ≡ refusal long-enough w c
+same-refusal : (size room : ℕ) (w : World) (c : Call) → table-least ≤ size → output-least ≤ room
+    → refusal (lending size room) w c ≡ refusal long-enough w c
 unfolding refusal
 same-refusal size room w (start slice) h g = rw (le-ltb size table-least h)
 same-refusal size room w (open-session s) h g = rw (le-ltb size table-least h, le-ltb room output-least g)
@@ -131,7 +136,8 @@ same-refusal size room w (bytes s bs) h g = rw (le-ltb size table-least h, le-lt
 same-refusal size room w one-tick h g = rw (le-ltb size table-least h, le-ltb room output-least g)
 same-refusal size room w (tool slice) h g = rw (le-ltb size table-least h, le-ltb room output-least g)
 
-same-step : (size room : ℕ) (w : World) (c : Call) → table-least ≤ size → output-least ≤ room → step (lending size room) w c ≡ step long-enough w c
+same-step : (size room : ℕ) (w : World) (c : Call) → table-least ≤ size → output-least ≤ room
+    → step (lending size room) w c ≡ step long-enough w c
 unfolding step
 same-step size room w c h g = ap (answered w c) (same-refusal size room w c h g)
 
@@ -206,3 +212,6 @@ holds (x ∷ es) e =
 
 pub the-cases-hold-of-the-product : Every HoldsOfTheProduct cases
 the-cases-hold-of-the-product = holds cases the-cases-show
+
+pub the-slips-show-of-the-product : Every HoldsOfTheProduct slips
+the-slips-show-of-the-product = holds slips the-slips-show

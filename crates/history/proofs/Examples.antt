@@ -1,5 +1,5 @@
--- The words in which demand 3 is read off calls, on small histories, computed. Each is session 0, started and subscribed to tightenings with
--- acknowledge, and a tightening that goes out to it; then what a row says. Assumes nothing.
+-- The words in which demand 3 is read off calls, on small histories, computed. Each is session 0, started and subscribed to tightenings
+-- with acknowledge, and a tightening that goes out to it; then what a row says. Assumes nothing.
 use Prim.Native.Nat.{ℕ, zero, suc, _/_, _%_}
 use mathlib.Core.Path.{_≡_, refl}
 use mathlib.Core.Bool.{Bool, true, false}
@@ -10,13 +10,27 @@ use Rattle.model.specs.Limits.{table-least}
 use Rattle.model.specs.Records.{Settings, payload, settings-of}
 use Rattle.model.specs.Events.{tightenings}
 use Rattle.model.specs.World.{begun}
-use Rattle.model.specs.Calls.{Call, Lent}
-use Rattle.model.proofs.Histories.{a-tightening, scan, opened, hung-up, sends, tick, ticks, line4, told, outcome}
+use Rattle.model.specs.Calls.{Call, start, open-session, hang-up-session, bytes, one-tick, tool, Lent}
+use Rattle.model.proofs.Histories.{a-tightening, scan, opened, hung-up, message, sends, tick, ticks, line4, told, outcome}
 use Rattle.watch.specs.Marks.{Mark, copies, T}
 use Rattle.history.specs.Turns.{longest-wait, turns}
 use Rattle.history.specs.Demand.{marks}
 use Rattle.history.specs.Output.{read-output}
 use Rattle.history.proofs.Cases.{call-in, long-enough}
+
+-- ==== the calls that records stand for
+
+pub the-calls : map call-in (told ++ a-tightening ∷ hung-up 0 ∷ tick ∷ [])
+    ≡ start line4
+    ∷ open-session 0
+    ∷ bytes 0 (message "00200001001_________")
+    ∷ bytes 0 (message "00200060001_________")
+    ∷ tool a-tightening
+    ∷ hang-up-session 0
+    ∷ one-tick
+    ∷ []
+unfolding outcome
+the-calls = refl
 
 -- ==== marks of histories
 
@@ -118,7 +132,12 @@ refused = refl
 
 -- and the same calls, done
 pub done : map said-of (later (tick ∷ a-tightening ∷ sends 0 "00200062001_________" ∷ hung-up 0 ∷ tick ∷ []))
-    ≡ (true, false, false, 0, 1) ∷ (false, false, true, 0, 1) ∷ (false, true, false, 1, 2) ∷ (false, true, false, 0, 2) ∷ (true, false, false, 0, 2) ∷ []
+    ≡ (true, false, false, 0, 1)
+    ∷ (false, false, true, 0, 1)
+    ∷ (false, true, false, 1, 2)
+    ∷ (false, true, false, 0, 2)
+    ∷ (true, false, false, 0, 2)
+    ∷ []
 unfolding outcome
 done = refl
 

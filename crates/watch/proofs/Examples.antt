@@ -51,12 +51,18 @@ happens = a-call false false (some (0 ∷ [])) true (copy-of 0 ∷ [])
 
 -- ==== T, and the copies that are due
 
-pub the-ticks : map T (ticks 0 ∷ ticks 19 ∷ ticks 20 ∷ ticks 99 ∷ ticks 100 ∷ ticks 120 ∷ ticks 121 ∷ ticks 500 ∷ []) ≡ 0 ∷ 19 ∷ 20 ∷ 99 ∷ 100 ∷ 120 ∷ 120 ∷ 120 ∷ []
+pub the-ticks : map T (ticks 0 ∷ ticks 19 ∷ ticks 20 ∷ ticks 99 ∷ ticks 100 ∷ ticks 120 ∷ ticks 121 ∷ ticks 500 ∷ [])
+    ≡ 0 ∷ 19 ∷ 20 ∷ 99 ∷ 100 ∷ 120 ∷ 120 ∷ 120 ∷ []
 the-ticks = refl
 
 -- other calls are not counted, nor what comes after one that closes, nor the tick that closes
 pub the-ticks-open :
-    map T ((nothing ∷ ticks 3 ++ nothing ∷ ticks 2) ∷ (ticks 5 ++ closing ∷ ticks 40) ∷ (ticks 14 ++ closing-tick ∷ ticks 40) ∷ (closing ∷ []) ∷ [])
+    map T
+    ((nothing ∷ ticks 3 ++ nothing ∷ ticks 2)
+    ∷ (ticks 5 ++ closing ∷ ticks 40)
+    ∷ (ticks 14 ++ closing-tick ∷ ticks 40)
+    ∷ (closing ∷ [])
+    ∷ [])
     ≡ 5 ∷ 5 ∷ 14 ∷ 0 ∷ []
 the-ticks-open = refl
 

@@ -1,0 +1,140 @@
+#!/usr/bin/env python3
+"""Shows that the tests of the host find faults: plants each of these in a copy of its sources, builds it, and runs the test that is to
+find it.
+
+    faults.py --host PROGRAM --replay PROGRAM --archive ARCHIVE --compiler COMPILER [--runner RUNNER] [--only NAME,NAME,..]
+
+The host itself has to pass all those tests first. Exit status 0: every fault was found."""
+
+import argparse
+import multiprocessing
+import os
+import re
+import shutil
+import subprocess
+import sys
+import tempfile
+import time
+
+import tracing
+
+HERE = os.path.dirname(os.path.abspath(__file__))
+ROOT = os.path.join(HERE, "..", "..")
+
+RECORD_SETTLED = """\
+    journal_record(journal_kind(kind), record + SERIFLADDER_RECORD_HEADER, length - SERIFLADDER_RECORD_HEADER);
+    carry_out(answer.written);
+"""
+
+# The fault, the test that finds it, the file, what stands there, and what is put in its place.
+FAULTS = [
+    ("state not written", "killed-between-results", "calls.c", "state_keep(++last);", "++last;"),
+    ("state written after sending", "no-room-for-the-state", "calls.c",
+     "state_keep(++last);\n" + RECORD_SETTLED,
+     "++last;\n" + RECORD_SETTLED + "    if (number == SERIFLADDER_DONE && kind == SERIFLADDER_TIGHTENING)\n        state_keep(last);\n"),
+    ("journal written after sending", "no-room-for-the-journal", "calls.c",
+     "    journal_record(kind, payload, length);\n    carry_out(answer.written);",
+     "    carry_out(answer.written);\n    journal_record(kind, payload, length);"),
+    ("a fifth let in", "four-servers-and-a-fifth", "links.c",
+     'say("%s closed: all four sessions are taken", peer);\n        close(socket);\n        return;',
+     'hang_up(&links[--s], "room is made");'),
+    ("rest of a slice not passed on", "many-messages-in-one-segment", "links.c",
+     "for (size_t at = 0; at < (size_t)length && link->socket >= 0;) {", "for (size_t at = 0; at == 0 && link->socket >= 0;) {"),
+    ("output of one session to another", "four-servers-and-a-fifth", "calls.c",
+     "links_send(kind - SERIFLADDER_FRAME,", "links_send((kind - SERIFLADDER_FRAME) & 2,"),
+    ("ticks not made up for", "ticks-are-made-up-for", "main.c", "timer->next += timer->period;", "timer->next = now() + timer->period;"),
+    ("stale output kept over a hang-up", "a-peer-that-stops-reading", "links.c", "    link->waiting.length = 0;\n", ""),
+    ("a hang-up that the library is not told", "a-link-cut-with-a-notice-open", "links.c",
+     "    call_hang_up((unsigned)(link - links));\n    close_link(link, why);", "    close_link(link, why);"),
+    ("a close record not carried out", "silence-until-the-time-out", "calls.c", "links_close(kind - SERIFLADDER_CLOSE);", ";"),
+    ("ticks not journaled", "the-journal-replays", "calls.c",
+     'settle_done("a tick", serifladder_tick(LENT, ANSWER), JOURNAL_TICK, NULL, 0);',
+     "serifladder_tick(LENT, ANSWER);\n    carry_out(answered().written);"),
+    ("a tool's record journaled as another call", "refused-tool-records", "calls.c",
+     "journal_record(journal_kind(kind),", "(void)journal_kind;\n    journal_record(kind,"),
+    ("a peer that does not read is waited for", "a-peer-that-stops-reading", "links.c",
+     'link->failed = "64 KiB wait for it, and it does not read";', "link->waiting.length = 0;"),
+    ("sessions not hung up at the end", "ended-by-a-signal", "main.c", "    links_end();\n", ""),
+    ("no lock on the state", "a-state-in-use", "state.c", "if (!lock_file(lock))", "if (lock < 0)"),
+    ("what a slow reader is owed is forgotten", "a-peer-that-stops-reading", "common.c",
+     "    waiting->length -= sent;\n    memmove(waiting->bytes, waiting->bytes + sent, waiting->length);", "    waiting->length = 0;"),
+    ("a loop that never waits", "an-idle-host-rests", "links.c", "(links[s].waiting.length > 0 ? POLLOUT : 0)", "POLLOUT"),
+    ("check sum not tested", "a-damaged-state", "state.c", "if (length != whole || memcmp(text, expected, whole) != 0)",
+     "if (length < whole)"),
+]
+if tracing.possible():
+    FAULTS += [
+        ("state not synced", "killed-before-every-call-of-the-system", "state.c", " || fsync(file) != 0", ""),
+        ("folder of the state not synced", "killed-before-every-call-of-the-system", "state.c", " || fsync(folder) != 0", ""),
+    ]
+
+
+def planted(name, file, old, new):
+    """The file of the host's sources with the fault."""
+    with open(os.path.join(ROOT, "host", file), encoding="ascii") as source:
+        text = source.read()
+    if text.count(old) != 1:
+        sys.exit("'%s' can't be planted: host/%s has its place %d times" % (name, file, text.count(old)))
+    return text.replace(old, new)
+
+
+def build(program, file, text, options):
+    """The host with that file instead of its own, built as its Makefile says."""
+    folder = program + "-sources"
+    shutil.copytree(os.path.join(ROOT, "host"), folder)
+    with open(os.path.join(folder, file), "w", encoding="ascii") as source:
+        source.write(text)
+    with open(os.path.join(folder, "Makefile"), encoding="ascii") as makefile:
+        said = makefile.read()
+    names = re.search(r"^SOURCES := (.*)$", said, re.M).group(1).split()
+    flags = re.search(r"^STRICT := (.*)$", said, re.M).group(1).split()
+    sources = [os.path.join(folder, name) for name in names]
+    subprocess.run([options.compiler, *flags, "-O1", "-static", "-I", os.path.join(ROOT, "include"), *sources, options.archive,
+                    "-o", program], check=True)
+    if not options.runner:
+        return program
+    with open(program + "-run", "w", encoding="ascii") as wrapper:
+        wrapper.write('#!/bin/sh\nexec "%s" "%s" "$@"\n' % (os.path.abspath(options.runner), program))
+    os.chmod(program + "-run", 0o755)
+    return program + "-run"
+
+
+def run_tests(host, replay, names, *more):
+    """The status of the tests, and what they printed."""
+    command = [sys.executable, os.path.join(HERE, "run.py"), "--host", host, "--replay", replay, "--only", ",".join(names), *more]
+    done = subprocess.run(command, stdout=subprocess.PIPE, encoding="utf-8", check=False)
+    return done.returncode, done.stdout
+
+
+def find(arguments):
+    """Builds the host with a fault and runs the test that is to find it: the test, and what it said; None if it said nothing."""
+    program, (_, finder, file, _, _), text, options = arguments
+    status, printed = run_tests(build(program, file, text, options), options.replay, [finder], "--seconds", "5")
+    return finder, None if status == 0 else printed.partition("WRONG: ")[2].partition("\n")[0]
+
+
+def main():
+    parser = argparse.ArgumentParser(description=__doc__.splitlines()[0])
+    for option in ("--host", "--replay", "--archive", "--compiler"):
+        parser.add_argument(option, required=True)
+    parser.add_argument("--runner", default="")
+    parser.add_argument("--only", type=lambda text: text.split(","))
+    options = parser.parse_args()
+    began = time.monotonic()
+    faults = [fault for fault in FAULTS if not options.only or fault[0] in options.only]
+    texts = [planted(name, *edit) for name, _, *edit in faults]
+    status, printed = run_tests(options.host, options.replay, sorted({finder for _, finder, *_ in faults}))
+    if status != 0:
+        sys.exit("the host itself does not pass:\n" + printed)
+    missed = 0
+    with tempfile.TemporaryDirectory(prefix="serifladder-") as folder, multiprocessing.Pool(2) as pool:
+        work = [(os.path.join(folder, "host-%d" % i), fault, text, options) for i, (fault, text) in enumerate(zip(faults, texts))]
+        for (name, *_), (finder, difference) in zip(faults, pool.imap(find, work)):
+            missed += difference is None
+            print("%-42s %s" % (name, "NOT FOUND by " + finder if difference is None else "%s: %.70s" % (finder, difference)), flush=True)
+    print("host-faults: %d of %d found, %.0f s" % (len(faults) - missed, len(faults), time.monotonic() - began))
+    return 1 if missed else 0
+
+
+if __name__ == "__main__":
+    sys.exit(main())

@@ -1,0 +1,468 @@
+"""What the tests of the host share: a place to run in, hosts, line servers, tools, and the journal read back.
+
+A test is a function of a Place, registered by @test. Its first sentence says what it shows. Whatever it starts or makes is
+made through the Place, which takes it all away again, however the test ends. Waiting ends by what is waited for; SECONDS is
+only there so that a test that waits in vain ends too."""
+
+import collections
+import contextlib
+import os
+import re
+import select
+import shutil
+import signal
+import socket
+import struct
+import subprocess
+import sys
+import tempfile
+import time
+
+HERE = os.path.dirname(os.path.abspath(__file__))
+ROOT = os.path.join(HERE, "..", "..")
+sys.path[:0] = [os.path.join(ROOT, "tools"), os.path.join(HERE, "..", "vectors")]
+
+import history  # noqa: E402
+import openprotocol  # noqa: E402
+from history import BYTES, HANG_UP, OPEN, SCANNED, SETTINGS, TICK, TIGHTENING, record  # noqa: E402, F401
+from openprotocol import message  # noqa: E402
+
+SECONDS = 30
+SESSIONS = 4
+GREATEST_NUMBER = 4294967295
+NO_TICKS = 1000000  # milliseconds: no tick comes while a test runs
+GOOD_SETTINGS = "cell = 12\nchannel = 3\ngranted = yes\nname = LINE4\n"
+CONTROLLER = {"cell": 12, "channel": 3, "name": "LINE4"}
+
+TESTS = []
+
+
+class Wrong(Exception):
+    """What differed."""
+
+
+def test(function):
+    TESTS.append(function)
+    return function
+
+
+def in_memory(function):
+    """The test's files stand in memory where there is such a folder: it tries the host, which is not to wait for the disk."""
+    if os.access("/dev/shm", os.W_OK | os.X_OK):
+        function.parent = "/dev/shm"
+    return function
+
+
+def check(right, what, *values):
+    if not right:
+        raise Wrong(what % values if values else what)
+
+
+def equal(got, wanted, what):
+    check(got == wanted, "%s: %r, not %r", what, got, wanted)
+
+
+def wait(condition, what):
+    """Waits until the condition holds, and answers what it answered."""
+    until = time.monotonic() + SECONDS
+    while not (held := condition()):
+        check(time.monotonic() < until, "not within %d s: %s", SECONDS, what)
+        time.sleep(0.002)
+    return held
+
+
+# ---- records of the tool
+
+# A tightening record's fields are those of a result between the controller's own and the number.
+TIGHTENING_FIELDS = [name for name, _, _ in openprotocol.RESULT_FIELDS[len(openprotocol.CONTROLLER):-1]]
+
+
+def tightening_fields(i, **named):
+    """The i-th tightening: no two are alike, and every field has a value of its own."""
+    fields = dict(
+        identifier="BODY-%07d" % i, job=i % 100, parameter_set=(i + 7) % 1000, batch_size=(i + 11) % 10000,
+        batch_counter=(i + 13) % 10000, tightening_status=i % 2, torque_status=i % 3, angle_status=(i + 1) % 3,
+        torque_min=(i + 100001) % 1000000, torque_max=(i + 200002) % 1000000, torque_target=(i + 300003) % 1000000,
+        torque=(i + 400004) % 1000000, angle_min=(i + 10001) % 100000, angle_max=(i + 20002) % 100000,
+        angle_target=(i + 30003) % 100000, angle=(i + 40004) % 100000,
+        time="2026-01-%02d:%02d:%02d:%02d" % (i % 28 + 1, i // 3600 % 24, i // 60 % 60, i % 60),
+        change_time="2025-12-31:23:59:%02d" % (i % 60), batch_status=(i + 2) % 3)
+    fields.update(named)
+    return fields
+
+
+def tightening_record(fields):
+    values = [fields[name] for name in TIGHTENING_FIELDS]
+    values[0] = "%-25s" % values[0]
+    values = [value.encode("ascii") if isinstance(value, str) else value for value in values]
+    return record(TIGHTENING, history.TIGHTENING_FORM.pack(*values))
+
+
+def identifier_record(identifier):
+    return record(SCANNED, b"%-25s" % identifier.encode("ascii"))
+
+
+def result_fields(fields, number):
+    """What a 0061 has to say of that tightening."""
+    return {**CONTROLLER, **fields, "number": number}
+
+
+# ---- the programs of a test
+
+class Host:
+    """A host that was started; it is ready when its port is known. Its log goes to a file, if so wished through a pipe."""
+
+    def __init__(self, command, log_path, piped=False, **how):
+        self.log_path = log_path
+        self.pipe = None
+        with open(log_path, "wb") as log:
+            if piped:
+                self.pipe = subprocess.Popen(["cat"], stdin=subprocess.PIPE, stdout=log)
+            out = self.pipe.stdin if piped else log
+            self.process = subprocess.Popen(command, **{"stdin": subprocess.DEVNULL, "stdout": out, "stderr": out, **how})
+        if piped:
+            self.pipe.stdin.close()
+        self.port = None
+
+    def log(self):
+        with open(self.log_path, encoding="latin-1") as log:
+            return log.read()
+
+    def wait_for_log(self, pattern):
+        """The match of the pattern, once the host has logged it."""
+        def logged():
+            over = self.process.poll() is not None
+            found = re.search(pattern, self.log())
+            check(found or not over, "the host ended with status %s and did not log %r:\n%s",
+                  self.process.returncode, pattern, self.log())
+            return found
+        return wait(logged, "a log line like %r" % pattern)
+
+    def ready(self):
+        self.port = int(self.wait_for_log(r"listening on 127\.0\.0\.1:(\d+)").group(1))
+        return self
+
+    def status(self):
+        """The status with which it ends, once it has."""
+        try:
+            self.process.wait(SECONDS)
+        except subprocess.TimeoutExpired:
+            raise Wrong("the host did not end within %d s:\n%s" % (SECONDS, self.log())) from None
+        if self.pipe:
+            self.pipe.wait()
+        return self.process.returncode
+
+    def end(self, number=signal.SIGTERM):
+        self.process.send_signal(number)
+        return self.status()
+
+    def kill(self):
+        self.process.kill()
+        self.process.wait()
+        if self.pipe:
+            self.pipe.wait()
+
+    def files(self):
+        """How many descriptors it has open."""
+        return len(os.listdir("/proc/%d/fd" % self.process.pid))
+
+    def processor_seconds(self):
+        """How long it has been running on a processor."""
+        with open("/proc/%d/stat" % self.process.pid, encoding="ascii") as file:
+            fields = file.read().rpartition(")")[2].split()
+        return (int(fields[11]) + int(fields[12])) / os.sysconf("SC_CLK_TCK")
+
+
+class Link:
+    """One of our connections to the host."""
+
+    def __init__(self, link):
+        self.link = link
+        link.settimeout(SECONDS)
+
+    def send(self, data):
+        self.link.sendall(data)
+
+    def receive(self):
+        """Some bytes; none at the end, be it in order or not."""
+        try:
+            return self.link.recv(65536)
+        except ConnectionError:
+            return b""
+        except socket.timeout:
+            raise Wrong("nothing came within %d s" % SECONDS) from None
+
+    def close(self):
+        self.open = False
+        self.link.close()
+
+    def cut(self):
+        """Ends the link by a reset, as a lost peer's operating system does."""
+        self.link.setsockopt(socket.SOL_SOCKET, socket.SO_LINGER, struct.pack("ii", 1, 0))
+        self.close()
+
+
+class Server(Link):
+    """A line server. `seen` are all the runs that came, `open` tells whether the link has not ended, and `reads_all` whether all that
+    was sent to it before has been read then."""
+
+    def __init__(self, host, receive_buffer=None):
+        link = socket.socket()
+        if receive_buffer:
+            link.setsockopt(socket.SOL_SOCKET, socket.SO_RCVBUF, receive_buffer)
+        link.setsockopt(socket.IPPROTO_TCP, socket.TCP_NODELAY, 1)
+        super().__init__(link)
+        link.connect(("127.0.0.1", host.port))
+        self.stream = openprotocol.Stream()
+        self.waiting = collections.deque()
+        self.seen = []
+        self.open = True
+        self.reads_all = True
+        self.fences = 0
+
+    def take(self):
+        """Takes what has come, or waits for it; False at the end."""
+        received = self.receive()
+        runs = self.stream.take(received)
+        self.seen += runs
+        self.waiting.extend(runs)
+        self.open = received != b""
+        return self.open
+
+    def next(self):
+        """The next run."""
+        while not self.waiting:
+            check(self.take(), "the host closed a link on which more was to come")
+        return self.waiting.popleft()
+
+    def expect(self, mid, revision=1):
+        """The fields of the next frame, which is to be that one."""
+        run = self.next()
+        try:
+            frame = openprotocol.read(run)
+        except ValueError as wrong:
+            raise Wrong(str(wrong)) from None
+        check((frame.mid, frame.revision) == (mid, revision), "a %04d of revision %d was to come, not %r", mid, revision, run)
+        return frame.fields
+
+    def expect_result(self, fields, number):
+        equal(self.expect(openprotocol.RESULT), result_fields(fields, number), "result")
+
+    def tell(self, mid, **more):
+        self.send(message(mid, **more))
+
+    def accepted(self, mid, **more):
+        self.tell(mid, **more)
+        equal(self.expect(openprotocol.ACCEPTED)["mid"], mid, "accepted")
+
+    def start(self):
+        self.tell(openprotocol.START)
+        equal(self.expect(openprotocol.STARTED), CONTROLLER, "0002")
+        return self
+
+    def subscribe(self, acknowledge=True):
+        """Starts, and subscribes to identifiers and results."""
+        self.start()
+        for mid in (openprotocol.SUBSCRIBE_IDENTIFIERS, openprotocol.SUBSCRIBE_RESULTS):
+            self.accepted(mid, byte_12=b"0" if acknowledge else b"1")
+        return self
+
+    def fence(self):
+        """The runs that come before the mirror of a 9999 that is sent now: what the host had to send, it has sent."""
+        self.fences += 1
+        mark = message(openprotocol.KEEP_ALIVE, rest=b"%08d" % self.fences)
+        self.send(mark)
+        runs = []
+        while (run := self.next()) != mark[:-1]:
+            runs.append(run)
+        return runs
+
+    def until_closed(self):
+        """The runs that come before the host closes the link."""
+        until = time.monotonic() + SECONDS
+        while self.open:
+            ready = select.select([self.link], [], [], max(0, until - time.monotonic()))[0]
+            check(ready, "the host did not close a link within %d s", SECONDS)
+            self.take()
+        runs = list(self.waiting)
+        self.waiting.clear()
+        return runs
+
+
+class Tool(Link):
+    """A tool on the host's Unix socket."""
+
+    def __init__(self, path):
+        link = socket.socket(socket.AF_UNIX)
+        super().__init__(link)
+        link.connect(path)
+        self.received = b""
+
+    def answer(self):
+        """The next line; None at the end."""
+        while b"\n" not in self.received:
+            more = self.receive()
+            if not more:
+                equal(self.received, b"", "a line cut by the end")
+                return None
+            self.received += more
+        line, self.received = self.received.split(b"\n", 1)
+        return line.decode("ascii")
+
+    def give(self, data):
+        self.send(data)
+        return self.answer()
+
+    def tighten(self, fields, taken_by):
+        equal(self.give(tightening_record(fields)), "0 done, taken by " + taken_by, "answer to a tightening")
+
+    def scan(self, identifier, taken_by):
+        equal(self.give(identifier_record(identifier)), "0 done, taken by " + taken_by, "answer to an identifier")
+
+
+class Place:
+    """Where a test runs: its folder, and all that it starts."""
+
+    def __init__(self, host, replay, count, parent=None):
+        self.program, self.replay, self.count = host, replay, count
+        self.said = []  # figures that the test wants to be printed behind its ok
+        self.hosts = []
+        self.links, self.undo = contextlib.ExitStack(), contextlib.ExitStack()  # before and after the hosts' end
+        self.folder = tempfile.mkdtemp(prefix="serifladder-", dir=parent)
+        self.settings = self.path("settings")
+        self.state = self.path("state")
+        self.journal = self.path("journal")
+        self.tool_path = self.path("tool")
+        with open(self.settings, "w", encoding="ascii") as file:
+            file.write(GOOD_SETTINGS)
+
+    def path(self, name):
+        return os.path.join(self.folder, name)
+
+    def leave(self):
+        self.links.close()
+        for host in self.hosts:
+            if host.process.poll() is None:
+                host.kill()
+        self.undo.close()
+        shutil.rmtree(self.folder)
+
+    def run(self, *arguments, **how):
+        """A host with just these arguments."""
+        self.hosts.append(Host([self.program, *map(str, arguments)], self.path("log-%d" % len(self.hosts)), **how))
+        return self.hosts[-1]
+
+    def start(self, *more, tick=NO_TICKS, tool=True, journal=True, **how):
+        """A host with the usual files, not waited for; the state is made where there is none."""
+        arguments = ["--settings", self.settings, "--state", self.state]
+        arguments += [] if "--listen" in more else ["--listen", "127.0.0.1:0"]
+        arguments += [] if os.path.exists(self.state) or "--new-state" in more else ["--new-state", 0]
+        arguments += ["--tool", self.tool_path] if tool else []
+        arguments += ["--journal", self.journal] if journal else []
+        arguments += ["--tick-milliseconds", tick] if tick else []
+        return self.run(*arguments, *more, **how)
+
+    def host(self, *more, **how):
+        return self.start(*more, **how).ready()
+
+    def finish(self, host, servers, refusals=()):
+        """Ends the host, has the servers read all that was sent, and holds it against the journal."""
+        status = host.end()
+        for server in servers:
+            if server.open and server.reads_all:
+                server.until_closed()
+        equal(status, 0, "status")
+        self.check_journal(servers, refusals)
+
+    def refused(self, host, status, *words):
+        """The host is to end with that status and a message that has these words; answers the message."""
+        equal(host.status(), status, "status of a host that logged\n%s\nof which" % host.log())
+        for word in words:
+            check(str(word) in host.log(), "no %r in the message:\n%s", str(word), host.log())
+        return host.log()
+
+    def server(self, host, **how):
+        server = Server(host, **how)
+        self.links.callback(server.close)
+        return server
+
+    def tool(self):
+        tool = Tool(self.tool_path)
+        self.links.callback(tool.close)
+        return tool
+
+    # ---- the journal
+
+    def journal_parts(self):
+        """The journal's files in the order in which they were written."""
+        folder, name = os.path.split(self.journal)
+        numbers = [int(found.group(1)) for other in os.listdir(folder) if (found := re.fullmatch(name + r"\.(\d+)", other))]
+        return ["%s.%d" % (self.journal, number) for number in sorted(numbers)] + [self.journal]
+
+    def journal_bytes(self):
+        parts = []
+        for path in self.journal_parts():
+            with open(path, "rb") as file:
+                parts.append(file.read())
+        return b"".join(parts)
+
+    def journaled(self):
+        """The journal's whole records, as (kind, payload)."""
+        return history.split(self.journal_bytes())[0]
+
+    def ticks(self):
+        return sum(kind == TICK for kind, _ in self.journaled())
+
+    def wait_for_journal(self, condition, what):
+        wait(lambda: condition(self.journaled()), "journal: " + what)
+
+    def wait_for_hang_up(self, session, times=1):
+        self.wait_for_journal(lambda records: sum(kind == HANG_UP + session for kind, _ in records) >= times,
+                              "hang-up %d of session %d" % (times, session))
+
+    def replayed(self):
+        """What replay prints of the journal: an Opening for each open record, and the refusals."""
+        records, rest = history.split(self.journal_bytes())
+        equal(rest, b"", "bytes behind the journal's last whole record")
+        # An open of a session that is none is refused with 4 and alters nothing: it marks each opening in what is printed.
+        marked = b"".join((MARK if OPEN <= kind < OPEN + SESSIONS else b"") + record(kind, payload) for kind, payload in records)
+        done = subprocess.run([self.replay], input=marked, stdout=subprocess.PIPE, timeout=SECONDS, check=True)
+        sessions = iter([kind - OPEN for kind, _ in records if OPEN <= kind < OPEN + SESSIONS])
+        openings, now, refusals = [], {}, []
+        for line in done.stdout.split(b"\n")[:-1]:
+            if line == b"R 4":
+                openings.append(Opening(next(sessions), []))
+                now[openings[-1].session] = openings[-1]
+            elif line.startswith(b"R "):
+                refusals.append(int(line[2:]))
+            else:
+                now[int(line[:1])].lines.append(line[2:])
+        return openings, refusals
+
+    def check_journal(self, servers, refusals=()):
+        """What replay prints is what the servers saw, who are given in the order in which they were let in."""
+        openings, refused = self.replayed()
+        equal(refused, list(refusals), "refusals in the journal")
+        equal(len(openings), len(servers), "openings in the journal")
+        for i, (opening, server) in enumerate(zip(openings, servers)):
+            printed = opening.frames()
+            saw = [run.replace(b" ", b"_") for run in server.seen]
+            if not server.reads_all:
+                check(len(saw) <= len(printed), "server %d saw %d frames, replay has %d", i, len(saw), len(printed))
+                printed = printed[:len(saw)]
+            equal(saw[:len(printed)], printed[:len(saw)], "what server %d saw" % i)
+            equal(len(saw), len(printed), "how many frames server %d saw" % i)
+            check(not opening.closed() or not server.open, "the library closed session %d, its link is open", opening.session)
+
+
+MARK = record(OPEN + 15)
+
+
+class Opening(collections.namedtuple("Opening", "session lines")):
+    """What the library sent to a session from its opening on."""
+
+    def frames(self):
+        return [line[2:] for line in self.lines if line.startswith(b"S ")]
+
+    def closed(self):
+        return b"C" in self.lines

@@ -1,0 +1,192 @@
+"""The journal: replay prints of it what the servers saw."""
+
+import contextlib
+import os
+import random
+import select
+import socket
+import time
+
+from harness import SETTINGS, check, equal, history, openprotocol, record, identifier_record, test, tightening_fields, tightening_record
+
+TICK_SECONDS = 0.03
+
+
+class Play:
+    """A host's life with four servers that come, subscribe, acknowledge or not, leave, are cut, fall silent and time out."""
+
+    def __init__(self, place, seed):
+        self.place, self.source = place, random.Random(seed)
+        self.servers = []  # in the order in which they were let in
+        self.number = self.refused = 0
+
+    def here(self):
+        return [server for server in self.servers if server.open]
+
+    def enter(self):
+        """A further server, if there is room: it is let in when it is answered."""
+        server = self.place.server(self.host)
+        with contextlib.suppress(ConnectionError):
+            server.tell(openprotocol.START)
+        while not server.seen and server.take():
+            pass
+        if server.seen:
+            self.servers.append(server)
+
+    def leave(self, server):
+        """The link is ended by this end: cut, or in order, when all is read that was sent before."""
+        if self.source.random() < 0.5:
+            server.reads_all = False
+            server.cut()
+        else:
+            with contextlib.suppress(OSError):  # the host may have closed it
+                server.link.shutdown(socket.SHUT_WR)
+            server.until_closed()
+
+    def settle(self, server):
+        """Reads all that is there for it; False if the host has closed it."""
+        mark = openprotocol.message(openprotocol.KEEP_ALIVE, rest=b"%08d" % len(server.seen))[:-1]
+        with contextlib.suppress(ConnectionError):
+            server.send(b"\0" + mark + b"\0")
+        while server.open and mark not in server.seen:
+            server.take()
+        return server.open
+
+    def speak(self, server):
+        mid = self.source.choice([1, 50, 51, 51, 53, 53, 60, 60, 60, 62, 62, 62, 62, 54, 63, 9999, 9999, 1234])
+        data = b"NET" if mid == 50 else b""
+        with contextlib.suppress(ConnectionError):
+            server.tell(mid, revision=self.source.choice([1, 1, 1, 2]), byte_12=self.source.choice([b" ", b" ", b"1"]), data=data)
+
+    def fall_silent(self):
+        """One of them says nothing more until the host closes it, while the others speak on."""
+        if not self.here():
+            self.enter()
+        silent = self.source.choice(self.here())
+        while silent.open:
+            for server in self.here():
+                if server is not silent:
+                    self.settle(server)
+            if select.select([silent.link], [], [], TICK_SECONDS)[0]:
+                silent.take()
+
+    def step(self):
+        chance = self.source.random()
+        here = self.here()
+        if chance < 0.08:
+            self.enter()
+        elif chance < 0.11 and here:
+            self.leave(self.source.choice(here))
+        elif chance < 0.3:
+            self.number += 1
+            self.tool.give(tightening_record(tightening_fields(self.number)))
+        elif chance < 0.4:
+            self.tool.give(identifier_record("CAR %d" % self.source.randrange(1000)))
+        elif chance < 0.42:
+            self.refused += 1
+            self.tool.give(record(7, b"bad"))
+        elif chance < 0.45:
+            time.sleep(TICK_SECONDS * self.source.randrange(8))  # so that something times out now and then
+        elif here:
+            self.speak(self.source.choice(here[:3]))
+
+    def run(self, steps, *more):
+        self.host = self.place.host(*more, tick=int(TICK_SECONDS * 1000))
+        self.tool = self.place.tool()
+        for i in range(1, steps + 1):
+            self.step()
+            if i % 300 == 0:
+                self.fall_silent()
+        for server in self.here():
+            self.settle(server)
+        self.tool.close()
+        self.place.finish(self.host, self.servers, [7] * self.refused)
+        return self.place.replayed()[0]
+
+
+@test
+def the_journal_replays(place):
+    """Four servers that come and go, are cut and time out: replay prints of the journal what each of them saw."""
+    openings = Play(place, 3).run(900)
+    timed_out = sum(opening.closed() for opening in openings)
+    place.said.append("%d openings, %d timed out, %d frames" % (len(openings), timed_out, sum(len(o.frames()) for o in openings)))
+    check(timed_out >= 3, "too few timed out: this shows too little")
+    check(len(openings) - timed_out > 4, "too few hang-ups: this shows too little")
+
+
+@test
+def the_journal_in_parts(place):
+    """Parts begun by size hold whole records and replay as one; a further run of the host begins a further file."""
+    play = Play(place, 4)
+    play.run(400, "--journal-size", 3000)
+    parts = place.journal_parts()
+    check(len(parts) > 4, "only %d parts: this shows too little", len(parts))
+    for i, path in enumerate(parts):
+        with open(path, "rb") as file:
+            content = file.read()
+        records, rest = history.split(content)
+        equal(rest, b"", "bytes behind the last whole record of part %d" % i)
+        equal([k for k, (kind, _) in enumerate(records) if kind == SETTINGS], [0] if i == 0 else [], "start records of part %d" % i)
+        if path != place.journal:
+            check(3000 <= len(content) < 3000 + 4 + 8192, "part %d has %d bytes", i, len(content))
+    kept = place.journal_bytes()
+    play.run(100)
+    check(place.journal_bytes().startswith(kept), "the second run has altered what the first had journaled")
+    equal(len(place.journal_parts()), len(parts) + 1, "parts with the second run's")
+    with open(place.journal, "rb") as file:
+        equal(history.split(file.read())[0][0][0], SETTINGS, "the kind of the first record of the second run's file")
+
+
+@test
+def without_a_journal(place):
+    """A host that is not asked to journal makes no file but its state."""
+    host = place.host(journal=False, tool=False)
+    equal(place.server(host).start().fence(), [], "something besides")
+    equal(host.end(), 0, "status")
+    left = {name for name in os.listdir(place.folder) if not name.startswith(("log-", "state"))}
+    equal(left, {"settings"}, "files")
+
+
+@test
+def a_journal_with_a_cut_end(place):
+    """What a power cut left of a last record is taken away at the next start, which says so; all parts replay as one."""
+    servers = []
+    for cut in (b"\x19", b"\x19\0", b"\x19\0\x30\0", tightening_record(tightening_fields(0))[:-1]):
+        host = place.host()
+        servers.append(place.server(host).start())
+        host.kill()
+        with open(place.journal, "ab") as file:
+            file.write(cut)
+        host = place.host()
+        host.wait_for_log("%d bytes" % len(cut))
+        servers.append(place.server(host).start())
+        equal(host.end(), 0, "status")
+    place.check_journal(servers)
+
+
+@test
+def a_journal_in_use(place):
+    """A journal that another host writes is left to it: status 1, and the message names the file."""
+    first = place.host()
+    state, tool_path = place.state, place.tool_path
+    place.state, place.tool_path = place.path("state-2"), place.path("tool-2")
+    place.refused(place.start(), 1, place.journal)
+    server = place.server(first).start()
+    equal(server.fence(), [], "something besides")
+    place.finish(first, [server])
+    place.state, place.tool_path = state, tool_path
+    equal(place.host().end(), 0, "status of a host that comes when the first is gone")
+
+
+@test
+def a_file_that_is_no_journal(place):
+    """It is put aside as it is."""
+    other = b"not a journal, but something that somebody may need yet\n"
+    with open(place.journal, "wb") as file:
+        file.write(other)
+    equal(place.host().end(), 0, "status")
+    equal([os.path.basename(path) for path in place.journal_parts()], ["journal.1", "journal"], "files")
+    with open(place.journal_parts()[0], "rb") as file:
+        equal(file.read(), other, "the file put aside")
+    with open(place.journal, "rb") as file:
+        equal([kind for kind, _ in history.split(file.read())[0]], [SETTINGS], "kinds of records in the new journal")

@@ -1,0 +1,283 @@
+"""The tool's records over its Unix socket and over a FIFO."""
+
+import contextlib
+import os
+import random
+import re
+import socket
+import struct
+
+import harness
+from harness import (BYTES, GOOD_SETTINGS, HANG_UP, OPEN, TICK, TIGHTENING, check, equal, history, identifier_record,
+                     openprotocol, record, test, tightening_fields, tightening_record)
+
+BAD = "7 tool record bad"
+
+
+def bad_records():
+    """Records that the library refuses with 7."""
+    good = tightening_record(tightening_fields(1))[4:]
+    bad = [tightening_fields(1, job=100), tightening_fields(1, parameter_set=1000), tightening_fields(1, batch_size=10000),
+           tightening_fields(1, tightening_status=2), tightening_fields(1, torque_status=3), tightening_fields(1, torque=1000000),
+           tightening_fields(1, angle=100000), tightening_fields(1, identifier="\x7f"), tightening_fields(1, batch_status=3),
+           tightening_fields(1, time="2026-01-01 00:00:00"), tightening_fields(1, change_time="2026-01-01:00-00:00")]
+    return [tightening_record(fields) for fields in bad] + [
+        record(TIGHTENING), record(TIGHTENING, good[:-1]), record(TIGHTENING, good + b"\0"), record(TIGHTENING, bytes(8192)),
+        record(2), record(2, b"x" * 24), record(2, b"x" * 26), record(2, b"\n" + b"x" * 24),
+        record(0), record(0, good), record(5, b"?"), record(65535, bytes(8192)),
+    ]
+
+
+def other_calls():
+    """Records that would be other calls in a journal: here they are bad records of a tool, and nothing more."""
+    settings = history.to_records('settings 1 1 1 "OTHER" 99')
+    return [settings, record(OPEN), record(OPEN + 1), record(HANG_UP), record(BYTES, openprotocol.message(3)), record(TICK)]
+
+
+@test
+def refused_tool_records(place):
+    """A bad record is refused with 7 and logged; nothing is sent, no number is used, and the journal replays all the same."""
+    host = place.host()
+    tool = place.tool()
+    server = place.server(host).subscribe()
+    records = bad_records() + other_calls()
+    for i, bad in enumerate(records):
+        equal(tool.give(bad), BAD, "answer to bad record %d" % i)
+        equal(host.log().count(BAD), i + 1, "refusals logged")
+        equal(server.fence(), [], "what is sent for bad record %d" % i)
+    tool.tighten(tightening_fields(1), "0")
+    server.expect_result(tightening_fields(1), 1)
+    server.tell(openprotocol.ACKNOWLEDGE_RESULT)
+    equal(server.fence(), [], "something besides")
+    place.finish(host, [server], [7] * len(records))
+    place.said.append("%d bad records refused" % len(records))
+
+
+@test
+def tool_records_cut_and_joined(place):
+    """A record cut at any place is one record; several in one write are as many, each answered in order."""
+    host = place.host()
+    tool = place.tool()
+    server = place.server(host).start()
+    server.accepted(openprotocol.SUBSCRIBE_RESULTS, byte_12=b"1")
+    number = 0
+    size = len(tightening_record(tightening_fields(0)))
+    for places in [[at] for at in range(1, size)] + [list(range(1, size))]:
+        number += 1
+        data = tightening_record(tightening_fields(number))
+        begin = 0
+        for end in places + [size]:
+            tool.send(data[begin:end])
+            if end < size:
+                equal(server.fence(), [], "what is sent before a record is whole")
+            begin = end
+        equal(tool.answer(), "0 done, taken by 0", "answer to a record cut at %s" % places)
+        server.expect_result(tightening_fields(number), number)
+    several, answers = b"", []
+    for i in range(300):
+        several += tightening_record(tightening_fields(number + 1 + i)) + record(5) + identifier_record("I %d" % i)
+        answers += ["0 done, taken by 0", BAD, "0 done, taken by none"]
+    tool.send(several)
+    equal([tool.answer() for _ in answers], answers, "answers to many records in one write")
+    for i in range(300):
+        server.expect_result(tightening_fields(number + 1 + i), number + 1 + i)
+    equal(server.fence(), [], "something besides")
+
+
+@test
+def tool_records_that_end_the_connection(place):
+    """A record too long, or cut by the end of its connection, is logged and does nothing; other tools and servers go on."""
+    host = place.host()
+    server = place.server(host).subscribe()
+    steady = place.tool()
+    number = 0
+    for length in (8193, 65535):
+        tool = place.tool()
+        check("record too long" in tool.give(struct.pack("<HH", length, TIGHTENING)), "a record of %d bytes was not refused", length)
+        equal(tool.answer(), None, "what follows a record too long")
+        host.wait_for_log("too long")
+    whole = tightening_record(tightening_fields(9))
+    for i, at in enumerate((1, 3, 4, 5, len(whole) - 1)):
+        tool = place.tool()
+        tool.send(whole[:at])
+        tool.link.shutdown(1)
+        while (answer := tool.answer()) is not None:
+            check(not answer.startswith("0"), "answer to a cut record: %r", answer)
+        number += 1
+        steady.tighten(tightening_fields(number), "0")
+        server.expect_result(tightening_fields(number), number)
+        server.tell(openprotocol.ACKNOWLEDGE_RESULT)
+        equal(host.log().count(" cut"), i + 1, "cut records logged")
+    equal(server.fence(), [], "something besides")
+
+
+@test
+def several_tools(place):
+    """Tools at once: each is answered for its own records; a result of each arrives, numbered in the order of arrival."""
+    host = place.host()
+    server = place.server(host).start()
+    server.accepted(openprotocol.SUBSCRIBE_RESULTS)
+    tools = [place.tool() for _ in range(5)]
+    number = 0
+    for _ in range(10):
+        halves = []
+        for i, tool in enumerate(tools):
+            data = tightening_record(tightening_fields(number + 1 + i))
+            tool.send(data[:50])
+            halves.append(data[50:])
+        for tool, half in zip(tools, halves):
+            number += 1
+            equal(tool.give(half), "0 done, taken by 0", "answer")
+            server.expect_result(tightening_fields(number), number)
+            server.tell(openprotocol.ACKNOWLEDGE_RESULT)
+            equal(server.fence(), [], "something besides")
+
+
+@test
+def more_tools_than_have_room(place):
+    """Further tools wait until others leave; none is turned away."""
+    host = place.host()
+    tools = [place.tool() for _ in range(30)]
+    for tool in tools:
+        tool.send(identifier_record("WAITING"))
+    for tool in tools:
+        equal(tool.answer(), "0 done, taken by none", "answer")
+        tool.close()
+    equal(host.log().count("WAITING"), len(tools), "identifiers logged")
+
+
+@test
+def a_tool_that_does_not_read(place):
+    """Its records wait, and other tools and servers go on; when it reads, it finds an answer to each, in order."""
+    host = place.host()
+    server = place.server(host).start()
+    server.accepted(openprotocol.SUBSCRIBE_RESULTS)
+    deaf, steady = place.tool(), place.tool()
+    deaf.link.settimeout(0)
+    data, sent = (identifier_record("DEAF") + record(5)) * 20000, 0
+    number = 0
+    for _ in range(20):
+        with contextlib.suppress(BlockingIOError):
+            while sent < len(data):
+                sent += deaf.link.send(data[sent:sent + 8192])
+        number += 1
+        steady.tighten(tightening_fields(number), "0")
+        server.expect_result(tightening_fields(number), number)
+        server.tell(openprotocol.ACKNOWLEDGE_RESULT)
+    check(sent < len(data), "%d bytes were taken: this shows nothing", sent)
+    deaf.link.settimeout(harness.SECONDS)
+    deaf.link.shutdown(socket.SHUT_WR)
+    answers = []
+    while (answer := deaf.answer()) is not None:
+        answers.append(answer)
+    whole, rest = divmod(sent, len(identifier_record("DEAF") + record(5)))
+    wanted = ["0 done, taken by none", BAD] * whole
+    wanted += ["0 done, taken by none"] if rest >= len(identifier_record("DEAF")) else []
+    equal(answers[:len(wanted)], wanted, "answers")
+    check(all("cut" in answer for answer in answers[len(wanted):]), "further answers: %s", answers[len(wanted):])
+
+
+@test
+def a_tool_that_leaves_at_once(place):
+    """What it has sent is done, whether it waits for the answers or not."""
+    host = place.host()
+    server = place.server(host).start()
+    server.accepted(openprotocol.SUBSCRIBE_RESULTS, byte_12=b"1")
+    number = 0
+    for count in (1, 2, 30):
+        tool = place.tool()
+        tool.send(b"".join(tightening_record(tightening_fields(number + 1 + i)) for i in range(count)))
+        tool.close()
+        for _ in range(count):
+            number += 1
+            server.expect_result(tightening_fields(number), number)
+    equal(server.fence(), [], "something besides")
+
+
+@test
+def garbage_from_tools(place):
+    """Whatever bytes come from tools, they are answered by lines, and a good record is taken as ever."""
+    host = place.host()
+    server = place.server(host).subscribe()
+    source = random.Random(5)
+    good = [tightening_record(tightening_fields(0)), identifier_record("GARBAGE")]
+    for _ in range(150):
+        tool = place.tool()
+        data = bytearray(b"".join(source.choice(good) for _ in range(source.randrange(4))) + source.randbytes(source.randrange(300)))
+        for _ in range(source.randrange(1, 8) if data else 0):
+            data[source.randrange(len(data))] = source.choice([0, 1, 2, 255, source.randrange(256)])
+        with contextlib.suppress(ConnectionError):
+            tool.send(data)
+            tool.link.shutdown(socket.SHUT_WR)
+        while (answer := tool.answer()) is not None:
+            check(re.match(r"0 done, taken by|7 tool record bad$|record ", answer), "answer to garbage: %r", answer)
+        tool.close()
+    equal(place.tool().give(identifier_record("GOOD")), "0 done, taken by 0", "answer to a good record")
+    runs = server.fence()
+    while openprotocol.read(runs[-1]).fields.get("identifier") != "GOOD":
+        server.tell(openprotocol.ACKNOWLEDGE_IDENTIFIER)
+        runs += server.fence()
+    place.finish(host, [server], place.replayed()[1])
+
+
+@test
+def what_stands_where_the_tools_socket_goes(place):
+    """A socket file left by a host that was killed is replaced; a file, a folder, or the socket of a living host is not."""
+    first = place.host()
+    place.state = place.path("state-2")
+    other = place.start(journal=False)
+    place.refused(other, 1, place.tool_path)
+    server = place.server(first).subscribe()
+    place.tool().tighten(tightening_fields(1), "0")
+    server.expect_result(tightening_fields(1), 1)
+    first.kill()
+    check(os.path.exists(place.tool_path), "no socket file is left by a killed host: this shows nothing")
+    host = place.host()
+    server = place.server(host).subscribe()
+    place.tool().tighten(tightening_fields(1), "0")
+    server.expect_result(tightening_fields(1), 1)
+    equal(host.end(), 0, "status")
+    with open(place.tool_path, "w", encoding="ascii") as file:
+        file.write(GOOD_SETTINGS)
+    place.refused(place.start(), 1, place.tool_path)
+    with open(place.tool_path, encoding="ascii") as file:
+        equal(file.read(), GOOD_SETTINGS, "a file that stood there")
+    os.remove(place.tool_path)
+    os.mkdir(place.tool_path)
+    place.refused(place.start(), 1, place.tool_path)
+    check(os.path.isdir(place.tool_path), "a folder that stood there is gone")
+
+
+@test
+def tool_records_over_a_fifo(place):
+    """Records over a FIFO, from one writer after another, cut and joined; refusals are logged with number and meaning."""
+    os.mkfifo(place.tool_path)
+    host = place.host()
+    server = place.server(host).start()
+    server.accepted(openprotocol.SUBSCRIBE_RESULTS, byte_12=b"1")
+    number = 0
+    for writer in range(5):
+        with open(place.tool_path, "wb", buffering=0) as fifo:
+            for places in ([30], [1, 2, 3, 4, 5], [109], []):
+                data = tightening_record(tightening_fields(number + 1)) + tightening_record(tightening_fields(number + 2))
+                begin = 0
+                for end in places + [len(data)]:
+                    fifo.write(data[begin:end])
+                    equal(server.fence() if end < 110 else [], [], "what is sent before a record is whole")
+                    begin = end
+                for _ in range(2):
+                    number += 1
+                    server.expect_result(tightening_fields(number), number)
+            fifo.write(record(5))
+        host.wait_for_log("(?s)" + ".*".join([BAD] * (writer + 1)))
+    for cut, words in ((tightening_record(tightening_fields(0))[:60], " cut"), (struct.pack("<HH", 8193, 1) + bytes(50), "too long")):
+        with open(place.tool_path, "wb", buffering=0) as fifo:
+            fifo.write(cut)
+        host.wait_for_log(words)
+        with open(place.tool_path, "wb", buffering=0) as fifo:
+            number += 1
+            fifo.write(tightening_record(tightening_fields(number)))
+            server.expect_result(tightening_fields(number), number)
+    equal(server.fence(), [], "something besides")
+    place.finish(host, [server], [7] * 5)
+    check(os.path.exists(place.tool_path), "the FIFO is gone, which was not the host's")

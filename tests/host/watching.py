@@ -1,0 +1,134 @@
+"""tools/watch, against the host."""
+
+import os
+import signal
+import socket
+import subprocess
+
+import harness
+import openprotocol
+from harness import ROOT, check, equal, test, tightening_fields, wait
+
+
+class Watch:
+    def __init__(self, place, *arguments):
+        self.path = place.path("watched-%d" % len(os.listdir(place.folder)))
+        with open(self.path, "wb") as out:
+            self.process = subprocess.Popen([os.path.join(ROOT, "tools", "watch"), *arguments], stdout=out, stderr=out)
+        place.links.callback(self.end)
+
+    def end(self):
+        if self.process.poll() is None:
+            self.process.kill()
+            self.process.wait()
+
+    def lines(self):
+        with open(self.path, encoding="ascii") as file:
+            return file.read().splitlines()
+
+    def wait_for(self, words, times=1):
+        wait(lambda: sum(words in line for line in self.lines()) >= times, "watch says %r: %s" % (words, self.lines()))
+
+
+@test
+def watch_shows_results(place):
+    """tools/watch --count 3 shows an identifier and three results, keeps the link alive between them, and ends in order."""
+    host = place.host()
+    tool = place.tool()
+    watch = Watch(place, "--connect", "127.0.0.1:%d" % host.port, "--count", "3")
+    watch.wait_for("connected to 127.0.0.1:%d: controller LINE4, cell 12, channel 3" % host.port)
+    host.wait_for_log("< 0060")
+    tool.scan("CAR 1", "0")
+    first = tightening_fields(1, torque=2431, torque_min=2200, torque_max=2600, angle=87, angle_min=60, angle_max=120,
+                              time="2026-01-31:12:34:56", tightening_status=1)
+    tool.tighten(first, "0")
+    tool.tighten({**first, "identifier": "", "tightening_status": 0, "torque": 2750, "torque_status": 2, "angle_status": 1}, "0")
+    host.wait_for_log("< 9999")  # it keeps the link alive while nothing comes
+    tool.tighten(tightening_fields(3), "0")
+    equal(watch.process.wait(harness.SECONDS), 0, "status of watch")
+    lines = [" ".join(line.split()) for line in watch.lines()]
+    check("identifier CAR 1" in lines, "watch does not show the identifier: %s", lines)
+    results = [line for line in lines if line.startswith("result")]
+    equal(results[:2], ["result 1 BODY-0000001 24.31 Nm (22.00 to 26.00) 87 deg (60 to 120) 2026-01-31 12:34:56 OK",
+                        "result 2 CAR 1 27.50 Nm (22.00 to 26.00) 87 deg (60 to 120) 2026-01-31 12:34:56 NOT OK (torque high)"],
+          "what watch shows")
+    equal(len(results), 3, "results that watch shows")
+    place.wait_for_hang_up(0)
+    messages = [line.split(" < ")[1][:4] for line in host.log().splitlines() if " < " in line]
+    equal(messages[-3:], ["0063", "0054", "0003"], "messages with which watch ends")
+
+
+@test
+def watch_waits_and_comes_back(place):
+    """watch waits for a controller, comes back after a lost link, on the same port too, and Ctrl-C ends it in order."""
+    host = place.host()
+    address = "127.0.0.1:%d" % host.port
+    host.kill()
+    watch = Watch(place, "--connect", address)
+    watch.wait_for("no controller at " + address)
+    for run in (1, 2):
+        host = place.host("--listen", address)
+        watch.wait_for("connected to " + address, run)
+        host.wait_for_log("< 0060")
+        place.tool().tighten(tightening_fields(run), "0")
+        watch.wait_for("result %d " % run)
+        if run == 1:
+            host.kill()
+            watch.wait_for("link lost")
+    watch.process.send_signal(signal.SIGINT)
+    equal(watch.process.wait(harness.SECONDS), 0, "status of watch")
+    equal(watch.lines()[-1], "ended: 2 results", "watch's last line")
+    place.wait_for_hang_up(0)
+    messages = [line.split(" < ")[1][:4] for line in host.log().splitlines() if " < " in line]
+    equal(messages[-3:], ["0063", "0054", "0003"], "messages with which watch ends")
+
+
+def frame(mid, layout, byte_12=b" ", **values):
+    """A frame of a controller, by its layout; values that are not named are 0 or empty."""
+    data = b""
+    for i, (name, width, sort) in enumerate(layout, 1):
+        value = values.get(name, 0 if sort is int else "")
+        data += b"%02d" % i + (b"%0*d" % (width, value) if sort is int else value.encode("ascii").ljust(width))
+    return openprotocol.message(mid, byte_12=byte_12, data=data)
+
+
+@test
+def watch_with_another_controller(place):
+    """Frames that come byte by byte are shown; a copy of a result is acknowledged and not shown again; after a refusal, or something
+    that is no frame, watch says so and connects again."""
+    started = frame(openprotocol.STARTED, openprotocol.CONTROLLER, name="OTHER")
+    results = [frame(openprotocol.RESULT, openprotocol.RESULT_FIELDS, b"0", number=number, tightening_status=1) for number in (7, 7, 8)]
+    with socket.create_server(("127.0.0.1", 0)) as door:
+        door.settimeout(harness.SECONDS)
+        watch = Watch(place, "--connect", "127.0.0.1:%d" % door.getsockname()[1])
+
+        def accept():
+            link = harness.Link(door.accept()[0])
+            link.link.setsockopt(socket.IPPROTO_TCP, socket.TCP_NODELAY, 1)
+            place.links.callback(link.close)
+            expect(link, openprotocol.START)
+            return link
+
+        def expect(link, *mids):
+            wanted = b"".join(openprotocol.message(mid) for mid in mids)
+            got = b""
+            while len(got) < len(wanted) and (more := link.receive()):
+                got += more
+            equal(got, wanted, "what watch sends")
+
+        link = accept()
+        for byte in started:
+            link.send(bytes([byte]))
+        expect(link, openprotocol.SUBSCRIBE_IDENTIFIERS, openprotocol.SUBSCRIBE_RESULTS)
+        for result in results:
+            link.send(result)
+            expect(link, openprotocol.ACKNOWLEDGE_RESULT)
+        watch.wait_for("result 8 ")
+        equal(sum("result 7 " in line for line in watch.lines()), 1, "how often result 7 is shown")
+        link.send(b"no frame\0")
+        watch.wait_for("link lost: not a frame of the controller")
+        link = accept()
+        link.send(openprotocol.message(openprotocol.REFUSED, data=b"000197"))
+        watch.wait_for("link lost: 0001 refused with error 97, revision not supported")
+        accept().close()
+        watch.wait_for("link lost: closed by the controller")
