@@ -56,14 +56,14 @@ host: tools $(ARCHIVE)
 # The archive that the host links, and the program that replays its journal: proved anew when a source has changed.
 $(ARCHIVE): crates.txt $(shell find crates -type f -not -path '*/must-fail/*') | tools
 	@echo "Proving the library and its test program: this takes some minutes where nothing is proved yet."
-	@rt check serifladder replay | grep '^rt:'
+	@rt check serifladder replay | grep --line-buffered '^rt:'
 	@said=$$(rt staticlib serifladder 2>&1) || { echo "$$said" >&2; exit 1; }; echo "$$said" | tail -n 1
 
 install: host
 	@$(MAKE) --silent --no-print-directory -C host install PREFIX=$(PREFIX)
 
 proved: tools
-	@rt check | grep '^rt:'
+	@rt check | grep --line-buffered '^rt:'
 	@echo "each of these public functions is proved to answer what its ensures says:"
 	@grep -oE '^ *pub (extern "C" )?fn [a-z0-9_]+' crates/*/src/*.rt | sed -E 's#crates/([a-z]+)/.*fn (.*)#  \1::\2#'
 

@@ -40,13 +40,14 @@ def run(command, data):
 
 
 class Programs:
-    """Two programs that should print the same."""
+    """Two programs that should print the same, and end well."""
 
     def __init__(self, first, second):
         self.first, self.second = first, second
 
     def differ(self, data):
-        return run([self.first], data) != run([self.second], data)
+        first, second = run([self.first], data), run([self.second], data)
+        return first != second or first[1] != 0
 
     def show(self, data):
         out = []
