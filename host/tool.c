@@ -137,15 +137,13 @@ static void receive(struct source *source)
 }
 
 /* Sends the answers. A tool that has left takes none, but the records that it sent are still read. Behind the last answer the connection
-   is closed where nothing comes any more, and shut on our side where nothing is answered any more. */
+   is closed where nothing comes any more, or nothing that can be told apart into records: it must not keep its place from other tools. */
 static void send_answers(struct source *source)
 {
     if (!waiting_send(&source->answers, source->descriptor))
         source->answers.length = 0;
-    if (source->answers.length == 0 && source->ended)
+    if (source->answers.length == 0 && (source->ended || source->skipping))
         close_source(source);
-    else if (source->answers.length == 0 && source->skipping)
-        shutdown(source->descriptor, SHUT_WR);
 }
 
 /* ---- the door */

@@ -58,6 +58,8 @@ FAULTS = [
     ("no lock on the state", "a-state-in-use", "state.c", "if (!lock_file(lock))", "if (lock < 0)"),
     ("what a slow reader is owed is forgotten", "a-peer-that-stops-reading", "common.c",
      "    waiting->length -= sent;\n    memmove(waiting->bytes, waiting->bytes + sent, waiting->length);", "    waiting->length = 0;"),
+    ("a tool that sent too much keeps its place", "tool-records-that-end-the-connection", "tool.c",
+     "(source->ended || source->skipping))", "source->ended)"),
     ("a loop that never waits", "an-idle-host-rests", "links.c", "(links[s].waiting.length > 0 ? POLLOUT : 0)", "POLLOUT"),
     ("check sum not tested", "a-damaged-state", "state.c", "if (length != whole || memcmp(text, expected, whole) != 0)",
      "if (length < whole)"),

@@ -20,7 +20,7 @@ import time
 
 HERE = os.path.dirname(os.path.abspath(__file__))
 ROOT = os.path.join(HERE, "..", "..")
-sys.path[:0] = [os.path.join(ROOT, "tools"), os.path.join(HERE, "..", "vectors")]
+sys.path[:0] = [os.path.join(ROOT, "tools"), os.path.join(HERE, "..", "vectors"), os.path.join(HERE, "..", "histories")]
 
 import history  # noqa: E402
 import openprotocol  # noqa: E402
@@ -31,6 +31,7 @@ SECONDS = 30
 SESSIONS = 4
 GREATEST_NUMBER = 4294967295
 NO_TICKS = 1000000  # milliseconds: no tick comes while a test runs
+FAST_TICK = 0.04  # seconds; longer where the host is slow, as under an emulator (see run.py)
 GOOD_SETTINGS = "cell = 12\nchannel = 3\ngranted = yes\nname = LINE4\n"
 CONTROLLER = {"cell": 12, "channel": 3, "name": "LINE4"}
 
@@ -353,7 +354,7 @@ class Place:
         return self.hosts[-1]
 
     def start(self, *more, tick=NO_TICKS, tool=True, journal=True, **how):
-        """A host with the usual files, not waited for; the state is made where there is none."""
+        """A host with the usual files, not waited for; the state is made where there is none. `tick` is in milliseconds."""
         arguments = ["--settings", self.settings, "--state", self.state]
         arguments += [] if "--listen" in more else ["--listen", "127.0.0.1:0"]
         arguments += [] if os.path.exists(self.state) or "--new-state" in more else ["--new-state", 0]

@@ -7,7 +7,9 @@ import select
 import socket
 import time
 
-from harness import SETTINGS, check, equal, history, openprotocol, record, identifier_record, test, tightening_fields, tightening_record
+import generate
+from harness import (BYTES, HANG_UP, OPEN, SCANNED, SETTINGS, TICK, TIGHTENING, check, equal, history, identifier_record, in_memory,
+                     openprotocol, record, test, tightening_fields, tightening_record)
 
 TICK_SECONDS = 0.03
 
@@ -112,6 +114,75 @@ def the_journal_replays(place):
     place.said.append("%d openings, %d timed out, %d frames" % (len(openings), timed_out, sum(len(o.frames()) for o in openings)))
     check(timed_out >= 3, "too few timed out: this shows too little")
     check(len(openings) - timed_out > 4, "too few hang-ups: this shows too little")
+
+
+class Generated:
+    """A generated history, made to happen: its sessions are servers, its tool records come from a tool. Its starts and ticks are left
+    out: the host ticks by itself."""
+
+    def __init__(self, place, seed, records):
+        self.place = place
+        self.host = place.host(tick=50)
+        self.tool = place.tool()
+        self.now = {}  # by the history's session; which session the host gives is its own affair
+        self.servers = []
+        self.refusals = []
+        for kind, payload in history.split(generate.generate(seed, records))[0]:
+            self.happen(kind, payload.replace(b"\n", b" "))  # a line is a frame in what replay prints
+        self.tool.close()
+        place.finish(self.host, self.servers, self.refusals)
+        for server in self.servers:
+            server.close()
+
+    def happen(self, kind, payload):
+        session = kind % 16
+        server = self.now.get(session)
+        if kind in (TIGHTENING, SCANNED):
+            answer = self.tool.give(record(kind, payload))
+            if not answer.startswith("0 "):
+                self.refusals.append(int(answer[:1]))
+        elif OPEN <= kind < HANG_UP:
+            if server is None and len(self.now) < 4:
+                self.open(session)
+        elif HANG_UP <= kind < BYTES:
+            if server is not None:
+                self.end(session)
+        elif BYTES <= kind < TICK and server is not None:
+            with contextlib.suppress(ConnectionError):
+                server.send(payload)
+            while server.open and select.select([server.link], [], [], 0)[0]:
+                server.take()
+            if not server.open:
+                self.now.pop(session)
+
+    def open(self, session):
+        """It is let in when the journal says so; there is room, for each that has left was waited for."""
+        openings = len(self.servers) + 1
+        server = self.now[session] = self.place.server(self.host)
+        self.servers.append(server)
+        self.place.wait_for_journal(lambda records: sum(OPEN <= kind < HANG_UP for kind, _ in records) == openings,
+                                    "opening %d" % openings)
+
+    def end(self, session):
+        server = self.now.pop(session)
+        with contextlib.suppress(OSError):
+            server.link.shutdown(socket.SHUT_WR)
+        server.until_closed()
+
+
+@test
+@in_memory
+def generated_histories(place):
+    """Histories that were made to reach deep states, over sockets: replay prints of their journals what the servers saw."""
+    openings = frames = 0
+    histories = max(1, place.count // 100)
+    for seed in range(1, histories + 1):
+        generated = Generated(place, seed, 500)
+        openings += len(generated.servers)
+        frames += sum(len(server.seen) for server in generated.servers)
+        for path in place.journal_parts():
+            os.remove(path)
+    place.said.append("%d histories, %d openings, %d frames" % (histories, openings, frames))
 
 
 @test

@@ -98,7 +98,7 @@ def ticks_since(records, kind):
 @in_memory
 def silence_until_the_time_out(place):
     """A silent link is closed by the host after fifteen ticks and not before, started or not; one that speaks stays."""
-    tick = 0.04
+    tick = harness.FAST_TICK
     host = place.host(tick=int(tick * 1000))
     speaking, silent, unstarted = (place.server(host) for _ in range(3))
     speaking.start()
@@ -153,7 +153,7 @@ def ticks_are_made_up_for(place):
 @in_memory
 def a_link_cut_with_a_notice_open(place):
     """After a reset the re-opened session gets nothing old; the next tightening arrives under its own number."""
-    tick = 0.04
+    tick = harness.FAST_TICK
     host = place.host(tick=int(tick * 1000))
     tool = place.tool()
     cut = place.server(host).subscribe()

@@ -3,6 +3,7 @@
 import re
 import time
 
+import harness
 from harness import check, equal, in_memory, openprotocol, test, tightening_fields
 
 
@@ -77,7 +78,7 @@ def an_identifier_over_the_net(place):
 @in_memory
 def a_notice_that_is_not_acknowledged(place):
     """It is repeated byte for byte, six copies in all, while keep-alives go on; then the next is sent."""
-    tick = 0.04
+    tick = harness.FAST_TICK
     host = place.host(tick=int(tick * 1000))
     tool = place.tool()
     server = place.server(host).start()

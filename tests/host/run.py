@@ -3,11 +3,13 @@
 
     run.py --host PROGRAM --replay PROGRAM [--only NAME,NAME,..] [--count N] [--seconds N]
 
---count says how many results the load test sends, --seconds how long something is waited for that does not come.
+--count says how many results the load sends and, in hundreds, how many histories are made to happen; --seconds how long something
+is waited for that does not come.
 Prints a line for each test. Exit status 0: all right."""
 
 import argparse
 import signal
+import subprocess
 import sys
 import time
 import traceback
@@ -28,6 +30,13 @@ WATCHDOG = 600  # seconds: no test takes so long, however slow the machine
 
 def too_long(*_):
     raise harness.Wrong("no end within %d s" % WATCHDOG)
+
+
+def seconds_to_start(host):
+    """How long it takes to start the host and have it say something."""
+    began = time.monotonic()
+    subprocess.run([host, "--help"], stdout=subprocess.DEVNULL, check=True)
+    return time.monotonic() - began
 
 
 def run(function, options):
@@ -56,6 +65,7 @@ def main():
     parser.add_argument("--seconds", type=int, default=harness.SECONDS)
     options = parser.parse_args()
     harness.SECONDS = options.seconds
+    harness.FAST_TICK = max(harness.FAST_TICK, 2 * seconds_to_start(options.host))
     signal.signal(signal.SIGALRM, too_long)
     for number in (signal.SIGTERM, signal.SIGHUP):
         signal.signal(number, lambda *_: sys.exit(1))  # so that what was started is ended

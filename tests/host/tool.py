@@ -96,6 +96,10 @@ def tool_records_that_end_the_connection(place):
         check("record too long" in tool.give(struct.pack("<HH", length, TIGHTENING)), "a record of %d bytes was not refused", length)
         equal(tool.answer(), None, "what follows a record too long")
         host.wait_for_log("too long")
+    for _ in range(20):  # and they stay, which is to keep no other tool away
+        place.tool().send(struct.pack("<HH", 8193, TIGHTENING) + bytes(100))
+    equal(place.tool().give(identifier_record("LAST")), "0 done, taken by 0", "answer to a tool behind many that sent too much")
+    equal(server.expect(openprotocol.IDENTIFIER)["identifier"], "LAST", "identifier")
     whole = tightening_record(tightening_fields(9))
     for i, at in enumerate((1, 3, 4, 5, len(whole) - 1)):
         tool = place.tool()
