@@ -101,7 +101,8 @@ uint32_t last_number(void);
 const char *meaning(uint64_t number);
 
 /* ---- links.c: the TCP connections of the line servers; link s is session s */
-void links_listen(const struct sockaddr_in *address);
+void links_bind(const struct sockaddr_in *address); /* takes the address; fails where it is taken */
+void links_listen(void);                            /* from now on servers can connect */
 void links_poll(struct pollfd set[LINKS_POLLED]);
 void links_serve(const struct pollfd set[LINKS_POLLED]);
 void links_send(unsigned session, const uint8_t *frame, size_t length);

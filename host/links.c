@@ -34,22 +34,34 @@ static void write_address(char text[INET_ADDRSTRLEN + 8], const struct sockaddr_
     snprintf(text, INET_ADDRSTRLEN + 8, "%s:%u", host, ntohs(address->sin_port));
 }
 
-void links_listen(const struct sockaddr_in *address)
+static _Noreturn void cannot_listen(const struct sockaddr_in *address)
 {
-    struct sockaddr_in real = *address;
-    socklen_t size = sizeof real;
+    const char *why = strerror(errno);
     char text[INET_ADDRSTRLEN + 8];
+    write_address(text, address);
+    fail("cannot listen on %s: %s", text, why);
+}
+
+void links_bind(const struct sockaddr_in *address)
+{
     int on = 1;
     for (unsigned s = 0; s < SERIFLADDER_SESSIONS; s++)
         links[s].socket = -1;
-    write_address(text, address);
     door = socket(AF_INET, SOCK_STREAM, 0);
     if (door < 0 || setsockopt(door, SOL_SOCKET, SO_REUSEADDR, &on, sizeof on) != 0
-        || bind(door, (const struct sockaddr *)address, sizeof *address) != 0 || listen(door, SOMAXCONN) != 0
-        || getsockname(door, (struct sockaddr *)&real, &size) != 0)
-        fail("cannot listen on %s: %s", text, strerror(errno));
+        || bind(door, (const struct sockaddr *)address, sizeof *address) != 0)
+        cannot_listen(address);
     unblock(door);
-    write_address(text, &real);
+}
+
+void links_listen(void)
+{
+    struct sockaddr_in address = { .sin_family = AF_INET };
+    socklen_t size = sizeof address;
+    char text[INET_ADDRSTRLEN + 8];
+    if (getsockname(door, (struct sockaddr *)&address, &size) != 0 || listen(door, SOMAXCONN) != 0)
+        cannot_listen(&address);
+    write_address(text, &address);
     say("listening on %s", text);
 }
 

@@ -29,7 +29,7 @@ static const char HELP[] =
     "  --demo                 a simulated tool\n"
     "  --demo-seconds N       so many seconds between its bolts; 3 if not given\n"
     "  --journal FILE         every call as house records, which the program replay reads; an existing FILE is first\n"
-    "                         renamed to FILE.1, FILE.2 and so on\n"
+    "                         renamed to FILE.1, FILE.2 and so on; if its last record is cut, that goes to FILE.1.cut\n"
     "  --journal-size BYTES   a journal that is longer is renamed in the same way, and a new one begun; 67108864 if not given;\n"
     "                         what was renamed is yours to remove\n"
     "  --tick-milliseconds N  for tests: a tick has so many milliseconds; 1000 if not given\n"
@@ -227,13 +227,14 @@ int main(int count, char **arguments)
     keep_standard_streams();
     catch_signals();
     settings_read(given[SETTINGS], settings);
+    links_bind(&address); /* before a file is made or renamed: a second host on the same port leaves all as it is */
     uint32_t last = state_open(given[STATE], given[NEW_STATE] == NULL ? NULL : &fresh);
     if (given[JOURNAL] != NULL)
         journal_open(given[JOURNAL], journal_size);
     call_start(settings, last);
     tool_open(given[TOOL]);
     say("the last tightening number is %u", last);
-    links_listen(&address);
+    links_listen();
     tick.next = now() + tick.period;
     demo.next = now();
     run(tick, demo);

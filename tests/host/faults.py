@@ -26,6 +26,9 @@ RECORD_SETTLED = """\
     carry_out(answer.written);
 """
 
+STARTED = ("    links_bind(&address); /* before a file is made or renamed: a second host on the same port leaves all as it is */\n",
+           "    uint32_t last = state_open(given[STATE], given[NEW_STATE] == NULL ? NULL : &fresh);\n")
+
 # The fault, the test that finds it, the file, what stands there, and what is put in its place.
 FAULTS = [
     ("state not written", "killed-between-results", "calls.c", "state_keep(++last);", "++last;"),
@@ -63,6 +66,9 @@ FAULTS = [
     ("a loop that never waits", "an-idle-host-rests", "links.c", "(links[s].waiting.length > 0 ? POLLOUT : 0)", "POLLOUT"),
     ("check sum not tested", "a-damaged-state", "state.c", "if (length != whole || memcmp(text, expected, whole) != 0)",
      "if (length < whole)"),
+    ("the end of a cut journal lost", "a-journal-with-a-cut-end", "journal.c", "write_all(kept, bytes, length)",
+     "write_all(kept, bytes, 0)"),
+    ("a state made though the port is taken", "an-address-in-use", "main.c", STARTED[0] + STARTED[1], STARTED[1] + STARTED[0]),
 ]
 if tracing.possible():
     FAULTS += [

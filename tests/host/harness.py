@@ -63,6 +63,11 @@ def equal(got, wanted, what):
     check(got == wanted, "%s: %r, not %r", what, got, wanted)
 
 
+def content(path):
+    with open(path, "rb") as file:
+        return file.read()
+
+
 def wait(condition, what):
     """Waits until the condition holds, and answers what it answered."""
     until = time.monotonic() + SECONDS
@@ -401,11 +406,7 @@ class Place:
         return ["%s.%d" % (self.journal, number) for number in sorted(numbers)] + [self.journal]
 
     def journal_bytes(self):
-        parts = []
-        for path in self.journal_parts():
-            with open(path, "rb") as file:
-                parts.append(file.read())
-        return b"".join(parts)
+        return b"".join(map(content, self.journal_parts()))
 
     def journaled(self):
         """The journal's whole records, as (kind, payload)."""

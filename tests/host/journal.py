@@ -8,7 +8,7 @@ import socket
 import time
 
 import generate
-from harness import (BYTES, HANG_UP, OPEN, SCANNED, SETTINGS, TICK, TIGHTENING, check, equal, history, identifier_record, in_memory,
+from harness import (BYTES, HANG_UP, OPEN, SCANNED, SETTINGS, TICK, TIGHTENING, check, content, equal, history, identifier_record, in_memory,
                      openprotocol, record, test, tightening_fields, tightening_record)
 
 TICK_SECONDS = 0.03
@@ -193,19 +193,17 @@ def the_journal_in_parts(place):
     parts = place.journal_parts()
     check(len(parts) > 4, "only %d parts: this shows too little", len(parts))
     for i, path in enumerate(parts):
-        with open(path, "rb") as file:
-            content = file.read()
-        records, rest = history.split(content)
+        written = content(path)
+        records, rest = history.split(written)
         equal(rest, b"", "bytes behind the last whole record of part %d" % i)
         equal([k for k, (kind, _) in enumerate(records) if kind == SETTINGS], [0] if i == 0 else [], "start records of part %d" % i)
         if path != place.journal:
-            check(3000 <= len(content) < 3000 + 4 + 8192, "part %d has %d bytes", i, len(content))
+            check(3000 <= len(written) < 3000 + 4 + 8192, "part %d has %d bytes", i, len(written))
     kept = place.journal_bytes()
     play.run(100)
     check(place.journal_bytes().startswith(kept), "the second run has altered what the first had journaled")
     equal(len(place.journal_parts()), len(parts) + 1, "parts with the second run's")
-    with open(place.journal, "rb") as file:
-        equal(history.split(file.read())[0][0][0], SETTINGS, "the kind of the first record of the second run's file")
+    equal(history.split(content(place.journal))[0][0][0], SETTINGS, "the kind of the first record of the second run's file")
 
 
 @test
@@ -220,7 +218,7 @@ def without_a_journal(place):
 
 @test
 def a_journal_with_a_cut_end(place):
-    """What a power cut left of a last record is taken away at the next start, which says so; all parts replay as one."""
+    """What a power cut left of a last record is put into a file of its own at the next start, which says so; all parts replay as one."""
     servers = []
     for cut in (b"\x19", b"\x19\0", b"\x19\0\x30\0", tightening_record(tightening_fields(0))[:-1]):
         host = place.host()
@@ -232,6 +230,7 @@ def a_journal_with_a_cut_end(place):
         host.wait_for_log("%d bytes" % len(cut))
         servers.append(place.server(host).start())
         equal(host.end(), 0, "status")
+        equal(content(place.journal_parts()[-2] + ".cut"), cut, "what was cut off")
     place.check_journal(servers)
 
 
@@ -251,13 +250,18 @@ def a_journal_in_use(place):
 
 @test
 def a_file_that_is_no_journal(place):
-    """It is put aside as it is."""
-    other = b"not a journal, but something that somebody may need yet\n"
-    with open(place.journal, "wb") as file:
-        file.write(other)
-    equal(place.host().end(), 0, "status")
-    equal([os.path.basename(path) for path in place.journal_parts()], ["journal.1", "journal"], "files")
-    with open(place.journal_parts()[0], "rb") as file:
-        equal(file.read(), other, "the file put aside")
-    with open(place.journal, "rb") as file:
-        equal([kind for kind, _ in history.split(file.read())[0]], [SETTINGS], "kinds of records in the new journal")
+    """It is put aside and nothing of it is lost, even where it reads like a journal with a cut end."""
+    for other, cut in ((b"not a journal, but something that somebody may need yet\n", False),
+                       (b"#\n# a list that somebody may need yet\n", True)):
+        with open(place.journal, "wb") as file:
+            file.write(other)
+        equal(place.host().end(), 0, "status")
+        aside = place.journal_parts()[-2]
+        equal(content(aside), b"" if cut else other, "the file put aside")
+        equal(os.path.exists(aside + ".cut"), cut, "was something cut off it?")
+        if cut:
+            equal(content(aside + ".cut"), other, "what was cut off")
+            os.remove(aside)
+        equal([kind for kind, _ in history.split(content(place.journal))[0]], [SETTINGS], "kinds of records in the new journal")
+    equal(place.host().end(), 0, "status of a further run")
+    equal([os.path.basename(path) for path in place.journal_parts()], ["journal.1", "journal.3", "journal"], "files")

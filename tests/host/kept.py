@@ -11,7 +11,7 @@ import subprocess
 import zlib
 
 import tracing
-from harness import (BYTES, GREATEST_NUMBER, SETTINGS, TIGHTENING, Wrong, check, equal, history, openprotocol, result_fields, test,
+from harness import (BYTES, GREATEST_NUMBER, SETTINGS, TIGHTENING, Wrong, check, content, equal, history, openprotocol, result_fields, test,
                      tightening_fields, tightening_record, wait)
 
 
@@ -39,6 +39,13 @@ def check_numbers(place, servers, begins):
         check(last + journaled <= runs[i + 1][0] <= last + journaled + 1, "run %d began at %d and gave %d numbers, the next began at %d",
               i, last, journaled, runs[i + 1][0])
     place.check_journal(servers)
+
+
+def gives_next(place, number):
+    """A further run of the host gives a tightening that number."""
+    server = place.server(place.host()).subscribe()
+    place.tool().tighten(tightening_fields(7), "0")
+    server.expect_result(tightening_fields(7), number)
 
 
 def begin_run(place):
@@ -155,10 +162,7 @@ def no_room_for_the_state(place):
     tool.send(tightening_record(tightening_fields(2)))
     ends_without_a_word(place, host, server, tool, place.state)
     (os.remove if disk else os.rmdir)(in_the_way)
-    host = place.host()
-    server = place.server(host).subscribe()
-    place.tool().tighten(tightening_fields(3), "0")
-    server.expect_result(tightening_fields(3), 2)
+    gives_next(place, 2)
 
 
 @test
@@ -219,10 +223,7 @@ def a_tightening_that_is_not_journaled(place):
     ends_without_a_word(place, host, server, tool, place.journal)
     if disk:
         os.remove(filler)
-    host = place.host()
-    server = place.server(host).subscribe()
-    place.tool().tighten(tightening_fields(2), "0")
-    server.expect_result(tightening_fields(2), 2)
+    gives_next(place, 2)
 
 
 @test
@@ -258,23 +259,17 @@ def a_missing_state(place):
     check(not os.path.exists(place.state), "a state was made unasked")
     host = place.run(*usual, "--new-state", 41).ready()
     equal(host.end(), 0, "status")
-    with open(place.state, "rb") as file:
-        kept = file.read()
+    kept = content(place.state)
     place.refused(place.run(*usual, "--new-state", 7), 1, place.state)
-    with open(place.state, "rb") as file:
-        equal(file.read(), kept, "the state after a refused --new-state")
-    host = place.host()
-    server = place.server(host).subscribe()
-    place.tool().tighten(tightening_fields(1), "0")
-    server.expect_result(tightening_fields(1), 42)
+    equal(content(place.state), kept, "the state after a refused --new-state")
+    gives_next(place, 42)
 
 
 @test
 def a_damaged_state(place):
     """Whichever byte is altered, wherever the file is cut, whatever is behind it: status 1, and the message names the file."""
     equal(place.host("--new-state", 1234567890, tool=False, journal=False).end(), 0, "status")
-    with open(place.state, "rb") as file:
-        kept = file.read()
+    kept = content(place.state)
     check(all(byte in b"\n" or 0x20 <= byte < 0x7F for byte in kept), "the state is not readable text: %r", kept)
     check(b"1234567890" in kept, "the number can't be read in the state: %r", kept)
     damaged = [kept[:i] + bytes([kept[i] ^ bit]) + kept[i + 1:] for i in range(len(kept)) for bit in (1, 16)]
@@ -283,24 +278,20 @@ def a_damaged_state(place):
     too_great = kept[:kept.rindex(b"check sum")].replace(b"1234567890", b"%d" % (GREATEST_NUMBER + 1))
     damaged.append(too_great + b"check sum %08x\n" % zlib.crc32(too_great))
     damaged += [b" " + kept, kept.replace(b"1234567890", b"01234567890"), kept.replace(b"1234567890", b"+1234567890"), b"\0" * len(kept)]
-    for content in damaged:
+    for state in damaged:
         with open(place.state, "wb") as file:
-            file.write(content)
+            file.write(state)
         host = place.run("--settings", place.settings, "--state", place.state, "--listen", "127.0.0.1:0")
         try:
             place.refused(host, 1, place.state)
         except Wrong as wrong:
             host.kill()
-            raise Wrong("state %r: %s" % (content, wrong)) from None
-        with open(place.state, "rb") as file:
-            equal(file.read(), content, "a damaged state after the refusal")
+            raise Wrong("state %r: %s" % (state, wrong)) from None
+        equal(content(place.state), state, "a damaged state after the refusal")
     place.said.append("%d damaged states refused" % len(damaged))
     with open(place.state, "wb") as file:
         file.write(kept)
-    host = place.host()
-    server = place.server(host).subscribe()
-    place.tool().tighten(tightening_fields(1), "0")
-    server.expect_result(tightening_fields(1), 1234567891)
+    gives_next(place, 1234567891)
 
 
 @test
@@ -317,10 +308,7 @@ def a_state_in_use(place):
         server.tell(openprotocol.ACKNOWLEDGE_RESULT)
     equal(server.fence(), [], "something besides")
     first.kill()
-    host = place.host()
-    server = place.server(host).subscribe()
-    place.tool().tighten(tightening_fields(3), "0")
-    server.expect_result(tightening_fields(3), 3)
+    gives_next(place, 3)
 
 
 @test

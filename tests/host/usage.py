@@ -142,10 +142,13 @@ def good_settings(place):
 
 @test
 def an_address_in_use(place):
-    """A port that is taken: status 1, and the message names it."""
+    """A port that is taken: status 1, the message names it, and no file is made or renamed."""
     with socket.create_server(("127.0.0.1", 0)) as taken:
         address = "127.0.0.1:%d" % taken.getsockname()[1]
+        before = os.listdir(place.folder)
         place.refused(place.start("--listen", address), 1, address)
+        made = [name for name in os.listdir(place.folder) if name not in before and not name.startswith("log-")]
+        equal(made, [], "files that were made")
 
 
 @test
