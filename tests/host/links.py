@@ -282,7 +282,7 @@ def many_links_one_after_another(place):
 @test
 def an_idle_host_rests(place):
     """While nothing is to be done, the host does not run: with servers and tools connected, gone, half gone, or not reading."""
-    host = place.host(tick=100)
+    host = place.host(tick=1000)
     place.server(host).start()
     gone = place.server(host).start()
     gone.cut()
@@ -296,11 +296,14 @@ def an_idle_host_rests(place):
     half = place.tool()
     half.link.shutdown(socket.SHUT_WR)
     place.tool().send(b"\1")
-    before, ticks = host.processor_seconds(), place.ticks()
-    began = time.monotonic()
-    wait(lambda: place.ticks() >= ticks + 10, "ten ticks")
-    used, passed = host.processor_seconds() - before, time.monotonic() - began
-    check(used < passed / 10, "in %.1f s of rest the host ran for %.2f s", passed, used)
+
+    def rested():
+        before, ticks, began = host.processor_seconds(), place.ticks(), time.monotonic()
+        wait(lambda: place.ticks() > ticks + 1, "two ticks")
+        return host.processor_seconds() - before < (time.monotonic() - began) / 10
+
+    wait(rested, "a time between ticks of which the host runs for less than a tenth")  # once it has done what it was sent
+    check(place.ticks() < 15, "the servers were closed before the host rested")
 
 
 @test
