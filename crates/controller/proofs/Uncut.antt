@@ -12,7 +12,7 @@ use Rattle.model.specs.Calls.{bytes, output, refusal, step}
 use Rattle.model.specs.Reading.{Read, read-within, read-all}
 use Rattle.model.proofs.Cuts.{read-on, cut-anywhere}
 use Rattle.model.proofs.Erase.{erase-world}
-use Rattle.region.proofs.Outputs.{output-append}
+use Rattle.model.proofs.Erase.{output-append}
 use Rattle.table.specs.Table.{decode, Table}
 use Rattle.controller.specs.declared.Answer.{Answer}
 use Rattle.controller.specs.Contract.{Said}

@@ -144,7 +144,7 @@ drop-behind b bs p = go (p .ends)
     go false = refl
 
 -- one byte at least is consumed
-consumes : (b : ℕ) (bs : List ℕ) → 1 ≤ consumed-by (cut (b ∷ bs))
+pub consumes : (b : ℕ) (bs : List ℕ) → 1 ≤ consumed-by (cut (b ∷ bs))
 consumes b bs = go (eqb b NUL) refl
   where
     some-of : (e : Bool) (n : ℕ) → 1 ≤ cond e (suc (suc n)) (suc n)

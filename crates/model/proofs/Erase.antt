@@ -337,7 +337,7 @@ output-erased : (xs : List (Tagged Emission)) → output (map (retag erase-emiss
 output-erased [] = refl
 output-erased (x ∷ xs) = rw (record-erased x, output-erased xs)
 
-output-append : (xs ys : List (Tagged Emission)) → output (xs ++ ys) ≡ output xs ++ output ys
+pub output-append : (xs ys : List (Tagged Emission)) → output (xs ++ ys) ≡ output xs ++ output ys
 output-append [] ys = refl
 output-append (x ∷ xs) ys =
     ap (output-record x ++_) (output-append xs ys) ∙ sym (append-assoc (output-record x) (output xs) (output ys))

@@ -1,7 +1,7 @@
 -- What goes out to one session, as output records. Assumes nothing.
-use mathlib.Core.Path.{_≡_, refl, sym, ap, ap₂, _∙_}
-use Prim.Native.Nat.{ℕ, zero, suc}
-use mathlib.Core.List.{List, [], _∷_, _++_, map, map-append, append-assoc, append-nil}
+use mathlib.Core.Path.{_≡_, refl, ap, ap₂, _∙_}
+use Prim.Native.Nat.{ℕ}
+use mathlib.Core.List.{List, [], _∷_, _++_, map, map-append, append-nil}
 use Rattle.model.specs.Records.{Settings}
 use Rattle.model.specs.Runs.{Run}
 use Rattle.model.specs.Events.{Notice}
@@ -10,13 +10,10 @@ use Rattle.model.specs.Notices.{room-of, Subscription, Deed, act}
 use Rattle.model.specs.Session.{Copy, Emission, copy, frame-to, deal, dealt, only}
 use Rattle.model.specs.Session as model
 use Rattle.model.specs.Row.{Tagged, tag, said}
-use Rattle.model.specs.Calls.{output-record, output}
+use Rattle.model.specs.Calls.{output}
+use Rattle.model.proofs.Erase.{output-append}
 use Rattle.notices.specs.Places.{copies-to}
 use Rattle.region.specs.Region.{out-bytes}
-
-pub output-append : (xs ys : List (Tagged Emission)) → output (xs ++ ys) ≡ output xs ++ output ys
-output-append [] ys = refl
-output-append (x ∷ xs) ys = ap (output-record x ++_) (output-append xs ys) ∙ sym (append-assoc (output-record x) (output xs) (output ys))
 
 tag-append : (s : ℕ) (xs ys : List Emission) → tag s (xs ++ ys) ≡ tag s xs ++ tag s ys
 tag-append s [] ys = refl

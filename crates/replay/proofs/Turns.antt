@@ -8,11 +8,12 @@ use lib.Dec.{leb, ltb, eqb}
 use lib.ListN.{length, drop, length-drop}
 use lib.Seq.{sets, length-sets}
 use borrow.Author.Tests.{eq-eqb, ne-eqb, leb-true, ltb-true}
-use Rattle.model.specs.Bytes.{NUL, within}
-use Rattle.model.specs.Runs.{Piece, cut, consumed-by}
+use Rattle.model.specs.Bytes.{within}
+use Rattle.model.specs.Runs.{cut, consumed-by}
 use Rattle.model.specs.World.{World}
 use Rattle.model.specs.Calls.{Call, start, open-session, hang-up-session, bytes, one-tick, tool, consumed-of, answered, output, refusal, step}
 use Rattle.model.specs.Program.{call-of}
+use Rattle.model.proofs.Cuts.{consumes}
 use Rattle.table.specs.Table.{decode}
 use Rattle.refusal.specs.Numbers.{number}
 use Rattle.controller.specs.declared.Answer.{Answer}
@@ -66,18 +67,6 @@ started {t = t} {o = o} {r = r} kind slice e out =
     })
 
 -- ==== received bytes are used up
-
-consumes : (b : ℕ) (bs : List ℕ) → 1 ≤ consumed-by (cut (b ∷ bs))
-unfolding cut
-consumes b bs = go (eqb b NUL) ((cut bs) .ends)
-  where
-    at-NUL : Piece
-    at-NUL = record { bytes = []; ends = true }
-
-    go : (t e : Bool) → 1 ≤ consumed-by (cond t (record { bytes = []; ends = true }) (record { bytes = b ∷ (cut bs) .bytes; ends = e }))
-    go true e = omega arith
-    go false true = omega arith
-    go false false = omega arith
 
 consumed-where-done : (w : World) (c : Call) (n : ℕ) → (answered w c n) .1 .number ≡ 0 → (answered w c n) .1 .consumed ≡ consumed-of c
 consumed-where-done w c zero e = refl

@@ -17,7 +17,7 @@ use Rattle.model.specs.Calls.{output}
 use Rattle.text.specs.Put.{Put}
 use Rattle.text.proofs.Puts.{put-as, put-then}
 use Rattle.region.specs.Region.{session-of, Good, Steps}
-use Rattle.region.proofs.Outputs.{output-append}
+use Rattle.model.proofs.Erase.{output-append}
 use Rattle.table.specs.Table.{regions, decode, Table, Becomes, Went}
 use Rattle.table.proofs.Regions.{part, put, part-is, length-regions, put-means}
 

@@ -16,7 +16,7 @@ use Rattle.model.specs.Calls.{output, takers}
 use Rattle.text.specs.Put.{Put}
 use Rattle.text.proofs.Puts.{Left, left-all, left-put, left-none, left-as}
 use Rattle.region.specs.Region.{session-of, out-bytes, Steps}
-use Rattle.region.proofs.Outputs.{output-append}
+use Rattle.model.proofs.Erase.{output-append}
 use Rattle.shared.specs.Shared.{settings-part, in-force-of, last-of}
 use Rattle.table.specs.Table.{shared-area, table-used, regions, decode, Table, Becomes}
 use Rattle.table.proofs.Regions.{part, put, region-at, length-regions, put-size, put-past, put-shared, put-regions, put-table, table-means, holds-as-before}
