@@ -326,6 +326,13 @@ class Tool(Link):
         equal(self.give(identifier_record(identifier)), "0 done, taken by " + taken_by, "answer to an identifier")
 
 
+def tell_and_acknowledge(tool, server, i, number):
+    """The i-th tightening reaches the server of session 0 under that number, and is acknowledged."""
+    tool.tighten(tightening_fields(i), "0")
+    server.expect_result(tightening_fields(i), number)
+    server.tell(openprotocol.ACKNOWLEDGE_RESULT)
+
+
 class Place:
     """Where a test runs: its folder, and all that it starts."""
 

@@ -11,8 +11,8 @@ import subprocess
 import zlib
 
 import tracing
-from harness import (BYTES, GREATEST_NUMBER, SETTINGS, TIGHTENING, Wrong, check, content, equal, history, openprotocol, result_fields, test,
-                     tightening_fields, tightening_record, wait)
+from harness import (BYTES, GREATEST_NUMBER, SETTINGS, TIGHTENING, Wrong, check, content, equal, history, openprotocol, result_fields,
+                     tell_and_acknowledge, test, tightening_fields, tightening_record, wait)
 
 
 def runs_of_the_host(records):
@@ -150,9 +150,7 @@ def no_room_for_the_state(place):
     host = place.host()
     tool = place.tool()
     server = place.server(host).subscribe()
-    tool.tighten(tightening_fields(1), "0")
-    server.expect_result(tightening_fields(1), 1)
-    server.tell(openprotocol.ACKNOWLEDGE_RESULT)
+    tell_and_acknowledge(tool, server, 1, 1)
     equal(server.fence(), [], "something besides")
     if disk:
         in_the_way = fill(disk)
@@ -303,9 +301,7 @@ def a_state_in_use(place):
     for number in (1, 2):
         second = place.run("--settings", place.settings, "--state", place.state, "--listen", "127.0.0.1:0")
         place.refused(second, 1, place.state)
-        tool.tighten(tightening_fields(number), "0")
-        server.expect_result(tightening_fields(number), number)
-        server.tell(openprotocol.ACKNOWLEDGE_RESULT)
+        tell_and_acknowledge(tool, server, number, number)
     equal(server.fence(), [], "something besides")
     first.kill()
     gives_next(place, 3)
@@ -317,9 +313,7 @@ def the_last_number(place):
     host = place.host("--new-state", GREATEST_NUMBER - 1)
     server = place.server(host).subscribe()
     tool = place.tool()
-    tool.tighten(tightening_fields(1), "0")
-    server.expect_result(tightening_fields(1), GREATEST_NUMBER)
-    server.tell(openprotocol.ACKNOWLEDGE_RESULT)
+    tell_and_acknowledge(tool, server, 1, GREATEST_NUMBER)
     servers = [server]
     for run in (1, 2):
         answer = tool.give(tightening_record(tightening_fields(2)))

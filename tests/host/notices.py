@@ -4,7 +4,7 @@ import re
 import time
 
 import harness
-from harness import check, equal, in_memory, openprotocol, test, tightening_fields
+from harness import check, equal, in_memory, openprotocol, tell_and_acknowledge, test, tightening_fields
 
 
 @test
@@ -103,9 +103,7 @@ def log_lines(place):
     host = place.host()
     tool = place.tool()
     server = place.server(host).subscribe()
-    tool.tighten(tightening_fields(1), "0")
-    server.expect_result(tightening_fields(1), 1)
-    server.tell(openprotocol.ACKNOWLEDGE_RESULT)
+    tell_and_acknowledge(tool, server, 1, 1)
     equal(server.fence(), [], "something besides")
     port = server.link.getsockname()[1]
     server.close()

@@ -9,7 +9,7 @@ import struct
 
 import harness
 from harness import (BYTES, GOOD_SETTINGS, HANG_UP, OPEN, TICK, TIGHTENING, check, equal, history, identifier_record,
-                     openprotocol, record, test, tightening_fields, tightening_record)
+                     openprotocol, record, tell_and_acknowledge, test, tightening_fields, tightening_record)
 
 BAD = "7 tool record bad"
 
@@ -45,9 +45,7 @@ def refused_tool_records(place):
         equal(tool.give(bad), BAD, "answer to bad record %d" % i)
         equal(host.log().count(BAD), i + 1, "refusals logged")
         equal(server.fence(), [], "what is sent for bad record %d" % i)
-    tool.tighten(tightening_fields(1), "0")
-    server.expect_result(tightening_fields(1), 1)
-    server.tell(openprotocol.ACKNOWLEDGE_RESULT)
+    tell_and_acknowledge(tool, server, 1, 1)
     equal(server.fence(), [], "something besides")
     place.finish(host, [server], [7] * len(records))
     place.said.append("%d bad records refused" % len(records))
