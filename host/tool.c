@@ -99,6 +99,8 @@ static void end_source(struct source *source)
         say("tool: record cut after %zu bytes", source->length);
         answer_line(source, "record cut");
     }
+    if (fifo && source->skipping)
+        say("tool: the FIFO has no writer any more; what comes next is read");
     if (fifo)
         open_fifo();
     else

@@ -272,10 +272,11 @@ def tool_records_over_a_fifo(place):
                     server.expect_result(tightening_fields(number), number)
             fifo.write(record(5))
         host.wait_for_log("(?s)" + ".*".join([BAD] * (writer + 1)))
-    for cut, words in ((tightening_record(tightening_fields(0))[:60], " cut"), (struct.pack("<HH", 8193, 1) + bytes(50), "too long")):
+    for cut, words in ((tightening_record(tightening_fields(0))[:60], " cut"),
+                       (struct.pack("<HH", 8193, 1) + bytes(50), "(?s)too long.*no writer")):
         with open(place.tool_path, "wb", buffering=0) as fifo:
             fifo.write(cut)
-        host.wait_for_log(words)
+        host.wait_for_log(words)  # the host has seen that this writer is gone: the next is not taken for it
         with open(place.tool_path, "wb", buffering=0) as fifo:
             number += 1
             fifo.write(tightening_record(tightening_fields(number)))
