@@ -11,6 +11,8 @@
 #include <sys/un.h>
 #include <unistd.h>
 
+enum { FIFO_READS = 130 }; /* at once, of RECORD_GREATEST bytes: more than the largest FIFO holds, 1 MiB */
+
 /* Where records come from: the FIFO, or one connection. */
 static struct source {
     int descriptor; /* -1: none */
@@ -107,8 +109,8 @@ static void end_source(struct source *source)
         source->ended = true;
 }
 
-/* Reads what is missing of one record, or some of what is skipped. */
-static void receive(struct source *source)
+/* Reads what is missing of one record, or some of what is skipped. Answers whether the source stands within a record then. */
+static bool receive(struct source *source)
 {
     size_t whole = SERIFLADDER_RECORD_HEADER;
     char line[ANSWER_LINE];
@@ -118,14 +120,14 @@ static void receive(struct source *source)
         whole += (size_t)little(source->record, 2);
     ssize_t got = read(source->descriptor, source->record + source->length, source->skipping ? RECORD_GREATEST : whole - source->length);
     if (got < 0 && (errno == EAGAIN || errno == EWOULDBLOCK || errno == EINTR))
-        return;
+        return false;
     if (got <= 0) {
         end_source(source);
-        return;
+        return false;
     }
     source->length += (size_t)got;
     if (source->skipping || source->length < SERIFLADDER_RECORD_HEADER)
-        return;
+        return true;
     whole = SERIFLADDER_RECORD_HEADER + (size_t)little(source->record, 2);
     if (whole > RECORD_GREATEST) {
         say("tool: record too long, %zu bytes; what follows it is not read", whole - SERIFLADDER_RECORD_HEADER);
@@ -135,7 +137,18 @@ static void receive(struct source *source)
         tool_record(source->record, whole, line);
         answer_line(source, line);
         source->length = 0;
+        return false;
     }
+    return true;
+}
+
+/* Within a record a FIFO is read on to where nothing is there, or to the end: poll does not tell the end of a writer that came and went
+   before the FIFO was opened anew, and what it left must not be taken for the beginning of the next one's record. */
+static void receive_fifo(struct source *source)
+{
+    unsigned reads = 0;
+    while (receive(source) && ++reads < FIFO_READS)
+        ;
 }
 
 /* Sends the answers. A tool that has left takes none, but the records that it sent are still read. Behind the last answer the connection
@@ -232,10 +245,13 @@ void tool_serve(const struct pollfd set[TOOL_POLLED])
         struct source *source = &sources[i];
         if (source->descriptor < 0 || set[1 + i].revents == 0)
             continue;
+        if (fifo) {
+            receive_fifo(source);
+            continue;
+        }
         if (source->answers.length == 0 && !source->ended)
             receive(source);
-        if (!fifo)
-            send_answers(source);
+        send_answers(source);
     }
     if (set[0].revents != 0 && free_source() != NULL)
         take_in(free_source());
