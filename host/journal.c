@@ -72,13 +72,13 @@ static void put_aside(void)
         cannot("renamed");
 }
 
-/* Keeps the bytes of a record that is not whole beside the part that they were the end of. */
+/* Keeps the bytes of a record that is not whole beside the part that they were the end of, on the disk before they are taken off it. */
 static void keep_cut_end(const uint8_t *bytes, size_t length)
 {
     char name[PATH_MAX];
     part_name(name, part + 1, CUT);
     int kept = open(name, O_WRONLY | O_CREAT | O_EXCL | O_CLOEXEC, 0644);
-    if (kept < 0 || !write_all(kept, bytes, length) || close(kept) != 0)
+    if (kept < 0 || !write_all(kept, bytes, length) || fsync(kept) != 0 || close(kept) != 0)
         fail("%s, for the end of the journal, cannot be written: %s", name, strerror(errno));
     say("journal %s ended within a record: its last %zu bytes are now in %s", journal_path, length, name);
 }
