@@ -7,6 +7,10 @@ SHELL := /bin/bash
 # How many histories make soak compares.
 COUNT := 2000
 
+# How many crates or edits rt proves at a time. It takes them in batches, in which some take ten times as long as others: more of them than
+# a small machine has processors keep it busy. With four the provers hold some 3 GB at most.
+export RT_JOBS ?= 4
+
 # Where make install puts things.
 PREFIX := /usr/local
 
