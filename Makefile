@@ -71,16 +71,16 @@ proved: tools
 	@echo "each of these public functions is proved to answer what its ensures says:"
 	@grep -oE '^ *pub (extern "C" )?fn [a-z0-9_]+' crates/*/src/*.rt | sed -E 's#crates/([a-z]+)/.*fn (.*)#  \1::\2#'
 
-# The layout, and that the must-fail edits fit; then the gate itself, then the comparison over what the gate built and left, two parts at a
-# time, since the host's tests mostly wait. The gate's own last line is said again at the end: it is the last line of a run in which nothing
-# failed.
+# The layout, and that the must-fail edits fit; then the gate itself, then the comparison over what the gate built and left, three parts at
+# a time, since the host's tests mostly wait. The gate's own last line is said again at the end: it is the last line of a run in which
+# nothing failed.
 test: tools
 	@rt fmt --check
 	@python3 tests/wrong/check.py
 	@said=$$(mktemp); trap 'rm -f "$$said"' EXIT; \
 	rt ci | tee "$$said"; \
 	rt staticlib serifladder | tail -n 1; \
-	$(MAKE) --silent --no-print-directory -j 2 -C tests product; \
+	$(MAKE) --silent --no-print-directory -j 3 -C tests product; \
 	tail -n 1 "$$said"
 
 # The program and the archive for C, proved.

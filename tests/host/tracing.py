@@ -1,17 +1,22 @@
-"""A process stopped before each of its calls of the system, to be ended there. On x86-64 only."""
+"""A process stopped before each of its calls of the system, to be ended there. One that runs under an emulator is stopped before each
+call that the emulator makes, for it or for itself."""
 
 import ctypes
 import os
 import signal
+import struct
 import subprocess
 
-NAMES = {44: "send", 74: "sync", 75: "sync", 82: "rename", 264: "rename", 316: "rename"}
+NAMES = {
+    "x86_64": {44: "send", 74: "sync", 75: "sync", 82: "rename", 264: "rename", 316: "rename"},
+    "aarch64": {206: "send", 82: "sync", 83: "sync", 38: "rename", 276: "rename"},
+}.get(os.uname().machine)
 
-PEEK_USER, CALL_STOPS, SEIZE, INTERRUPT = 3, 24, 0x4206, 0x4207
+CALL_STOPS, SEIZE, INTERRUPT, CALL_INFO = 24, 0x4206, 0x4207, 0x420E
 TELL_CALLS, KILL_WITH_US = 1, 0x100000
 CALL_STOP = signal.SIGTRAP | 0x80
-RAX, CALL_NUMBER = 10 * 8, 15 * 8
-NOT_YET_ANSWERED = -38  # what stands for a call's answer before the call is made
+BEFORE_A_CALL = 1  # the first byte of what is told of a stop
+NUMBER_AT = 24  # where the call's number stands in it
 
 library = ctypes.CDLL(None, use_errno=True)
 library.ptrace.argtypes = [ctypes.c_long] * 4
@@ -21,16 +26,14 @@ library.ptrace.restype = ctypes.c_long
 class Trace:
     def __init__(self, process):
         self.process = process
+        self.told = ctypes.create_string_buffer(NUMBER_AT + 8)
         self.ask(SEIZE, 0, TELL_CALLS | KILL_WITH_US)
         self.ask(INTERRUPT)
         os.waitpid(process, 0)
 
     def ask(self, request, place=0, data=0):
-        ctypes.set_errno(0)
-        answer = library.ptrace(request, self.process, place, data)
-        if ctypes.get_errno():
+        if library.ptrace(request, self.process, place, data) < 0:
             raise OSError(ctypes.get_errno(), "ptrace: " + os.strerror(ctypes.get_errno()))
-        return answer
 
     def next_call(self):
         """Lets the process run up to its next call of the system, and answers what that is."""
@@ -39,18 +42,21 @@ class Trace:
             _, status = os.waitpid(self.process, 0)
             if not os.WIFSTOPPED(status):
                 raise OSError("the traced process has ended")
-            if os.WSTOPSIG(status) == CALL_STOP and self.ask(PEEK_USER, RAX) == NOT_YET_ANSWERED:
-                number = self.ask(PEEK_USER, CALL_NUMBER)
+            if os.WSTOPSIG(status) != CALL_STOP:
+                continue
+            self.ask(CALL_INFO, len(self.told), ctypes.addressof(self.told))
+            if self.told.raw[0] == BEFORE_A_CALL:
+                number, = struct.unpack_from("<Q", self.told, NUMBER_AT)
                 return NAMES.get(number, number)
 
 
 def possible():
     """Whether the host can be traced here."""
-    if os.uname().machine != "x86_64":
+    if not NAMES:
         return False
     with subprocess.Popen(["sleep", "60"]) as process:
         try:
-            Trace(process.pid)
+            Trace(process.pid).next_call()
             return True
         except OSError:
             return False
