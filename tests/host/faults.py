@@ -74,6 +74,8 @@ if tracing.possible():
     FAULTS += [
         ("state not synced", "killed-before-every-call-of-the-system", "state.c", " || fsync(file) != 0", ""),
         ("folder of the state not synced", "killed-before-every-call-of-the-system", "state.c", " || fsync(folder) != 0", ""),
+        ("the end of a FIFO's writer not sought", "a-fifo-writer-that-is-not-told", "tool.c",
+         "while (receive(source) && ++reads < FIFO_READS)\n        ;", "(void)reads;\n    receive(source);"),
     ]
 
 

@@ -76,12 +76,10 @@ def killed_between_results(place):
 
 
 @test
+@tracing.traced
 def killed_before_every_call_of_the_system(place):
     """The same with the host killed before each call of the system that it makes for a tightening, one run for each. The number is on
     the disk, and its folder with it, before anything is sent."""
-    if not tracing.possible():
-        place.said.append("not shown here: the host can't be traced")
-        return
     servers, begins, answered = [], [], False
     while not answered:
         host, server, tool = begin_run(place)

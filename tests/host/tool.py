@@ -8,6 +8,7 @@ import socket
 import struct
 
 import harness
+import tracing
 from harness import (BYTES, GOOD_SETTINGS, HANG_UP, OPEN, TICK, TIGHTENING, check, equal, history, identifier_record,
                      openprotocol, record, tell_and_acknowledge, test, tightening_fields, tightening_record)
 
@@ -250,6 +251,12 @@ def what_stands_where_the_tools_socket_goes(place):
     check(os.path.isdir(place.tool_path), "a folder that stood there is gone")
 
 
+def write_fifo(place, data):
+    """A writer of the FIFO that comes, writes and leaves."""
+    with open(place.tool_path, "wb", buffering=0) as fifo:
+        fifo.write(data)
+
+
 @test
 def tool_records_over_a_fifo(place):
     """Records over a FIFO, from one writer after another, cut and joined; refusals are logged with number and meaning."""
@@ -274,13 +281,32 @@ def tool_records_over_a_fifo(place):
         host.wait_for_log("(?s)" + ".*".join([BAD] * (writer + 1)))
     for cut, words in ((tightening_record(tightening_fields(0))[:60], " cut"),
                        (struct.pack("<HH", 8193, 1) + bytes(50), "(?s)too long.*no writer")):
-        with open(place.tool_path, "wb", buffering=0) as fifo:
-            fifo.write(cut)
+        write_fifo(place, cut)
         host.wait_for_log(words)  # the host has seen that this writer is gone: the next is not taken for it
-        with open(place.tool_path, "wb", buffering=0) as fifo:
-            number += 1
-            fifo.write(tightening_record(tightening_fields(number)))
-            server.expect_result(tightening_fields(number), number)
+        number += 1
+        write_fifo(place, tightening_record(tightening_fields(number)))
+        server.expect_result(tightening_fields(number), number)
     equal(server.fence(), [], "something besides")
     place.finish(host, [server], [7] * 5)
     check(os.path.exists(place.tool_path), "the FIFO is gone, which was not the host's")
+
+
+@test
+@tracing.traced
+def a_fifo_writer_that_is_not_told(place):
+    """A writer that comes and goes just before the FIFO is opened anew, of which poll does not tell that it left: what it wrote of a record
+    is cut, and not taken for the beginning of the next one's."""
+    os.mkfifo(place.tool_path)
+    host = place.host()
+    server = place.server(host).subscribe()
+    trace = tracing.Trace(host.process.pid)
+    write_fifo(place, b"")
+    while trace.next_call() != "open":
+        pass
+    write_fifo(place, tightening_record(tightening_fields(0))[:60])
+    trace.end()
+    host.wait_for_log("cut after 60 bytes")
+    write_fifo(place, tightening_record(tightening_fields(1)))
+    server.expect_result(tightening_fields(1), 1)
+    equal(server.fence(), [], "something besides")
+    place.finish(host, [server])

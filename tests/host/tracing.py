@@ -2,17 +2,18 @@
 call that the emulator makes, for it or for itself."""
 
 import ctypes
+import functools
 import os
 import signal
 import struct
 import subprocess
 
 NAMES = {
-    "x86_64": {44: "send", 74: "sync", 75: "sync", 82: "rename", 264: "rename", 316: "rename"},
-    "aarch64": {206: "send", 82: "sync", 83: "sync", 38: "rename", 276: "rename"},
+    "x86_64": {2: "open", 257: "open", 44: "send", 74: "sync", 75: "sync", 82: "rename", 264: "rename", 316: "rename"},
+    "aarch64": {56: "open", 206: "send", 82: "sync", 83: "sync", 38: "rename", 276: "rename"},
 }.get(os.uname().machine)
 
-CALL_STOPS, SEIZE, INTERRUPT, CALL_INFO = 24, 0x4206, 0x4207, 0x420E
+DETACH, CALL_STOPS, SEIZE, INTERRUPT, CALL_INFO = 17, 24, 0x4206, 0x4207, 0x420E
 TELL_CALLS, KILL_WITH_US = 1, 0x100000
 CALL_STOP = signal.SIGTRAP | 0x80
 BEFORE_A_CALL = 1  # the first byte of what is told of a stop
@@ -49,6 +50,10 @@ class Trace:
                 number, = struct.unpack_from("<Q", self.told, NUMBER_AT)
                 return NAMES.get(number, number)
 
+    def end(self):
+        """Lets the process run on."""
+        self.ask(DETACH)
+
 
 def possible():
     """Whether the host can be traced here."""
@@ -62,3 +67,14 @@ def possible():
             return False
         finally:
             process.kill()
+
+
+def traced(function):
+    """The test traces the host; where that can't be, it says so."""
+    @functools.wraps(function)
+    def where_possible(place):
+        if possible():
+            function(place)
+        else:
+            place.said.append("not shown here: the host can't be traced")
+    return where_possible
