@@ -65,6 +65,7 @@ $(ARCHIVE): crates.txt $(shell find crates -type f -not -path '*/must-fail/*') |
 
 install: host
 	@$(MAKE) --silent --no-print-directory -C host install PREFIX=$(PREFIX)
+	@test -z "$(FOREIGN)" || echo "archive and host are for x86-64: tests/x86-64 $(PREFIX)/bin/serifladder-host runs the host here"
 
 proved: tools
 	@rt check | grep --line-buffered '^rt:'
