@@ -7,9 +7,9 @@ SHELL := /bin/bash
 # How many histories make soak compares.
 COUNT := 2000
 
-# How many crates or edits rt proves at a time. It takes them in batches, in which some take ten times as long as others: more of them than
-# a small machine has processors keep it busy. With four the provers hold some 3 GB at most.
-export RT_JOBS ?= 4
+# How many crates or edits rt proves at a time: one more than there are processors, and four at most. It takes them in batches, and some of
+# a batch take ten times as long as others.
+export RT_JOBS ?= $(shell echo $$(( $$(nproc) < 4 ? $$(nproc) + 1 : 4 )))
 
 # Where make install puts things.
 PREFIX := /usr/local
