@@ -1,5 +1,5 @@
-"""A process stopped before each of its calls of the system, to be ended there. One that runs under an emulator is stopped before each
-call that the emulator makes, for it or for itself."""
+"""A process stopped before each of its calls of the system, to be ended there or let run on. One that runs under an emulator is stopped
+before each call that the emulator makes, for it or for itself."""
 
 import ctypes
 import functools
