@@ -53,7 +53,7 @@ modelled {t = t} w h e (and {t₁ = t₁} {m = m} {ms = ms} out rest) =
     λ i. (k .answer i, k .bytes i) ∷ (ih ∙ ap (λ (n : ℕ). observed (run (q .0) (lendings n ms))) (out .size)) i
 
 -- what a start that is done leaves means the begun world
-begun-meaning : {t slice : List ℕ} {r : Answer} {t′ : List ℕ} → Outcome (start slice) t [] r t′ [] → r .number ≡ 0
+pub begun-meaning : {t slice : List ℕ} {r : Answer} {t′ : List ℕ} → Outcome (start slice) t [] r t′ [] → r .number ≡ 0
     → decode t′ ≡ begun (settings-of (payload slice)) 0
 unfolding step
 begun-meaning {t = t} {slice = slice} {r = r} out e =

@@ -24,7 +24,7 @@ use Rattle.controller.specs.Contract.{said, Outcome}
 use Rattle.controller.proofs.Calls.{start-silent}
 
 -- what is written is as long as the answer says
-written-is : (w : World) (c : Call) (n : ℕ) → (answered w c n) .1 .written ≡ length (output ((answered w c n) .2))
+pub written-is : (w : World) (c : Call) (n : ℕ) → (answered w c n) .1 .written ≡ length (output ((answered w c n) .2))
 written-is w c zero = refl
 written-is w c (suc n) = refl
 

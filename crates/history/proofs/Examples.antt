@@ -113,6 +113,38 @@ pub no-closers :
 unfolding outcome
 no-closers = refl
 
+-- ==== what ends the subscription, call by call: an unsubscribe and at once a subscribe, a stop, a hang-up, a time-out; an acknowledge does not
+
+abbrev enders : List (List (List ℕ))
+enders =
+    (sends 0 "00200063001_________" ∷ sends 0 "00200060001_________" ∷ [])
+    ∷ (sends 0 "00200003001_________" ∷ sends 0 "00200001001_________" ∷ sends 0 "00200060001_________" ∷ [])
+    ∷ (hung-up 0 ∷ opened 0 ∷ sends 0 "00200001001_________" ∷ sends 0 "00200060001_________" ∷ [])
+    ∷ (ticks 15 ++ opened 0 ∷ sends 0 "00200001001_________" ∷ sends 0 "00200060001_________" ∷ [])
+    ∷ (sends 0 "00200062001_________" ∷ [])
+    ∷ []
+
+abbrev stays : List (List ℕ) → List Bool
+stays h = map (λ m. m .still) (later h)
+
+pub the-enders : map stays enders
+    ≡ (false ∷ true ∷ [])
+    ∷ (false ∷ false ∷ true ∷ [])
+    ∷ (false ∷ false ∷ false ∷ true ∷ [])
+    ∷ (replicate 14 true ++ false ∷ false ∷ false ∷ true ∷ [])
+    ∷ (true ∷ [])
+    ∷ []
+unfolding outcome
+the-enders = refl
+
+-- a second result waits behind the first; then these, and 130 ticks more: its copies
+abbrev of-the-waiting : List (List ℕ) → ℕ
+of-the-waiting h = copies 1 (all-of (a-tightening ∷ h ++ stands 130))
+
+pub none-is-kept : map of-the-waiting enders ≡ 0 ∷ 0 ∷ 0 ∷ 0 ∷ 6 ∷ []
+unfolding outcome
+none-is-kept = refl
+
 -- ==== a refused call is nothing: no tick, no event, closes nothing, sends nothing
 
 abbrev too-short : Lent

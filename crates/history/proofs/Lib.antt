@@ -7,5 +7,6 @@ pub mod Turns
 pub mod Frames
 pub mod Replies
 pub mod Product
+pub mod Exports
 pub mod Cases
 pub mod Examples

@@ -1,10 +1,10 @@
 -- DEMAND 3, OF THE PRODUCT: whatever calls are made after a start that is done, whatever they are lent, and only they write the table.
 -- Assumes nothing.
-use Prim.Native.Nat.{ℕ, _≤_}
+use Prim.Native.Nat.{ℕ, _≤_, _<_}
 use mathlib.Core.Path.{_≡_, refl, sym, _∙_, ap, ap₂, subst}
-use mathlib.Core.Bool.{_&&_}
-use mathlib.Core.List.{List, [], _∷_, map}
-use mathlib.Core.Option.{Option}
+use mathlib.Core.Bool.{Bool, true, false, cond, _&&_, _||_}
+use mathlib.Core.List.{List, [], _∷_, _++_, map}
+use mathlib.Core.Option.{Option, none}
 use native.Mathlib.Omega.{arith}
 use lib.Dec.{eqb}
 use lib.ListN.{length, length-take}
@@ -21,13 +21,15 @@ use Rattle.controller.specs.Trace.{Made, Trace, none as no-call, and, History, 
 use Rattle.controller.proofs.Outputs.{step-below, step-four}
 use Rattle.controller.proofs.Traces.{number-is, table-left, table-begun}
 use Rattle.controller.proofs.Modelled.{lending, one-call}
-use Rattle.history.specs.Turns.{Turn, starts-call, turns}
+use Rattle.watch.specs.Marks.{copies, Demand3}
+use Rattle.history.specs.Turns.{Turn, accepted, starts-call, turns}
+use Rattle.history.specs.Reading.{unsubscribe, message, parts, started, wish-of, wish, is-some, subscribed, subscribe, shared}
 use Rattle.history.specs.Output.{read-output, record-of}
-use Rattle.history.specs.Demand.{NoStart}
+use Rattle.history.specs.Demand.{mark, marks, past-after, NoStart}
 use Rattle.history.specs.Product.{Tells, Once, Meets}
 use Rattle.history.proofs.Output.{read-written, frames-back, closes-back}
 use Rattle.history.proofs.Turns.{demand-3-of-runs, in-time-of-runs}
-use Rattle.history.proofs.Frames.{few-frames-of-runs}
+use Rattle.history.proofs.Frames.{marks-append, few-frames-of-runs}
 use Rattle.history.proofs.Replies.{told-apart-in-runs}
 
 -- ==== a trace is a run of the model, with the numbers of events
@@ -76,7 +78,7 @@ no-start (m ∷ ms) (x ∷ xs) h o = (
   no-start ms xs (h .1) (o .1),
 )
 
-pub demand-3-of-the-product : {t t′ : List ℕ} {ms : List Made} (h : History t ms t′) → Once ms → Meets (h .settings) ms
+pub demand-3-of-the-product : {t t′ : List ℕ} {ms : List Made} (h : History t ms t′) → Once ms → Meets (h .settings) (length t) ms
 demand-3-of-the-product {t = t} {ms = ms} h o =
     let st = settings-of (payload (h .settings)) in
     let cs = lendings (length t) ms in
@@ -85,10 +87,31 @@ demand-3-of-the-product {t = t} {ms = ms} h o =
     record {
       settings = st;
       given = (start-passes (h .before) (h .settings) (sym (number-is (h .begins)) ∙ h .done)) .1;
-      turns = turns (begun st 0) cs;
       tells = k;
       told-apart = λ s u. told-apart-in-runs st cs ns s u;
       notices = λ s u. demand-3-of-runs st cs ns s u;
       in-time = λ s u. in-time-of-runs st cs ns s u;
       few-frames = λ s u. few-frames-of-runs st s u cs ns;
     }
+
+-- ==== the story of the server that came back, of any turns that meet demand 3
+
+and-false : (b : Bool) → (b && false) ≡ false
+and-false true = refl
+and-false false = refl
+
+-- a hang-up, a time-out, an accepted stop and an accepted unsubscribe each leave the session not started and subscribed
+pub ends-subscription : (s kind : ℕ) (past : List Turn) (x : Turn) → (parts s x || accepted s 0003 x || accepted s (unsubscribe kind) x) ≡ true
+    → subscribed s kind (x ∷ past) ≡ false
+ends-subscription s kind past x e =
+    let other = cond (accepted s (subscribe kind) x) (wish-of (message s past x)) (wish s kind past) in
+    ap (λ (b : Bool). started s (x ∷ past) && is-some (cond b none other)) e ∙ and-false (started s (x ∷ past))
+
+-- so from such a call on no copy goes out of an event that came before it, whether it had been sent or waited
+pub none-kept : (st : Settings) (s kind : ℕ) (before : List Turn) (x : Turn) (later : List Turn) → let past = past-after [] before in
+    Demand3 (marks st s kind [] (before ++ x ∷ later)) → (parts s x || accepted s 0003 x || accepted s (unsubscribe kind) x) ≡ true
+    → (n : ℕ) → n < shared st past .events → copies n (marks st s kind past (x ∷ later)) ≡ 0
+none-kept st s kind before x later d e n l =
+    let past = past-after [] before in
+    d .never-kept n (marks st s kind [] before) (mark st s kind past x) (marks st s kind (x ∷ past) later)
+    (marks-append st s kind [] before (x ∷ later)) (ends-subscription s kind past x e) l

@@ -3,3 +3,4 @@ pub mod Reading
 pub mod Output
 pub mod Demand
 pub mod Product
+pub mod Exports

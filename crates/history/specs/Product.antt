@@ -8,11 +8,12 @@ use lib.Dec.{eqb}
 use lib.ListN.{take}
 use Rattle.model.specs.Records.{Settings, read-settings}
 use Rattle.model.specs.Events.{tightenings}
+use Rattle.model.specs.World.{begun}
 use Rattle.model.specs.Calls.{output}
 use Rattle.watch.specs.Marks.{Every, Demand3, InTime}
 use Rattle.controller.specs.Contract.{model-answer}
-use Rattle.controller.specs.Trace.{Made}
-use Rattle.history.specs.Turns.{Turn, starts-call, frames-to, times-out}
+use Rattle.controller.specs.Trace.{Made, lendings}
+use Rattle.history.specs.Turns.{Turn, turns, starts-call, frames-to, times-out}
 use Rattle.history.specs.Output.{Read, read-output, frames-read, close-read}
 use Rattle.history.specs.Demand.{marks, FewFrames, ToldApart}
 
@@ -34,18 +35,22 @@ Tells [] (x ∷ xs) = ⊥
 Tells (m ∷ ms) [] = ⊥
 Tells (m ∷ ms) (x ∷ xs) = Shows m x × Tells ms xs
 
+-- there is no choice in them: they are those of the model's run of the same calls, after a start with those settings, each lent a table
+-- of that size
+abbrev pub turns-of : Settings → ℕ → List Made → List Turn
+turns-of settings size ms = turns (begun settings 0) (lendings size ms)
+
 -- no second start is done among them
 abbrev pub Once : List Made → Type 0
 Once ms = Every (λ m. (eqb (m .answer .number) 0 && starts-call (m .call)) ≡ false) ms
 
--- ==== demand 3, for sessions 0 to 3 and both kinds of notice, of a history that began with those settings
+-- ==== demand 3, for sessions 0 to 3 and both kinds of notice, of a history that began with those settings in a table of that size
 
-pub record Meets (slice : List ℕ) (ms : List Made) : Type 0 where
+pub record Meets (slice : List ℕ) (size : ℕ) (ms : List Made) : Type 0 where
   pub settings : Settings
   pub given : read-settings slice ≡ some settings
-  pub turns : List Turn
-  pub tells : Tells ms turns
-  pub told-apart : (s : ℕ) → s < 4 → ToldApart settings s turns
-  pub notices : (s : ℕ) → s < 4 → (kind : ℕ) → kind < 2 → Demand3 (marks settings s kind [] turns)
-  pub in-time : (s : ℕ) → s < 4 → InTime (marks settings s tightenings [] turns)
-  pub few-frames : (s : ℕ) → s < 4 → FewFrames settings s turns
+  pub tells : Tells ms (turns-of settings size ms)
+  pub told-apart : (s : ℕ) → s < 4 → ToldApart settings s (turns-of settings size ms)
+  pub notices : (s : ℕ) → s < 4 → (kind : ℕ) → kind < 2 → Demand3 (marks settings s kind [] (turns-of settings size ms))
+  pub in-time : (s : ℕ) → s < 4 → InTime (marks settings s tightenings [] (turns-of settings size ms))
+  pub few-frames : (s : ℕ) → s < 4 → FewFrames settings s (turns-of settings size ms)

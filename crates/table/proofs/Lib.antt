@@ -1,4 +1,5 @@
 pub mod Regions
+pub mod Front
 pub mod Starts
 pub mod Alone
 pub mod Walks

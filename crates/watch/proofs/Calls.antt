@@ -162,40 +162,52 @@ module _ {z : Bool} {k k′ : ℕ} where
   start-step n (quit h v) g u = not-yet refl tt
   start-step n (quit-pass {y = y} {q = r} h v) g u = goes-out n y r (omega arith) (above-up (suc (y .id)) r h (g .1 .1))
 
--- ==== frames: F says which frame a notice has
-
-abbrev pub Framed : (ℕ → Option (List ℕ)) → List Seen → Type 0
-Framed F xs = Every (λ (x : Seen). F (x .id) ≡ some (x .frame)) xs
+-- ==== what holds of all that is queued, and so of all that is sent: P before the call, Q after it
 
 abbrev pub all : Queue → List Seen
 all empty = []
 all (busy x c q) = x ∷ q
 
-pub framed-append : (F : ℕ → Option (List ℕ)) (xs ys : List Seen) → Framed F xs → Framed F ys → Framed F (xs ++ ys)
-framed-append F [] ys a b = b
-framed-append F (x ∷ xs) ys a b = (a .0, framed-append F xs ys (a .1) b)
+pub every-append : (P : Seen → Type 0) (xs ys : List Seen) → Every P xs → Every P ys → Every P (xs ++ ys)
+every-append P [] ys a b = b
+every-append P (x ∷ xs) ys a b = (a .0, every-append P xs ys (a .1) b)
 
--- the event of this call, number k, has the frame that F says
-abbrev pub Says : (ℕ → Option (List ℕ)) → ℕ → Option (List ℕ) → Type 0
-Says F k none = Unit {0}
-Says F k (some f) = F k ≡ some f
+every-map : (P Q : Seen → Type 0) → ((x : Seen) → P x → Q x) → (xs : List Seen) → Every P xs → Every Q xs
+every-map P Q on [] a = tt
+every-map P Q on (x ∷ xs) a = (on x (a .0), every-map P Q on xs (a .1))
+
+-- the event of this call, number k, if the session takes it
+abbrev pub Gets : (Seen → Type 0) → ℕ → Option (List ℕ) → Bool → Bool → Type 0
+Gets Q k e o p′ = (f : List ℕ) → e ≡ some f → o ≡ true → p′ ≡ true → Q (record { id = k; frame = f })
 
 module _ {z : Bool} {k k′ : ℕ} where
-  pub frame-step : (F : ℕ → Option (List ℕ)) {e : Option (List ℕ)} {o a s t p p′ : Bool} {q q′ : Queue} {es : List Seen}
-      → Eff z k k′ e o a s t p p′ q q′ es → Says F k e → Framed F (all q) → Framed F es × Framed F (all q′)
-  frame-step F (rest h) u g = (tt, tt)
-  frame-step F (lone h) u g = ((u, tt), tt)
-  frame-step F (first h) u g = ((u, tt), (u, tt))
-  frame-step F (keep h) u g = (tt, g)
-  frame-step F (wait {q = r} h l) u g = (tt, (g .0, framed-append F r _ (g .1) (u, tt)))
-  frame-step F (swap z′ h) u g = (tt, (g .0, (u, tt)))
-  frame-step F (wipe h) u g = (tt, tt)
-  frame-step F (over h) u g = (tt, tt)
-  frame-step F (pass h) u g = ((g .1 .0, tt), g .1)
-  frame-step F (beat h y v) u g = (tt, g)
-  frame-step F (again h y v) u g = ((g .0, tt), g)
-  frame-step F (quit h y) u g = (tt, tt)
-  frame-step F (quit-pass h y) u g = ((g .1 .0, tt), g .1)
+  -- what was queued is queued on, or sent, only where the session stays subscribed
+  pub held-step : (P Q : Seen → Type 0) {e : Option (List ℕ)} {o a s t p p′ : Bool} {q q′ : Queue} {es : List Seen}
+      → Eff z k k′ e o a s t p p′ q q′ es → Gets Q k e o p′ → (p′ ≡ true → (x : Seen) → P x → Q x) → Every P (all q)
+      → Every Q es × Every Q (all q′)
+  held-step P Q (rest h) new on g = (tt, tt)
+  held-step P Q (lone {f = f} h) new on g = ((new f refl refl refl, tt), tt)
+  held-step P Q (first {f = f} h) new on g = let y = new f refl refl refl in ((y, tt), (y, tt))
+  held-step P Q (keep {x = x} {q = r} h) new on g = (tt, every-map P Q (on refl) (x ∷ r) g)
+  held-step P Q (wait {f = f} {x = x} {q = r} h l) new on g =
+      let u = every-map P Q (on refl) (x ∷ r) g in (tt, (u .0, every-append Q r _ (u .1) (new f refl refl refl, tt)))
+  held-step P Q (swap {f = f} {x = x} z′ h) new on g = (tt, (on refl x (g .0), (new f refl refl refl, tt)))
+  held-step P Q (wipe h) new on g = (tt, tt)
+  held-step P Q (over h) new on g = (tt, tt)
+  held-step P Q (pass {y = y} {q = r} h) new on g = let u = every-map P Q (on refl) (y ∷ r) (g .1) in ((u .0, tt), u)
+  held-step P Q (beat {x = x} {q = r} h y v) new on g = (tt, every-map P Q (on refl) (x ∷ r) g)
+  held-step P Q (again {x = x} {q = r} h y v) new on g = let u = every-map P Q (on refl) (x ∷ r) g in ((u .0, tt), u)
+  held-step P Q (quit h y) new on g = (tt, tt)
+  held-step P Q (quit-pass {y = y} {q = r} h v) new on g = let u = every-map P Q (on refl) (y ∷ r) (g .1) in ((u .0, tt), u)
+
+  -- ==== a call that leaves it not subscribed sends nothing and leaves nothing queued
+
+  pub dropped-step : (n : ℕ) {e : Option (List ℕ)} {o a s t p : Bool} {q q′ : Queue} {es : List Seen}
+      → Eff z k k′ e o a s t p false q q′ es → n < k → (copies-among n es ≡ 0) × Gone n q′ k′
+  dropped-step n (rest h) l = (refl, omega arith)
+  dropped-step n (wipe h) l = (refl, omega arith)
+  dropped-step n (over h) l = (refl, omega arith)
+  dropped-step n (quit h u) l = (refl, omega arith)
 
   -- ==== a copy goes to a session that is subscribed before and after the call
 

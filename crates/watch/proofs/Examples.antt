@@ -1,11 +1,13 @@
 -- The words of demand 3 on small histories, computed. Assumes nothing.
 use Prim.Native.Nat.{ℕ}
-use mathlib.Core.Path.{_≡_, refl}
-use mathlib.Core.Bool.{Bool, true, false}
+use mathlib.Core.Path.{_≡_, refl, sym}
+use mathlib.Core.Bool.{Bool, true, false, true≢false}
 use mathlib.Core.List.{List, [], _∷_, _++_, map}
 use mathlib.Core.Option.{Option, none, some}
+use mathlib.Core.Logic.{_⊎_, inl, inr}
+use native.Mathlib.Omega.{arith}
 use lib.ListN.{replicate}
-use Rattle.watch.specs.Marks.{Seen, Mark, copies, tick-count, T, copies-due, frame-of, taken}
+use Rattle.watch.specs.Marks.{Seen, Mark, copies, tick-count, T, copies-due, frame-of, Held, taken, Demand3}
 
 -- ==== calls: it is a tick; it closes; the event's frame, if it is one that is taken; what it sends
 
@@ -84,3 +86,56 @@ the-events = refl
 
 pub all-ticks : tick-count (ticks 5 ++ closing ∷ nothing ∷ ticks 40) ≡ 45
 all-ticks = refl
+
+-- ==== histories that demand 3 rules out, although each copy goes to a session that is subscribed
+
+-- after so many events; was it subscribed, and is it
+abbrev at : ℕ → Bool → Bool → Mark → Mark
+at number subscribed still m = record {
+  number = number;
+  event = m .event;
+  took = m .took;
+  subscribed = subscribed;
+  still = still;
+  asked = m .asked;
+  closes = m .closes;
+  tick = m .tick;
+  sent = m .sent;
+}
+
+-- event n: does the session take it
+abbrev event-only : ℕ → Bool → Mark
+event-only n took = at n true true (a-call false false (some (n ∷ [])) took [])
+
+-- event 1 waits behind event 0; the link is lost; the server calls in again, and is sent event 1
+abbrev came-back : List Mark
+came-back =
+    at 0 true true happens
+    ∷ event-only 1 true
+    ∷ at 2 true false closing
+    ∷ at 2 false true nothing
+    ∷ at 2 true true (repeats 1)
+    ∷ []
+
+pub came-back-is-refused : Demand3 came-back → ⊥
+came-back-is-refused d =
+    let h = d .never-kept 1 (at 0 true true happens ∷ event-only 1 true ∷ []) (at 2 true false closing)
+    (at 2 false true nothing ∷ at 2 true true (repeats 1) ∷ []) refl refl (omega arith) in
+    omega arith
+
+-- event 0 is not taken, and is sent
+pub not-taken-is-refused : Demand3 (event-only 0 false ∷ at 1 true true (repeats 0) ∷ []) → ⊥
+not-taken-is-refused d = go ((d .fresh (event-only 0 false ∷ []) (at 1 true true (repeats 0)) [] refl) .0)
+  where
+    go : Held (copy-of 0) (event-only 0 false ∷ at 1 true true (repeats 0) ∷ []) → ⊥
+    go (inl h) = true≢false (sym (h .0 .took))
+    go (inr (inl h)) = true≢false (sym (h .0 .took))
+    go (inr (inr h)) = h
+
+-- event 0 is sent before it happens
+pub early-is-refused : Demand3 (at 0 true true (repeats 0) ∷ event-only 0 true ∷ []) → ⊥
+early-is-refused d = go ((d .fresh [] (at 0 true true (repeats 0)) (event-only 0 true ∷ []) refl) .0)
+  where
+    go : Held (copy-of 0) (at 0 true true (repeats 0) ∷ []) → ⊥
+    go (inl h) = true≢false (sym (h .0 .took))
+    go (inr h) = h

@@ -1,17 +1,17 @@
 -- What the calls of a whole history do to the notices of one kind to one session. Assumes nothing.
 use Prim.Native.Nat.{ℕ, suc, _+_, _-_, _*_, _/_, _≤_, _<_, min}
 use mathlib.Core.Path.{_≡_, refl, sym, _∙_, ap, subst}
-use mathlib.Core.Bool.{Bool, true, false, cond}
-use mathlib.Core.List.{List, [], _∷_, _++_}
+use mathlib.Core.Bool.{Bool, true, false, cond, true≢false}
+use mathlib.Core.List.{List, [], _∷_, _++_, append-assoc, append-nil}
 use mathlib.Core.Option.{Option, none, some}
 use mathlib.Core.Logic.{_⊎_, inl, inr}
 use native.Mathlib.Omega.{arith}
 use lib.Dec.{eqb}
 use lib.ListN.{length, length-append}
 use borrow.Author.Tests.{eq-eqb, ne-eqb}
-use Rattle.watch.specs.Marks.{Seen, Mark, copies-among, all-sent, copies, tick-count, ticks-open, or-later, frame-of, Every, taken}
-use Rattle.watch.specs.Course.{Queue, empty, busy, Rises, Course, end, call}
-use Rattle.watch.proofs.Calls.{Good, OpenAt, Gone, NotOpen, good-step, gone-step, Fate, shut, same, runs, ends, open-step, Start, not-yet, opens, single, start-step, Framed, all, framed-append, Says, frame-step, subscribed-step, credit, six, credit-step, Due, less, due-step, due-taken}
+use Rattle.watch.specs.Marks.{Seen, Mark, copies-among, all-sent, copies, tick-count, ticks-open, or-later, frame-of, Every, Origin, Stays, Held, taken}
+use Rattle.watch.specs.Course.{Queue, empty, busy, Eff, Rises, Course, end, call}
+use Rattle.watch.proofs.Calls.{Good, OpenAt, Gone, NotOpen, good-step, gone-step, Fate, shut, same, runs, ends, open-step, Start, not-yet, opens, single, start-step, all, every-append, held-step, dropped-step, subscribed-step, credit, six, credit-step, Due, less, due-step, due-taken}
 
 pub copies-append : (n : ℕ) (xs ys : List Seen) → copies-among n (xs ++ ys) ≡ copies-among n xs + copies-among n ys
 copies-append n [] ys = omega arith
@@ -94,22 +94,69 @@ counted n (b ∷ before) m later (call {k′ = k′} {q′ = q′} e r f c) g u 
 
 -- ==== the bytes
 
+-- that copy has the frame that F says
+abbrev Framed : (ℕ → Option (List ℕ)) → Seen → Type 0
+Framed F x = F (x .id) ≡ some (x .frame)
+
+abbrev is-event : Option (List ℕ) → Bool
+is-event none = false
+is-event (some f) = true
+
 -- the events of the history have the frames that F says
 pub framed : (F : ℕ → Option (List ℕ)) {z : Bool} {k : ℕ} {q : Queue} {ms : List Mark} → Course z k q ms
-    → ((n : ℕ) → k ≤ n → frame-of n ms ≡ F n) → Framed F (all q) → Framed F (all-sent ms)
+    → ((n : ℕ) → k ≤ n → frame-of n ms ≡ F n) → Every (Framed F) (all q) → Every (Framed F) (all-sent ms)
 framed F end u g = tt
 framed F (call {k = k} {k′ = k′} {m = m} {ms = ms} e r f c) u g =
     let y = go (m .event) r (λ n l. sym (ap (λ (i : ℕ). or-later (eqb i n) (frame-of n ms) (m .event)) e) ∙ u n l) in
-    let x = frame-step F f (y .0) g in
-    framed-append F (m .sent) (all-sent ms) (x .0) (framed F c (y .1) (x .1))
+    let x = held-step (Framed F) (Framed F) f (λ b h v w. y .0 b h) (λ w a h. h) g in
+    every-append (Framed F) (m .sent) (all-sent ms) (x .0) (framed F c (y .1) (x .1))
   where
     go : (o : Option (List ℕ)) → Rises k k′ o → ((n : ℕ) → k ≤ n → or-later (eqb k n) (frame-of n ms) o ≡ F n)
-        → Says F k o × ((n : ℕ) → k′ ≤ n → frame-of n ms ≡ F n)
-    go none h v = (tt, λ n l. v n (omega arith))
-    go (some b) h v = (
-      sym (rw (eq-eqb k k refl) at (v k (omega arith))),
+        → ((b : List ℕ) → o ≡ some b → F k ≡ some b) × ((n : ℕ) → k′ ≤ n → frame-of n ms ≡ F n)
+    go none h v = (λ b e. absurd (true≢false (sym (ap is-event e))), λ n l. v n (omega arith))
+    go (some a) h v = (
+      λ b e. sym (rw (eq-eqb k k refl) at (v k (omega arith))) ∙ e,
       λ n l. rw (ne-eqb k n (omega arith)) at (v n (omega arith)),
     )
+
+-- ==== where a copy comes from; `past` are the calls so far
+
+stays-on : (past : List Mark) (m : Mark) → m .still ≡ true → Stays past → Stays (past ++ m ∷ [])
+stays-on [] m e h = (e, tt)
+stays-on (y ∷ past) m e h = (h .0, stays-on past m e (h .1))
+
+held-on : (past : List Mark) (m : Mark) → m .still ≡ true → (x : Seen) → Held x past → Held x (past ++ m ∷ [])
+held-on [] m e x h = absurd h
+held-on (y ∷ past) m e x (inl h) = inl (h .0, stays-on (y ∷ past) m e (h .1))
+held-on (y ∷ past) m e x (inr h) = inr (held-on past m e x h)
+
+held-new : (past : List Mark) (m : Mark) → m .still ≡ true → (x : Seen) → Origin x m → Held x (past ++ m ∷ [])
+held-new [] m e x o = inl (o, (e, tt))
+held-new (y ∷ past) m e x o = inr (held-new past m e x o)
+
+held-call : {z : Bool} {k k′ : ℕ} {q q′ : Queue} (past : List Mark) (m : Mark) → m .number ≡ k
+    → Eff z k k′ (m .event) (m .took) (m .asked) (m .closes) (m .tick) (m .subscribed) (m .still) q q′ (m .sent)
+    → Every (λ x. Held x past) (all q) → Every (λ x. Held x (past ++ m ∷ [])) (m .sent) × Every (λ x. Held x (past ++ m ∷ [])) (all q′)
+held-call past m e f g =
+    held-step (λ x. Held x past) (λ x. Held x (past ++ m ∷ [])) f
+    (λ b u v w. held-new past m w _ (record { number = e; frame = u; took = v })) (held-on past m) g
+
+pub held : {z : Bool} {k : ℕ} {q : Queue} (past before : List Mark) (m : Mark) (later : List Mark) → Course z k q (before ++ m ∷ later)
+    → Every (λ x. Held x past) (all q) → Every (λ x. Held x ((past ++ before) ++ m ∷ [])) (m .sent)
+held past [] m later (call e r f c) g = rw (append-nil past) ((held-call past m e f g) .0)
+held past (b ∷ before) m later (call e r f c) g =
+    subst (λ (xs : List Mark). Every (λ x. Held x (xs ++ m ∷ [])) (m .sent)) (append-assoc past (b ∷ []) before)
+    (held (past ++ b ∷ []) before m later c ((held-call past b e f g) .1))
+
+-- ==== what came before a call that leaves the session not subscribed
+
+pub dropped : (n : ℕ) {z : Bool} {k : ℕ} {q : Queue} (before : List Mark) (c : Mark) (later : List Mark)
+    → Course z k q (before ++ c ∷ later) → c .still ≡ false → n < c .number → copies n (c ∷ later) ≡ 0
+dropped n [] c later (call {k = k} e r f h) w l =
+    let y = dropped-step n (rw w at f) (omega arith) in
+    let g = gone n h (y .1) in
+    omega (arith, copies-append n (c .sent) (all-sent later))
+dropped n (b ∷ before) c later (call e r f h) w l = dropped n before c later h w l
 
 -- ==== only to subscribers
 
@@ -139,7 +186,7 @@ module _ (n : ℕ) where
   late d empty g l = g
   late d (busy x c q) g l = omega arith
 
-  pub in-time : (d : ℕ) {k : ℕ} {q : Queue} {ms : List Mark} → Course false k q ms → Due n d q → Every (λ (x : Mark). x .still ≡ true) ms
+  pub in-time : (d : ℕ) {k : ℕ} {q : Queue} {ms : List Mark} → Course false k q ms → Due n d q → Stays ms
       → d ≤ tick-count ms → 0 < copies n ms
   in-time d {q = q} end g u l = absurd (late d q g l)
   in-time d (call {k = k} {k′ = k′} {q = q} {q′ = q′} {m = m} {ms = ms} e r f c) g u l =
@@ -154,7 +201,7 @@ module _ (n : ℕ) where
 
 -- taken by this call, sent within 840 ticks
 pub taken-in-time : {k : ℕ} {q : Queue} (before : List Mark) (m : Mark) (later : List Mark) → Course false k q (before ++ m ∷ later) → Good q k
-    → m .took ≡ true → Every (λ (x : Mark). x .still ≡ true) (m ∷ later) → 840 ≤ tick-count later → 0 < copies (m .number) (m ∷ later)
+    → m .took ≡ true → Stays (m ∷ later) → 840 ≤ tick-count later → 0 < copies (m .number) (m ∷ later)
 taken-in-time [] m later (call {k = k} {q′ = q′} e r f c) g t u l =
     subst (λ (n : ℕ). 0 < copies n (m ∷ later)) (sym e) (go (due-taken (rw t at f) g))
   where

@@ -7,7 +7,7 @@ use native.Mathlib.Omega.{arith}
 use lib.ListN.{length}
 use Rattle.watch.specs.Marks.{Mark, all-sent, copies, ticks-open, First, frame-of, taken, Demand3, InTime}
 use Rattle.watch.specs.Course.{empty, Course}
-use Rattle.watch.proofs.Histories.{copies-join, course-before, counted, framed, subscribers, bounded, taken-in-time}
+use Rattle.watch.proofs.Histories.{copies-join, course-before, counted, framed, held, dropped, subscribers, bounded, taken-in-time}
 
 -- what comes after a call that closes does not count
 ticks-to : (xs : List Mark) (c : Mark) (ys : List Mark) → c .closes ≡ true → ticks-open (xs ++ c ∷ ys) ≡ ticks-open xs
@@ -44,6 +44,8 @@ module _ {z : Bool} {k : ℕ} where
     plain = λ n before m later e f a. ap (copies n) e ∙ number-of n before m later (subst (Course z k empty) e c) f a;
     equal = framed (λ n. frame-of n ms) c (λ n l. refl) tt;
     never-again = λ n before m between d later e f a. closed-once n before m between d later (subst (Course z k empty) e c) f a;
+    never-kept = λ n before d later e f l. dropped n before d later (subst (Course z k empty) e c) f l;
+    fresh = λ before m later e. held [] before m later (subst (Course z k empty) e c) tt;
     only-subscribed = subscribers c;
   }
 

@@ -25,13 +25,13 @@ pub data Eff (z : Bool) (k k′ : ℕ) : Option (List ℕ) → Bool → Bool →
       → Eff z k k′ (some f) true false s t true true empty empty (record { id = k; frame = f } ∷ [])
   first : {f : List ℕ} {s t : Bool} → k′ ≡ suc k
       → Eff z k k′ (some f) true true s t true true empty (busy (record { id = k; frame = f }) 0 []) (record { id = k; frame = f } ∷ [])
-  -- one is open: it stays as it is, one more waits, the newest alone waits
-  keep : {e : Option (List ℕ)} {x : Seen} {c : ℕ} {q : List Seen} {p p′ : Bool} → k ≤ k′
-      → Eff z k k′ e false true false false p p′ (busy x c q) (busy x c q) []
-  wait : {f : List ℕ} {x : Seen} {c : ℕ} {q : List Seen} {p p′ : Bool} → k′ ≡ suc k → length q < 7
-      → Eff z k k′ (some f) true true false false p p′ (busy x c q) (busy x c (q ++ record { id = k; frame = f } ∷ [])) []
-  swap : {f : List ℕ} {x : Seen} {c : ℕ} {q : List Seen} {p p′ : Bool} → z ≡ true → k′ ≡ suc k
-      → Eff z k k′ (some f) true true false false p p′ (busy x c q) (busy x c (record { id = k; frame = f } ∷ [])) []
+  -- one is open, and the session stays subscribed: it stays as it is, one more waits, the newest alone waits
+  keep : {e : Option (List ℕ)} {x : Seen} {c : ℕ} {q : List Seen} {p : Bool} → k ≤ k′
+      → Eff z k k′ e false true false false p true (busy x c q) (busy x c q) []
+  wait : {f : List ℕ} {x : Seen} {c : ℕ} {q : List Seen} {p : Bool} → k′ ≡ suc k → length q < 7
+      → Eff z k k′ (some f) true true false false p true (busy x c q) (busy x c (q ++ record { id = k; frame = f } ∷ [])) []
+  swap : {f : List ℕ} {x : Seen} {c : ℕ} {q : List Seen} {p : Bool} → z ≡ true → k′ ≡ suc k
+      → Eff z k k′ (some f) true true false false p true (busy x c q) (busy x c (record { id = k; frame = f } ∷ [])) []
   -- all are gone; the open one is closed, and none waits, or the next goes out
   wipe : {e : Option (List ℕ)} {t : Bool} {x : Seen} {c : ℕ} {q : List Seen} {p : Bool} → k ≤ k′
       → Eff z k k′ e false true true t p false (busy x c q) empty []
@@ -40,8 +40,8 @@ pub data Eff (z : Bool) (k k′ : ℕ) : Option (List ℕ) → Bool → Bool →
   pass : {e : Option (List ℕ)} {t : Bool} {x y : Seen} {c : ℕ} {q : List Seen} → k ≤ k′
       → Eff z k k′ e false true true t true true (busy x c (y ∷ q)) (busy y 0 q) (y ∷ [])
   -- a tick: no copy, a copy, given up and none waits, given up and the next goes out
-  beat : {e : Option (List ℕ)} {x : Seen} {c : ℕ} {q : List Seen} {p p′ : Bool} → k ≤ k′ → (suc c ≡ 120 → ⊥) → (suc c % 20 ≡ 0 → ⊥)
-      → Eff z k k′ e false true false true p p′ (busy x c q) (busy x (suc c) q) []
+  beat : {e : Option (List ℕ)} {x : Seen} {c : ℕ} {q : List Seen} {p : Bool} → k ≤ k′ → (suc c ≡ 120 → ⊥) → (suc c % 20 ≡ 0 → ⊥)
+      → Eff z k k′ e false true false true p true (busy x c q) (busy x (suc c) q) []
   again : {e : Option (List ℕ)} {x : Seen} {c : ℕ} {q : List Seen} → k ≤ k′ → (suc c ≡ 120 → ⊥) → suc c % 20 ≡ 0
       → Eff z k k′ e false true false true true true (busy x c q) (busy x (suc c) q) (x ∷ [])
   quit : {e : Option (List ℕ)} {x : Seen} {c : ℕ} {p p′ : Bool} → k ≤ k′ → suc c ≡ 120

@@ -6,6 +6,7 @@ use mathlib.Core.Path.{_≡_}
 use mathlib.Core.Bool.{Bool, true, false, cond}
 use mathlib.Core.List.{List, [], _∷_, _++_}
 use mathlib.Core.Option.{Option, none, some}
+use mathlib.Core.Logic.{_⊎_}
 use lib.Dec.{eqb}
 use lib.ListN.{length}
 
@@ -86,6 +87,21 @@ abbrev pub Every {ℓ} : {A : Type ℓ} → (A → Type 0) → List A → Type 0
 Every P [] = Unit {0}
 Every P (x ∷ xs) = P x × Every P xs
 
+-- m is the call of that copy's event: it has its number and made its frame, and the session took it
+pub record Origin (x : Seen) (m : Mark) : Type 0 where
+  pub number : m .number ≡ x .id
+  pub frame : m .event ≡ some (x .frame)
+  pub took : m .took ≡ true
+
+-- after each of these calls the session is started and subscribed
+abbrev pub Stays : List Mark → Type 0
+Stays ms = Every (λ m. m .still ≡ true) ms
+
+-- its event is among these calls, and from it on the session stays started and subscribed
+abbrev pub Held : Seen → List Mark → Type 0
+Held x [] = ⊥
+Held x (m ∷ ms) = (Origin x m × Stays (m ∷ ms)) ⊎ Held x ms
+
 -- how many events the session took
 abbrev pub taken : List Mark → ℕ
 taken [] = 0
@@ -105,10 +121,16 @@ pub record Demand3 (ms : List Mark) : Type 0 where
   -- once a notice was sent and then closed, it never goes out again
   pub never-again : (n : ℕ) (before : List Mark) (m : Mark) (between : List Mark) (c : Mark) (later : List Mark)
       → ms ≡ (before ++ m ∷ between) ++ c ∷ later → First n before m → c .closes ≡ true → copies n (c ∷ later) ≡ 0
+  -- nor does one whose event came before a call that leaves the session not started and subscribed, whether it was sent or waited
+  pub never-kept : (n : ℕ) (before : List Mark) (c : Mark) (later : List Mark) → ms ≡ before ++ c ∷ later
+      → c .still ≡ false → n < c .number → copies n (c ∷ later) ≡ 0
+  -- every copy is of an event that the session took, by that call or an earlier one, and it stayed started and subscribed since
+  pub fresh : (before : List Mark) (m : Mark) (later : List Mark) → ms ≡ before ++ m ∷ later
+      → Every (λ x. Held x (before ++ m ∷ [])) (m .sent)
   -- none reaches a session that is not started and subscribed, before the call and after it
   pub only-subscribed : Every (λ m. 0 < length (m .sent) → (m .subscribed ≡ true) × (m .still ≡ true)) ms
 
 -- a kind of which all wait: what is taken goes out within 840 ticks, where the session stays started and subscribed
 abbrev pub InTime : List Mark → Type 0
 InTime ms = (before : List Mark) (m : Mark) (later : List Mark) → ms ≡ before ++ m ∷ later → m .took ≡ true
-    → Every (λ x. x .still ≡ true) (m ∷ later) → 840 ≤ tick-count later → 0 < copies (m .number) (m ∷ later)
+    → Stays (m ∷ later) → 840 ≤ tick-count later → 0 < copies (m .number) (m ∷ later)
