@@ -7,3 +7,4 @@ pub mod RowLaws
 pub mod Sessions
 pub mod Cuts
 pub mod Erase
+pub mod Framed

@@ -13,5 +13,6 @@ pub mod Hearing
 pub mod Steps
 pub mod World
 pub mod Calls
+pub mod Wire
 pub mod Reading
 pub mod Program
