@@ -8,3 +8,4 @@ pub mod Sessions
 pub mod Cuts
 pub mod Erase
 pub mod Framed
+pub mod Clean
