@@ -8,11 +8,11 @@ use mathlib.Core.List.{List, [], _∷_, _++_, map}
 use mathlib.Core.Option.{Option, none, some}
 use native.Mathlib.Omega.{arith}
 use lib.Dec.{leb, eqb}
-use lib.ListN.{length, getD, take, drop, length-append, length-take, length-drop}
+use lib.ListN.{length, getD, take, drop, length-append, length-take, length-drop, length-replicate}
 use lib.Seq.{take-all, take-take, length-take-le}
 use borrow.Author.Tests.{leb-true, eqb-true, eqb-false}
 use Rattle.model.specs.Limits.{header-length, identifier-length, time-length, message-longest, run-kept, idle-limit, given-up-at, copy-every}
-use Rattle.model.specs.Bytes.{NUL, within, dash, colon, is-digit, is-text, is-space, all, places, spaces, padded, decimal}
+use Rattle.model.specs.Bytes.{NUL, space, within, dash, colon, is-digit, is-text, is-space, all, places, spaces, padded, decimal}
 use Rattle.model.specs.Records.{is-record, payload, Item, number, text, time, item-length, payload-length, parts-from, parts, good-in-time, is-time-from, good-item, good-parts, good-payload, good-record, Settings, settings-items, settings-of, read-settings, tightening-items, tightening-of, identifier-in, scanned-items, Tool, scanned, tightening, read-tool}
 use Rattle.model.specs.Runs.{Run, empty-run, longer, Piece, cut, Message, is-flag, is-message, message-of, read-run}
 use Rattle.model.specs.Messages.{Effect, starts, stops, identifies, subscribes, unsubscribes, acknowledges, mirrors, Entry, table, listed, entry-of, gets-reply}
@@ -25,6 +25,9 @@ use Rattle.model.specs.Notices.{Deed, nothing, beats, news, asks, drops,
 use Rattle.model.specs.Row.{Tagged, tag, row, said}
 use Rattle.model.specs.Session.{Session, closed, opened, started, fresh, Copy, Emission, reply, copy, close, copies-to, deal, dealt, only}
 use Rattle.model.specs.Hearing.{message-error, started-standing, opened-standing, error-reply, accepted, carry-out, judged, hear, begin, hear-opened}
+use Rattle.model.specs.Hearing.{identifier-told, identifier-judged, identifier-heard}
+use Rattle.model.specs.Steps.{end-run, end-run-opened, Local, opening, hang-up, receives, tick, event, elsewhere, tick-at}
+use Rattle.model.specs.Steps.{receive-opened, receive, step, identifier-run, announces}
 use Rattle.model.specs.Wire.{Every, NoNUL, Framed, Answers, welcomes, refuses, accepts, mirrors as mirror, is-notice}
 use Rattle.model.proofs.Framed.{every-append, every-take, every-drop, Shown, nul-append, nul-spaces, nul-text, Text, text-spaces, CleanSettings, CleanEvent, framed-0002, framed-0004, framed-0005, framed-event, notice-event}
 
@@ -80,12 +83,12 @@ good-of : (kind : ℕ) (es : List Item) (slice : List ℕ) → good-record kind 
 unfolding good-record
 good-of kind es slice h = both (is-record kind slice) (good-payload es (payload slice)) h .1
 
-abbrev CleanStart : Option Settings → Type 0
+abbrev pub CleanStart : Option Settings → Type 0
 CleanStart none = Unit {0}
 CleanStart (some st) = CleanSettings st
 
 -- a start takes good settings only
-clean-start : (slice : List ℕ) → CleanStart (read-settings slice)
+pub clean-start : (slice : List ℕ) → CleanStart (read-settings slice)
 unfolding read-settings settings-of
 clean-start slice = go (good-record 3 settings-items slice) refl
   where
@@ -93,13 +96,13 @@ clean-start slice = go (good-record 3 settings-items slice) refl
     go true e = text-at settings-items (payload slice) 3 (omega arith) (good-of 3 settings-items slice e) (omega arith)
     go false e = tt
 
-abbrev CleanTool : Option Tool → Type 0
+abbrev pub CleanTool : Option Tool → Type 0
 CleanTool none = Unit {0}
 CleanTool (some (scanned x)) = Text x
 CleanTool (some (tightening x t)) = Text x × Text (t .time-stamp) × Text (t .change-time)
 
 -- and a tool record is good
-clean-tool : (slice : List ℕ) → CleanTool (read-tool slice)
+pub clean-tool : (slice : List ℕ) → CleanTool (read-tool slice)
 unfolding read-tool tightening-of good-payload
 clean-tool slice = go (good-record 1 tightening-items slice) (good-record 2 scanned-items slice) refl refl
   where
@@ -117,7 +120,7 @@ clean-tool slice = go (good-record 1 tightening-items slice) (good-record 2 scan
 
 -- ==== runs: a piece of bytes ends before its NUL, and so nothing that is kept has one
 
-nul-cut : (bs : List ℕ) → NoNUL ((cut bs) .bytes)
+pub nul-cut : (bs : List ℕ) → NoNUL ((cut bs) .bytes)
 unfolding cut
 nul-cut [] = tt
 nul-cut (b ∷ bs) = go (eqb b NUL) refl (nul-cut bs)
@@ -127,7 +130,7 @@ nul-cut (b ∷ bs) = go (eqb b NUL) refl (nul-cut bs)
     go true e h = tt
     go false e h = (eqb-false b NUL e, h)
 
-abbrev CleanRun : Run → Type 0
+abbrev pub CleanRun : Run → Type 0
 CleanRun r = NoNUL (r .kept)
 
 clean-longer : (r : Run) (bs : List ℕ) → CleanRun r → NoNUL bs → CleanRun (longer r bs)
@@ -218,13 +221,13 @@ passed x e size revision bs =
 
 -- ==== a subscription
 
-abbrev CleanNotice : Notice → Type 0
+abbrev pub CleanNotice : Notice → Type 0
 CleanNotice n = CleanEvent (n .event)
 
-abbrev CleanNotices : List Notice → Type 0
+abbrev pub CleanNotices : List Notice → Type 0
 CleanNotices ns = Every CleanNotice ns
 
-abbrev CleanSub : Subscription → Type 0
+abbrev pub CleanSub : Subscription → Type 0
 CleanSub unsubscribed = Unit {0}
 CleanSub (plain revision) = Unit {0}
 CleanSub (acked revision empty) = Unit {0}
@@ -306,17 +309,17 @@ pub data Says (o : Option Message) : List Emission → Type 0 where
 
 -- ==== a row of cells
 
-module _ {X E : Type 0} (act : ℕ → X → X × List E) (P : X → Type 0) (Q : E → Type 0)
-    (keeps : (i : ℕ) (x : X) → P x → P ((act i x) .0) × Every Q ((act i x) .1)) where
-  row-every : (i : ℕ) (xs : List X) → Every P xs → Every P (row act i xs)
-  row-every i [] h = tt
-  row-every i (x ∷ xs) h = (keeps i x (h .0) .0, row-every (suc i) xs (h .1))
+module _ {X E : Type 0} (act : ℕ → X → X × List E) (P : X → Type 0) where
+  pub row-every : ((i : ℕ) (x : X) → P x → P ((act i x) .0)) → (i : ℕ) (xs : List X) → Every P xs → Every P (row act i xs)
+  row-every keeps i [] h = tt
+  row-every keeps i (x ∷ xs) h = (keeps i x (h .0), row-every keeps (suc i) xs (h .1))
 
-  said-every : (i : ℕ) (xs : List X) → Every P xs → Every (λ t. Q (t .what)) (said act i xs)
-  said-every i [] h = tt
-  said-every i (x ∷ xs) h =
-      every-append (λ t. Q (t .what)) (tag i ((act i x) .1)) (said act (suc i) xs) (tagged ((act i x) .1) (keeps i x (h .0) .1))
-      (said-every (suc i) xs (h .1))
+  pub said-every : (Q : E → Type 0) → ((i : ℕ) (x : X) → P x → Every Q ((act i x) .1)) → (i : ℕ) (xs : List X) → Every P xs
+      → Every (λ t. Q (t .what)) (said act i xs)
+  said-every Q says i [] h = tt
+  said-every Q says i (x ∷ xs) h =
+      every-append (λ t. Q (t .what)) (tag i ((act i x) .1)) (said act (suc i) xs) (tagged ((act i x) .1) (says i x (h .0)))
+      (said-every Q says (suc i) xs (h .1))
     where
       tagged : (es : List E) → Every Q es → Every (λ t. Q (t .what)) (tag i es)
       tagged [] k = tt
@@ -324,16 +327,46 @@ module _ {X E : Type 0} (act : ℕ → X → X × List E) (P : X → Type 0) (Q 
 
 -- ==== a session
 
-abbrev CleanSession : Session → Type 0
+abbrev pub CleanSession : Session → Type 0
 CleanSession closed = Unit {0}
 CleanSession (opened idle run) = CleanRun run
 CleanSession (started idle run subs) = CleanRun run × Every CleanSub subs
 
-abbrev CleanCopy : Copy → Type 0
+abbrev pub CleanCopy : Copy → Type 0
 CleanCopy c = Framed (c .frame) × (is-notice (c .frame) ≡ true)
 
+-- a moment, as one session sees it
+abbrev pub CleanLocal : Local → Type 0
+CleanLocal opening = Unit {0}
+CleanLocal hang-up = Unit {0}
+CleanLocal (receives p) = NoNUL (p .bytes)
+CleanLocal tick = Unit {0}
+CleanLocal (event n) = CleanNotice n
+CleanLocal elsewhere = Unit {0}
+
+-- the run of a session, and the message that a piece of bytes completes there
+abbrev pub run-in : Session → Run
+run-in closed = empty-run
+run-in (opened idle run) = run
+run-in (started idle run subs) = run
+
+abbrev pub completes : Session → Piece → Option Message
+completes x p = cond (p .ends) (read-run (longer (run-in x) (p .bytes))) none
+
+abbrev pub heard : Local → Session → Option Message
+heard opening x = none
+heard hang-up x = none
+heard (receives p) x = completes x p
+heard tick x = none
+heard (event n) x = none
+heard elsewhere x = none
+
+abbrev pub CleanTold : Option (List ℕ) → Type 0
+CleanTold none = Unit {0}
+CleanTold (some x) = Text x
+
 -- what a session becomes, and what goes out to it
-abbrev Goes : Option Message → Session × List Emission → Type 0
+abbrev pub Goes : Option Message → Session × List Emission → Type 0
 Goes o r = CleanSession (r .0) × Says o (r .1)
 
 -- the same, where no reply goes out
@@ -369,8 +402,8 @@ module _ (st : Settings) (clean : CleanSettings st) where
 
     dealt-clean : (idle : ℕ) (run : Run) (subs : List Subscription) → CleanRun run → Every CleanSub subs → Still (dealt st idle run D subs)
     dealt-clean idle run subs h k = (
-      (h, row-every (deal st D) CleanSub CleanCopy deal-clean 0 subs k),
-      copied (said (deal st D) 0 subs) (said-every (deal st D) CleanSub CleanCopy deal-clean 0 subs k),
+      (h, row-every (deal st D) CleanSub (λ kind s c. deal-clean kind s c .0) 0 subs k),
+      copied (said (deal st D) 0 subs) (said-every (deal st D) CleanSub CleanCopy (λ kind s c. deal-clean kind s c .1) 0 subs k),
     )
       where
         copied : (cs : List (Tagged Copy)) → Every (λ c. CleanCopy (c .what)) cs → Every Follows (map copy cs)
@@ -440,3 +473,96 @@ module _ (st : Settings) (clean : CleanSettings st) where
       go true e none = ((tt, (tt, (tt, tt))), answers refl (welcomes st (eqb-true (m .mid) 0001 e)) (framed-0002 st clean) tt)
       go true e (some x) = (tt, answers refl (refuses (code x)) (framed-0004 (m .mid) (code x)) tt)
       go false e x = (tt, quiet tt)
+
+  -- the end of a run, and bytes
+  end-run-clean : (idle : ℕ) (subs : List Subscription) (o : Option Message) → CleanEnd o → Every CleanSub subs → Goes o (end-run st idle subs o)
+  end-run-clean idle subs none c h = ((tt, h), quiet tt)
+  end-run-clean idle subs (some m) c h = hear-clean subs m c h
+
+  end-run-opened-clean : (idle : ℕ) (o : Option Message) → Goes o (end-run-opened st idle o)
+  end-run-opened-clean idle none = (tt, quiet tt)
+  end-run-opened-clean idle (some m) = hear-opened-clean idle m
+
+  receive-clean : (idle : ℕ) (r : Run) (subs : List Subscription) (b : Bool) → CleanRun r → length (r .kept) ≤ run-kept → Every CleanSub subs
+      → Goes (cond b (read-run r) none) (receive st idle r subs b)
+  receive-clean idle r subs false h n k = ((h, k), quiet tt)
+  receive-clean idle r subs true h n k = end-run-clean idle subs (read-run r) (clean-end r h n) k
+
+  receive-opened-clean : (idle : ℕ) (r : Run) (b : Bool) → CleanRun r → Goes (cond b (read-run r) none) (receive-opened st idle r b)
+  receive-opened-clean idle r false h = (h, quiet tt)
+  receive-opened-clean idle r true h = end-run-opened-clean idle (read-run r)
+
+  tick-at-clean : (idle : ℕ) (r : Session × List Emission) → Still r → Goes none (tick-at idle r)
+  tick-at-clean idle r h = go (eqb idle idle-limit)
+    where
+      go : (b : Bool) → Goes none (cond b (closed, close ∷ []) r)
+      go true = still none (closed, close ∷ []) (tt, (tt, tt))
+      go false = still none r h
+
+  -- A STEP of a session
+  pub step-clean : (l : Local) (x : Session) → CleanLocal l → CleanSession x → Goes (heard l x) (step st l x)
+  step-clean opening closed c h = (tt, quiet tt)
+  step-clean hang-up closed c h = (tt, quiet tt)
+  step-clean (receives p) closed c h = (tt, quiet tt)
+  step-clean tick closed c h = (tt, quiet tt)
+  step-clean (event n) closed c h = (tt, quiet tt)
+  step-clean elsewhere closed c h = (tt, quiet tt)
+  step-clean opening (opened i run) c h = (h, quiet tt)
+  step-clean hang-up (opened i run) c h = (tt, quiet tt)
+  step-clean (receives p) (opened i run) c h = receive-opened-clean i (longer run (p .bytes)) (p .ends) (clean-longer run (p .bytes) h c)
+  step-clean tick (opened i run) c h = tick-at-clean (suc i) (opened (suc i) run, []) (h, tt)
+  step-clean (event n) (opened i run) c h = (h, quiet tt)
+  step-clean elsewhere (opened i run) c h = (h, quiet tt)
+  step-clean opening (started i run subs) c h = (h, quiet tt)
+  step-clean hang-up (started i run subs) c h = (tt, quiet tt)
+  step-clean (receives p) (started i run subs) c h =
+      receive-clean i (longer run (p .bytes)) subs (p .ends) (clean-longer run (p .bytes) (h .0) c)
+      (omega (arith, length-take run-kept (run .kept ++ p .bytes))) (h .1)
+  step-clean tick (started i run subs) c h =
+      tick-at-clean (suc i) (dealt st (suc i) run (λ kind. beats) subs) (dealt-clean (λ kind. beats) (λ kind. tt) (suc i) run subs (h .0) (h .1))
+  step-clean (event n) (started i run subs) c h =
+      still none (dealt st i run (only (kind-of (n .event)) (news n)) subs) (only-dealt i run (kind-of (n .event)) (news n) subs c (h .0) (h .1))
+  step-clean elsewhere (started i run subs) c h = (h, quiet tt)
+
+  -- the identifier that bytes make known
+  told-clean : (m : Message) (f : Effect) → CleanMessage m → all is-text (m .data-field) ≡ true → CleanTold (identifier-told m f)
+  told-clean m starts c h = tt
+  told-clean m stops c h = tt
+  told-clean m (identifies n) c h =
+      let room = identifier-length - length (m .data-field) in
+      let short = c .short in
+      record {
+        no-NUL = nul-append (m .data-field) (spaces room) (nul-text (m .data-field) h) (nul-spaces room);
+        short = omega (arith, length-append (m .data-field) (spaces room), length-replicate room space);
+      }
+  told-clean m (subscribes kind n) c h = tt
+  told-clean m (unsubscribes kind n) c h = tt
+  told-clean m (acknowledges kind) c h = tt
+  told-clean m mirrors c h = tt
+
+  heard-clean : (subs : List Subscription) (m : Message) → CleanMessage m → CleanTold (identifier-heard st subs m)
+  unfolding error-of
+  heard-clean subs m c = by-entry (entry-of (m .mid))
+    where
+      by-error : (o : Option Entry) (e : Option Error) → tested (started-standing st subs) o (m .size) (m .revision) (m .data-field) ≡ e
+          → CleanTold (identifier-judged m o e)
+      by-error o (some e) q = tt
+      by-error none none q = tt
+      by-error (some f) none q =
+          told-clean m (f .effect) c (passed (started-standing st subs) f (m .size) (m .revision) (m .data-field) q .1)
+
+      by-entry : (o : Option Entry)
+          → CleanTold (identifier-judged m o (tested (started-standing st subs) o (m .size) (m .revision) (m .data-field)))
+      by-entry o = by-error o (tested (started-standing st subs) o (m .size) (m .revision) (m .data-field)) refl
+
+  pub announces-clean : (p : Piece) (x : Session) → NoNUL (p .bytes) → CleanSession x → CleanTold (announces st p x)
+  announces-clean p closed c h = tt
+  announces-clean p (opened i run) c h = tt
+  announces-clean p (started i run subs) c h =
+      go (p .ends) (read-run (longer run (p .bytes)))
+      (clean-end (longer run (p .bytes)) (clean-longer run (p .bytes) (h .0) c) (omega (arith, length-take run-kept (run .kept ++ p .bytes))))
+    where
+      go : (b : Bool) (o : Option Message) → CleanEnd o → CleanTold (cond b (identifier-run st subs o) none)
+      go true none k = tt
+      go true (some m) k = heard-clean subs m k
+      go false o k = tt

@@ -9,3 +9,4 @@ pub mod Cuts
 pub mod Erase
 pub mod Framed
 pub mod Clean
+pub mod Wire
