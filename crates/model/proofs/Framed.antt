@@ -1,15 +1,15 @@
 -- The frames that we write, as a line server reads them: no NUL in them, and the length that they begin with is their own. It holds of
 -- every frame whose fields are numbers in so many digits, whatever the number, and texts without NUL. Assumes nothing.
 use Prim.Native.Nat.{ℕ, zero, suc, _+_, _*_, _/_, _%_, _≤_, _<_}
-use mathlib.Core.Path.{_≡_, refl, _∙_, ap}
-use mathlib.Core.Bool.{Bool, true, false, cond, _&&_, and-eq-true-iff}
+use mathlib.Core.Path.{_≡_, refl, _∙_}
+use mathlib.Core.Bool.{Bool, true, false, cond, and-eq-true-iff}
 use mathlib.Core.List.{List, [], _∷_, _++_}
 use native.Mathlib.Omega.{arith}
 use lib.Dec.{leb, eqb}
-use lib.ListN.{length, take, drop, replicate, length-append}
-use borrow.Author.Tests.{le-leb, leb-true, eqb-true}
+use lib.ListN.{length, take, length-append}
+use borrow.Author.Tests.{le-leb, leb-true}
 use Rattle.model.specs.Limits.{header-length, identifier-length}
-use Rattle.model.specs.Bytes.{NUL, space, digit-0, digit-1, is-digit, is-text, all, places, spaces, decimal, digits}
+use Rattle.model.specs.Bytes.{NUL, space, digit-0, digit-1, is-digit, is-text, all, spaces, decimal, digits}
 use Rattle.model.specs.Records.{Settings}
 use Rattle.model.specs.Events.{Event, identified, tightened}
 use Rattle.model.specs.Frames.{header, frame, Field, number, text, value, fields-from, fields, controller-fields}
@@ -27,11 +27,6 @@ module _ {A : Type 0} (P : A → Type 0) where
   every-take zero xs h = tt
   every-take (suc n) [] h = tt
   every-take (suc n) (x ∷ xs) h = (h .0, every-take n xs (h .1))
-
-  pub every-drop : (n : ℕ) (xs : List A) → Every P xs → Every P (drop n xs)
-  every-drop zero xs h = h
-  every-drop (suc n) [] h = tt
-  every-drop (suc n) (x ∷ xs) h = every-drop n xs (h .1)
 
 -- ==== bytes that are no NUL
 

@@ -9,4 +9,5 @@ pub mod Cuts
 pub mod Erase
 pub mod Framed
 pub mod Clean
+pub mod Sent
 pub mod Wire

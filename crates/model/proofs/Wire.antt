@@ -1,7 +1,7 @@
--- What a call sends, whatever came before it: frames that a line server reads alike by their NUL and by their length, and at most one reply,
--- the first of them, to the session whose bytes completed the message that it answers. Assumes nothing.
+-- What a call sends, whatever came before it: frames that a line server reads alike by their NUL and by their length, and at most one
+-- reply, the first of them, to the session whose bytes completed the message that it answers. Assumes nothing.
 use Prim.Native.Nat.{ℕ, zero, suc, _+_, _<_}
-use mathlib.Core.Path.{_≡_, refl, sym, ap, subst, _∙_}
+use mathlib.Core.Path.{_≡_, refl, _∙_, ap, subst}
 use mathlib.Core.Bool.{Bool, true, false, cond}
 use mathlib.Core.List.{List, [], _∷_, _++_, append-nil}
 use mathlib.Core.Option.{Option, none, some}
@@ -9,19 +9,23 @@ use native.Mathlib.Omega.{arith}
 use lib.Dec.{eqb}
 use lib.ListN.{getD, replicate}
 use borrow.Author.Tests.{eq-eqb, ne-eqb}
-use Rattle.model.specs.Limits.{session-count, identifier-length}
+use Rattle.model.specs.Limits.{session-count}
 use Rattle.model.specs.Bytes.{NUL, is-space, all}
 use Rattle.model.specs.Records.{Settings, read-settings, Tool, scanned, tightening, read-tool}
 use Rattle.model.specs.Runs.{Piece, cut, Message}
 use Rattle.model.specs.Events.{Event, identified, tightened, identifier-of}
 use Rattle.model.specs.Row.{Tagged, tag, said}
-use Rattle.model.specs.Session.{Session, closed, opened, started, Emission, reply, copy, close}
-use Rattle.model.specs.Steps.{Local, opening, hang-up, receives, tick, event, elsewhere, step as session-step, announces}
-use Rattle.model.specs.World.{World, session-at, Moment, begins, opens, hangs-up, hears, ticks, happens, local, each, sessions-after, begun, in-force-after, next, emits, after, emitted}
-use Rattle.model.specs.Calls.{Call, start, open-session, hang-up-session, bytes, one-tick, tool, Lent, refusal, settled, told, reported, moments, answered, step}
+use Rattle.model.specs.Session.{Session, closed, opened, started, Emission, reply}
+use Rattle.model.specs.Steps.{opening, hang-up, receives, elsewhere, step as session-step, announces}
+use Rattle.model.specs.World.{World, session-at, Moment, begins, opens, hangs-up, hears, ticks, happens, local, each}
+use Rattle.model.specs.World.{sessions-after, begun, moved, in-force-after, next, emits, after, emitted}
+use Rattle.model.specs.Calls.{Call, start, open-session, hang-up-session, bytes, one-tick, tool, Lent, refusal}
+use Rattle.model.specs.Calls.{settled, told, reported, moments, answered, step}
 use Rattle.model.specs.Wire.{Every, NoNUL, Framed, Answers}
 use Rattle.model.proofs.Framed.{every-append, Text, text-spaces, CleanSettings, CleanEvent}
-use Rattle.model.proofs.Clean.{CleanStart, clean-start, CleanTool, clean-tool, nul-cut, Follows, Says, quiet, answers, row-every, said-every, CleanSession, CleanLocal, completes, heard, CleanTold, step-clean, announces-clean}
+use Rattle.model.proofs.Clean.{CleanStart, clean-start, CleanTool, clean-tool, nul-cut}
+use Rattle.model.proofs.Sent.{Follows, Says, quiet, answers, row-every, said-every, CleanSession, CleanLocal, completes, heard}
+use Rattle.model.proofs.Sent.{CleanTold, step-clean, announces-clean}
 
 -- ==== the world, and a moment
 
@@ -74,9 +78,10 @@ module _ (w : World) (h : CleanWorld w) where
   sessions-clean : (m : Moment) → CleanMoment m → Every CleanSession (sessions-after w m)
   sessions-clean m c =
       row-every (each w m) CleanSession
-      (λ s x k. step-clean (w .settings) (h .settings) (local (w .events) m s) x (local-clean (w .events) m s c) k .0) 0 (w .sessions) (h .sessions)
+      (λ s x k. step-clean (w .settings) (h .settings) (local (w .events) m s) x (local-clean (w .events) m s c) k .0)
+      0 (w .sessions) (h .sessions)
 
-  moved-clean : (m : Moment) → CleanMoment m → CleanWorld (record { settings = w .settings; in-force = w .in-force; last = w .last; sessions = sessions-after w m; events = w .events })
+  moved-clean : (m : Moment) → CleanMoment m → CleanWorld (moved w m)
   moved-clean m c = record { settings = h .settings; in-force = h .in-force; sessions = sessions-clean m c }
 
   next-clean : (m : Moment) → CleanMoment m → CleanWorld (next w m)
@@ -138,7 +143,8 @@ module _ (st : Settings) (clean : CleanSettings st) (n : ℕ) (p : Piece) (c : N
   later-silent i [] h = refl
   later-silent i (x ∷ xs) h = rw (other-silent i x (λ e. omega arith)) (later-silent (suc i) xs (omega arith))
 
-  hears-speaks : (xs : List Session) (i j : ℕ) → i + j ≡ n → Every CleanSession xs → Speaks n (completes (getD xs j closed) p) (said hearing i xs)
+  hears-speaks : (xs : List Session) (i j : ℕ) → i + j ≡ n → Every CleanSession xs
+      → Speaks n (completes (getD xs j closed) p) (said hearing i xs)
   hears-speaks [] i j e h = none-replies tt
   hears-speaks (x ∷ xs) i zero e h =
       let k : i ≡ n = omega arith in
@@ -261,16 +267,19 @@ sends-nothing w one-tick = tt
 sends-nothing w (tool slice) = tt
 
 done-sends : (w : World) (c : Call) → CleanWorld w → Sends w c (emitted w (moments w c))
-done-sends w (start slice) h = emitted-silent w (moments w (start slice)) h (moments-clean w (start slice) h) (settled-unheard (read-settings slice))
+done-sends w (start slice) h =
+    emitted-silent w (moments w (start slice)) h (moments-clean w (start slice) h) (settled-unheard (read-settings slice))
 done-sends w (open-session s) h = emitted-silent w (moments w (open-session s)) h (tt, tt) (tt, tt)
 done-sends w (hang-up-session s) h = emitted-silent w (moments w (hang-up-session s)) h (tt, tt) (tt, tt)
 done-sends w (bytes s bs) h =
     let m = hears s (cut bs) in
     let o = announces (w .settings) (cut bs) (session-at w s) in
-    speaks-append s (emitted (next w m) (told o)) (hears-speaks (w .settings) (h .settings) s (cut bs) (nul-cut bs) (w .sessions) 0 s (omega arith) (h .sessions))
+    speaks-append s (emitted (next w m) (told o))
+    (hears-speaks (w .settings) (h .settings) s (cut bs) (nul-cut bs) (w .sessions) 0 s (omega arith) (h .sessions))
     (emitted-silent (next w m) (told o) (next-clean w h m (nul-cut bs)) (moments-clean w (bytes s bs) h .1) (told-unheard o))
 done-sends w one-tick h = emitted-silent w (moments w one-tick) h (tt, tt) (tt, tt)
-done-sends w (tool slice) h = emitted-silent w (moments w (tool slice)) h (moments-clean w (tool slice) h) (reported-unheard w (read-tool slice))
+done-sends w (tool slice) h =
+    emitted-silent w (moments w (tool slice)) h (moments-clean w (tool slice) h) (reported-unheard w (read-tool slice))
 
 answered-sends : (w : World) (c : Call) (n : ℕ) → CleanWorld w → CleanWorld ((answered w c n) .0) × Sends w c ((answered w c n) .2)
 answered-sends w c zero h = (after-clean w (moments w c) h (moments-clean w c h), done-sends w c h)
