@@ -10,3 +10,5 @@ pub mod Product
 pub mod Exports
 pub mod Cases
 pub mod Examples
+pub mod Wire
+pub mod Receivers

@@ -116,7 +116,7 @@ same-test a b n = go (eqb a b) refl
     go true e = eq-eqb (n + a) (n + b) (ap (n +_) (eqb-true a b e))
     go false e = ne-eqb (n + a) (n + b) (λ z. eqb-false a b e (omega arith))
 
-without-NUL : (frame : List ℕ) → take (length (frame ++ NUL ∷ []) - 1) (frame ++ NUL ∷ []) ≡ frame
+pub without-NUL : (frame : List ℕ) → take (length (frame ++ NUL ∷ []) - 1) (frame ++ NUL ∷ []) ≡ frame
 without-NUL frame = let n = length-append frame (NUL ∷ []) in take-at frame (NUL ∷ []) (length (frame ++ NUL ∷ []) - 1) (omega arith)
 
 module _ (s : ℕ) (h : s < 4) where

@@ -4,3 +4,4 @@ pub mod Output
 pub mod Demand
 pub mod Product
 pub mod Exports
+pub mod Wire
