@@ -85,7 +85,8 @@ count-all [] h zero n = refl
 count-all [] h (suc more) n = refl
 count-all (f ∷ fs) h zero n = absurd (omega arith)
 count-all (f ∷ fs) h (suc more) n =
-    ap (count-off (suc more)) (append-snoc f NUL (joined fs)) ∙ count-next more f (joined fs) (h .0) ∙ ap (f ∷_) (count-all fs (h .1) more (omega arith))
+    ap (count-off (suc more)) (append-snoc f NUL (joined fs))
+    ∙ count-next more f (joined fs) (h .0) ∙ ap (f ∷_) (count-all fs (h .1) more (omega arith))
 
 -- ==== the frames of a history
 
@@ -93,11 +94,13 @@ module _ (s : ℕ) (low : s < session-count) where
   abbrev Holds : List ℕ → List (List ℕ) → Type 0
   Holds bs fs = (bs ≡ joined fs) × Every Framed fs
 
-  holds-one : (r : Read) (rs : List Read) → Whole r → Holds (payloads-to s rs) (frames-read s rs) → Holds (payloads-to s (r ∷ rs)) (frames-read s (r ∷ rs))
+  holds-one : (r : Read) (rs : List Read) → Whole r → Holds (payloads-to s rs) (frames-read s rs)
+      → Holds (payloads-to s (r ∷ rs)) (frames-read s (r ∷ rs))
   holds-one r rs (a-frame t frame u f) ih =
       rw (without-NUL frame) (go (eqb (256 + t) (256 + s)))
     where
-      go : (b : Bool) → Holds (cond b ((frame ++ NUL ∷ []) ++ payloads-to s rs) (payloads-to s rs)) (cond b (frame ∷ frames-read s rs) (frames-read s rs))
+      go : (b : Bool) → let bs = payloads-to s rs in let fs = frames-read s rs in
+          Holds (cond b ((frame ++ NUL ∷ []) ++ bs) bs) (cond b (frame ∷ fs) fs)
       go true = (ap ((frame ++ NUL ∷ []) ++_) (ih .0), (f, ih .1))
       go false = ih
   holds-one r rs (an-order t u) ih = rw (ne-eqb (512 + t) (256 + s) (λ e. omega arith)) ih
@@ -169,7 +172,9 @@ made c = record {
 }
 
 abbrev before : List ℕ
-before = run 0 (map asked (made (bytes 0 (frame-text "0020000")) ∷ made (bytes 0 (frame-text "A" ++ NUL ∷ [])) ∷ made (open-session 0) ∷ []))
+before =
+    run 0
+    (map asked (made (bytes 0 (frame-text "0020000")) ∷ made (bytes 0 (frame-text "A" ++ NUL ∷ [])) ∷ made (open-session 0) ∷ []))
 
 abbrev mid-read : Option Message → ℕ
 mid-read none = 0

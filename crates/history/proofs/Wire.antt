@@ -1,9 +1,9 @@
--- WHAT A LINE SERVER SEES, OF THE PRODUCT: whatever calls are made after a start that is done, whatever they are lent, and only they write the
--- table. Each frame is read alike by its NUL and by its length; a reply is the first that its call wrote, and answers the message that this
--- call completed, to the session that sent it. Assumes nothing.
+-- WHAT A LINE SERVER SEES, OF THE PRODUCT: whatever calls are made after a start that is done, whatever they are lent, and only they write
+-- the table. Each frame is read alike by its NUL and by its length; a reply is the first that its call wrote, and answers the message that
+-- this call completed, to the session that sent it. Assumes nothing.
 use Prim.Native.Nat.{ℕ, zero, suc, _+_, _≤_, _<_}
 use mathlib.Core.Path.{_≡_, refl, sym, _∙_, ap, subst}
-use mathlib.Core.Bool.{Bool, true, false, cond, _&&_, true≢false}
+use mathlib.Core.Bool.{Bool, true, false, cond, true≢false}
 use mathlib.Core.List.{List, [], _∷_, _++_, map}
 use mathlib.Core.Option.{Option, none, some}
 use native.Mathlib.Omega.{arith}
@@ -15,12 +15,12 @@ use Rattle.model.specs.Bytes.{NUL}
 use Rattle.model.specs.Records.{Settings, payload, settings-of, read-settings, Tool, scanned, tightening, read-tool}
 use Rattle.model.specs.Runs.{Run, empty-run, longer, Piece, cut, consumed-by, Message, read-run}
 use Rattle.model.specs.Messages.{Effect, starts, stops, identifies, subscribes, unsubscribes, acknowledges, mirrors, Entry, entry-of, Error}
-use Rattle.model.specs.Events.{Event, identified, tightened, identifier-of}
+use Rattle.model.specs.Events.{Event, identified, tightened, identifier-of, Notice}
 use Rattle.model.specs.Notices.{Subscription, beats}
 use Rattle.model.specs.Row.{Tagged}
 use Rattle.model.specs.Session.{Session, closed, opened, started, is-closed, Emission, reply, copy, close, dealt}
 use Rattle.model.specs.Hearing.{message-error, started-standing, opened-standing, carry-out, judged, begin}
-use Rattle.model.specs.Steps.{end-run, end-run-opened, Local, opening, hang-up, receives, tick, event, elsewhere, step as session-step, announces}
+use Rattle.model.specs.Steps.{end-run, end-run-opened, opening, hang-up, receives, tick, event, elsewhere, step as session-step, announces}
 use Rattle.model.specs.World.{World, session-at, Moment, begins, opens, hangs-up, hears, ticks, happens, local, each, begun, next, after}
 use Rattle.model.specs.Calls.{Call, start, open-session, hang-up-session, bytes, one-tick, tool, Lent, refusal, settled, told, reported}
 use Rattle.model.specs.Calls.{Answer as ModelAnswer, answered, step}
@@ -31,7 +31,8 @@ use Rattle.model.proofs.Sessions.{session-next}
 use Rattle.model.proofs.Cuts.{longer-longer}
 use Rattle.model.proofs.Clean.{nul-cut}
 use Rattle.model.proofs.Sent.{Follows, completes}
-use Rattle.model.proofs.Wire.{CleanWorld, begun-clean, settings-clean, Silent, Speaks, none-replies as none-speaks, replies as speaks, Sends, step-sends}
+use Rattle.model.proofs.Wire.{CleanWorld, begun-clean, settings-clean, Silent, Speaks, none-replies as none-speaks, replies as speaks}
+use Rattle.model.proofs.Wire.{Sends, step-sends}
 use Rattle.table.specs.Table.{decode, Table}
 use Rattle.refusal.proofs.Numbers.{start-passes}
 use Rattle.controller.specs.Contract.{model-answer}
@@ -42,7 +43,8 @@ use Rattle.controller.proofs.Modelled.{lending, one-call}
 use Rattle.history.specs.Turns.{Turn}
 use Rattle.history.specs.Reading.{run-with, run}
 use Rattle.history.specs.Output.{read-output, as-read, record-of}
-use Rattle.history.specs.Wire.{Whole, a-frame, an-order, asked, Completes, NoReply, a-notice, to-close, Replies, none-replies, replies, OnTheWire, InTurn}
+use Rattle.history.specs.Wire.{Whole, a-frame, an-order, asked, NoReply, a-notice, to-close, Replies, none-replies, replies}
+use Rattle.history.specs.Wire.{OnTheWire, InTurn}
 use Rattle.history.proofs.Output.{read-written}
 use Rattle.history.proofs.Turns.{open-passed}
 use Rattle.history.proofs.Product.{world-begun}
@@ -88,16 +90,19 @@ module _ (st : Settings) where
       go true (some x) = refl
       go false x = refl
 
-  receives-kept : (bs : List ℕ) (p : Piece) (x : Session) → Kept bs x → Kept (cond (p .ends) [] (bs ++ p .bytes)) ((session-step st (receives p) x) .0)
+  abbrev Received : List ℕ → List ℕ → Session → Bool → Type 0
+  Received bs more x ends = Kept (cond ends [] (bs ++ more)) ((session-step st (receives (record { bytes = more; ends = ends })) x) .0)
+
+  receives-kept : (bs : List ℕ) (p : Piece) (x : Session) → Kept bs x → Received bs (p .bytes) x (p .ends)
   receives-kept bs p closed k = tt
   receives-kept bs p (opened i run) k = go (p .ends)
     where
-      go : (b : Bool) → Kept (cond b [] (bs ++ p .bytes)) ((session-step st (receives (record { bytes = p .bytes; ends = b })) (opened i run)) .0)
+      go : (b : Bool) → Received bs (p .bytes) (opened i run) b
       go true = end-opened-kept i (read-run (longer run (p .bytes)))
       go false = longer-kept run bs (p .bytes) k
   receives-kept bs p (started i run subs) k = go (p .ends)
     where
-      go : (b : Bool) → Kept (cond b [] (bs ++ p .bytes)) ((session-step st (receives (record { bytes = p .bytes; ends = b })) (started i run subs)) .0)
+      go : (b : Bool) → Received bs (p .bytes) (started i run subs) b
       go true = end-kept i subs (read-run (longer run (p .bytes)))
       go false = longer-kept run bs (p .bytes) k
 
@@ -130,10 +135,10 @@ module _ (st : Settings) where
       go true = tt
       go false = k
 
-  event-kept : (bs : List ℕ) (k : ℕ) (e : Event) (x : Session) → Kept bs x → Kept bs ((session-step st (event (record { id = k; event = e })) x) .0)
-  event-kept bs n e closed k = tt
-  event-kept bs n e (opened i run) k = k
-  event-kept bs n e (started i run subs) k = k
+  event-kept : (bs : List ℕ) (n : Notice) (x : Session) → Kept bs x → Kept bs ((session-step st (event n) x) .0)
+  event-kept bs n closed k = tt
+  event-kept bs n (opened i run) k = k
+  event-kept bs n (started i run subs) k = k
 
 -- ==== a moment, and a call
 
@@ -150,7 +155,9 @@ module _ (w : World) (m : Moment) (four : length (w .sessions) ≡ 4) where
 module _ (w : World) (four : length (w .sessions) ≡ 4) (f : ℕ → List ℕ) (k : Runs w f) where
   -- an event leaves every run as it is
   happens-runs : (e : Event) → Runs (next w (happens e)) f
-  happens-runs e = next-runs w (happens e) four f f k (λ s x. event-kept (w .settings) (f s) (w .events) e (session-at w s) x)
+  happens-runs e =
+      let n : Notice = record { id = w .events; event = e } in
+      next-runs w (happens e) four f f k (λ s x. event-kept (w .settings) (f s) n (session-at w s) x)
 
   told-runs : (o : Option (List ℕ)) → Runs (after w (told o)) f
   told-runs none = k
@@ -189,7 +196,8 @@ module _ (w : World) (four : length (w .sessions) ≡ 4) (f : ℕ → List ℕ) 
   hears-runs t p = next-runs w (hears t p) four f (heard-by t p) k (λ s x. go s (eqb s t) x)
     where
       go : (s : ℕ) (b : Bool) → Kept (f s) (session-at w s)
-          → Kept (run-with (cond b (some p) none) false (f s)) ((session-step (w .settings) (cond b (receives p) elsewhere) (session-at w s)) .0)
+          → let x = session-step (w .settings) (cond b (receives p) elsewhere) (session-at w s) in
+          Kept (run-with (cond b (some p) none) false (f s)) (x .0)
       go s true x = receives-kept (w .settings) (f s) p (session-at w s) x
       go s false x = elsewhere-kept (w .settings) (f s) (session-at w s) x
 
@@ -214,8 +222,9 @@ call-runs l w c past four k = go c (refusal l w c) refl
     go (open-session t) zero e = opens-runs w four f k t (open-passed l w t e)
     go (hang-up-session t) zero e = hangs-up-runs w four f k t
     go (bytes t bs) zero e =
-        told-runs (next w (hears t (cut bs))) (length-row (each w (hears t (cut bs))) 0 (w .sessions) ∙ four) (heard-by w four f k t (cut bs))
-        (hears-runs w four f k t (cut bs)) (announces (w .settings) (cut bs) (session-at w t))
+        let p = cut bs in
+        told-runs (next w (hears t p)) (length-row (each w (hears t p)) 0 (w .sessions) ∙ four) (heard-by w four f k t p)
+        (hears-runs w four f k t p) (announces (w .settings) p (session-at w t))
     go one-tick zero e = ticks-runs w four f k
     go (tool slice) zero e = reported-runs w four f k (read-tool slice)
 
@@ -235,19 +244,19 @@ cut-taken (b ∷ bs) e = go (eqb b NUL) refl (λ q. cut-taken bs q) e
     go true z ih q = ap (_∷ []) (eqb-true b NUL z)
     go false z ih q = ap (b ∷_) (ih q)
 
+abbrev Completed : List ℕ → List ℕ → Message → Bool → Type 0
+Completed bs more m ends = (ends ≡ true) × (read-run (longer empty-run (bs ++ more)) ≡ some m)
+
+ended : (run : Run) (bs more : List ℕ) (m : Message) → longer empty-run bs ≡ run
+    → (b : Bool) → cond b (read-run (longer run more)) none ≡ some m → Completed bs more m b
+ended run bs more m k true e = (refl, ap read-run (longer-kept run bs more k) ∙ e)
+ended run bs more m k false e = absurd (let z : _≡_ {A = ℕ} 0 1 = cc in omega arith)
+
 completed : (x : Session) (bs : List ℕ) (p : Piece) (m : Message) → Kept bs x → completes x p ≡ some m
-    → (p .ends ≡ true) × (read-run (longer empty-run (bs ++ p .bytes)) ≡ some m)
+    → Completed bs (p .bytes) m (p .ends)
 completed closed bs p m k e = absurd (let z : _≡_ {A = ℕ} 0 1 = cc in omega arith)
-completed (opened i run) bs p m k e = go (p .ends) e
-  where
-    go : (b : Bool) → cond b (read-run (longer run (p .bytes))) none ≡ some m → (b ≡ true) × (read-run (longer empty-run (bs ++ p .bytes)) ≡ some m)
-    go true q = (refl, ap read-run (longer-kept run bs (p .bytes) k) ∙ q)
-    go false q = absurd (let z : _≡_ {A = ℕ} 0 1 = cc in omega arith)
-completed (started i run subs) bs p m k e = go (p .ends) e
-  where
-    go : (b : Bool) → cond b (read-run (longer run (p .bytes))) none ≡ some m → (b ≡ true) × (read-run (longer empty-run (bs ++ p .bytes)) ≡ some m)
-    go true q = (refl, ap read-run (longer-kept run bs (p .bytes) k) ∙ q)
-    go false q = absurd (let z : _≡_ {A = ℕ} 0 1 = cc in omega arith)
+completed (opened i run) bs p m k e = ended run bs (p .bytes) m k (p .ends) e
+completed (started i run subs) bs p m k e = ended run bs (p .bytes) m k (p .ends) e
 
 -- ==== the records of what goes out
 
@@ -302,13 +311,14 @@ module _ (past : List Made) (m : Made) (w : World) where
       })
       a (no-replies es h)
 
-  call-replies : (l : Lent) → model-answer (m .answer) ≡ (step l w (m .call)) .1 → Below 4 ((step l w (m .call)) .2)
-      → Runs w (λ t. run t (map asked past)) → Sends w (m .call) ((step l w (m .call)) .2) → Replies past m (map record-of ((step l w (m .call)) .2))
+  call-replies : (l : Lent) → let q = step l w (m .call) in
+      model-answer (m .answer) ≡ q .1 → Below 4 (q .2) → Runs w (λ t. run t (map asked past)) → Sends w (m .call) (q .2)
+      → Replies past m (map record-of (q .2))
   unfolding step
   call-replies l a b k h = go (m .call) (refusal l w (m .call)) refl a b h
     where
-      go : (c : Call) (n : ℕ) → m .call ≡ c → model-answer (m .answer) ≡ (answered w c n) .1 → Below 4 ((answered w c n) .2) → Sends w c ((answered w c n) .2)
-          → Replies past m (map record-of ((answered w c n) .2))
+      go : (c : Call) (n : ℕ) → m .call ≡ c → let q = answered w c n in
+          model-answer (m .answer) ≡ q .1 → Below 4 (q .2) → Sends w c (q .2) → Replies past m (map record-of (q .2))
       go c (suc n) e a b h = none-replies tt
       go (start slice) zero e a b h = none-replies (no-replies ((answered w (start slice) 0) .2) h)
       go (open-session s) zero e a b h = none-replies (no-replies ((answered w (open-session s) 0) .2) h)
