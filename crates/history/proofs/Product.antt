@@ -59,7 +59,7 @@ told {t = t} w four h e (and {t₁ = t₁} {m = m} {ms = ms} out rest) =
     )
 
 -- what a start leaves
-pub world-begun : {t slice : List ℕ} {r : Answer} {t′ : List ℕ} → Outcome (start slice) t [] r t′ [] → r .number ≡ 0
+world-begun : {t slice : List ℕ} {r : Answer} {t′ : List ℕ} → Outcome (start slice) t [] r t′ [] → r .number ≡ 0
     → decode t′ ≡ erase-world (begun (settings-of (payload slice)) 0)
 unfolding step
 world-begun {t = t} {slice = slice} out e =

@@ -39,15 +39,16 @@ use Rattle.controller.specs.Contract.{model-answer}
 use Rattle.controller.specs.Trace.{Made, Trace, none as no-call, and, History}
 use Rattle.controller.proofs.Outputs.{Below, step-below, step-four}
 use Rattle.controller.proofs.Traces.{number-is, table-left, table-begun}
-use Rattle.controller.proofs.Modelled.{lending, one-call}
+use Rattle.controller.proofs.Modelled.{lending, one-call, begun-meaning}
 use Rattle.history.specs.Turns.{Turn}
 use Rattle.history.specs.Reading.{run-with, run}
 use Rattle.history.specs.Output.{read-output, as-read, record-of}
+use Rattle.history.specs.Exports.{Export, ExportHistory, CallsOf}
 use Rattle.history.specs.Wire.{Whole, a-frame, an-order, asked, NoReply, a-notice, to-close, Replies, none-replies, replies}
 use Rattle.history.specs.Wire.{OnTheWire, InTurn}
 use Rattle.history.proofs.Output.{read-written}
 use Rattle.history.proofs.Turns.{open-passed}
-use Rattle.history.proofs.Product.{world-begun}
+use Rattle.history.proofs.Exports.{called-so}
 
 -- ==== a session's run is what is read off the calls
 
@@ -360,4 +361,9 @@ on-the-wire h =
     let st = settings-of (payload (h .settings)) in
     let given = (start-passes (h .before) (h .settings) (sym (number-is (h .begins)) ∙ h .done)) .1 in
     on-the-wire-from (begun st 0) [] refl (begun-clean st 0 (settings-clean (h .settings) given))
-    (λ s u. rw (getD-replicate 4 s closed closed u) tt) (table-begun (h .begins) (h .done)) (world-begun (h .begins) (h .done)) (h .then)
+    (λ s u. rw (getD-replicate 4 s closed closed u) tt) (table-begun (h .begins) (h .done)) (begun-meaning (h .begins) (h .done)) (h .then)
+
+-- the same of the six functions that C calls: of those of their calls that are made; the others leave the output as it was
+pub on-the-wire-of-the-exports : {t t′ : List ℕ} {ps : List Export} → ExportHistory t ps t′
+    → (ms : List Made) × CallsOf ps ms × InTurn OnTheWire [] ms
+on-the-wire-of-the-exports h = let k = called-so h in (k .calls, k .are, on-the-wire (k .history))
