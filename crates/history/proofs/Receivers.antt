@@ -22,7 +22,7 @@ use Rattle.controller.specs.Trace.{Made, History}
 use Rattle.history.specs.Reading.{run}
 use Rattle.history.specs.Output.{Read, frames-read}
 use Rattle.history.specs.Wire.{Whole, a-frame, an-order, asked, OnTheWire, InTurn, cut-at-NUL, by-NUL, count-off, by-length}
-use Rattle.history.specs.Wire.{records-read, records-of, payloads-to, bytes-to, frames-to}
+use Rattle.history.specs.Wire.{records-read, records-of, payloads-to, bytes-to, frames-sent}
 use Rattle.history.proofs.Output.{without-NUL}
 use Rattle.history.proofs.Wire.{on-the-wire}
 
@@ -109,22 +109,22 @@ module _ (s : ℕ) (low : s < session-count) where
   holds-records [] h = (refl, tt)
   holds-records (r ∷ rs) h = holds-one r rs (h .0) (holds-records rs (h .1))
 
-  holds-calls : (past ms : List Made) → InTurn OnTheWire past ms → Holds (bytes-to s ms) (frames-to s ms)
+  holds-calls : (past ms : List Made) → InTurn OnTheWire past ms → Holds (bytes-to s ms) (frames-sent s ms)
   holds-calls past [] h = (refl, tt)
   holds-calls past (m ∷ ms) h =
       let e : records-of m ≡ h .0 .records = ap records-read (h .0 .read) in
       let k : Holds (payloads-to s (records-of m)) (frames-read s (records-of m)) = rw e (holds-records (h .0 .records) (h .0 .whole)) in
       let ih = holds-calls (m ∷ past) ms (h .1) in (
-        ap₂ _++_ (k .0) (ih .0) ∙ sym (joined-append (frames-read s (records-of m)) (frames-to s ms)),
-        every-append Framed (frames-read s (records-of m)) (frames-to s ms) (k .1) (ih .1),
+        ap₂ _++_ (k .0) (ih .0) ∙ sym (joined-append (frames-read s (records-of m)) (frames-sent s ms)),
+        every-append Framed (frames-read s (records-of m)) (frames-sent s ms) (k .1) (ih .1),
       )
 
 pub receivers-agree : {t t′ : List ℕ} {ms : List Made} → History t ms t′ → (s : ℕ) → s < session-count
-    → (by-NUL (bytes-to s ms) ≡ frames-to s ms) × (by-length (bytes-to s ms) ≡ frames-to s ms)
+    → (by-NUL (bytes-to s ms) ≡ frames-sent s ms) × (by-length (bytes-to s ms) ≡ frames-sent s ms)
 receivers-agree {ms = ms} h s low =
     let k = holds-calls s low [] ms (on-the-wire h) in (
-      ap by-NUL (k .0) ∙ cut-all (frames-to s ms) (k .1),
-      ap by-length (k .0) ∙ count-all (frames-to s ms) (k .1) (length (joined (frames-to s ms))) (few-frames (frames-to s ms)),
+      ap by-NUL (k .0) ∙ cut-all (frames-sent s ms) (k .1),
+      ap by-length (k .0) ∙ count-all (frames-sent s ms) (k .1) (length (joined (frames-sent s ms))) (few-frames (frames-sent s ms)),
     )
 
 -- ==== what the words come to, computed

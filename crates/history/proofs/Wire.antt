@@ -20,7 +20,8 @@ use Rattle.model.specs.Notices.{Subscription, beats}
 use Rattle.model.specs.Row.{Tagged}
 use Rattle.model.specs.Session.{Session, closed, opened, started, is-closed, Emission, reply, copy, close, dealt}
 use Rattle.model.specs.Hearing.{message-error, started-standing, opened-standing, carry-out, judged, begin}
-use Rattle.model.specs.Steps.{end-run, end-run-opened, opening, hang-up, receives, tick, event, elsewhere, step as session-step, announces}
+use Rattle.model.specs.Steps.{end-run, end-run-opened, Local, opening, hang-up, receives, tick, event, elsewhere, tick-at}
+use Rattle.model.specs.Steps.{step as session-step, announces}
 use Rattle.model.specs.World.{World, session-at, Moment, begins, opens, hangs-up, hears, ticks, happens, local, each, begun, next, after}
 use Rattle.model.specs.Calls.{Call, start, open-session, hang-up-session, bytes, one-tick, tool, Lent, refusal, settled, told, reported}
 use Rattle.model.specs.Calls.{Answer as ModelAnswer, answered, step}
@@ -29,7 +30,8 @@ use Rattle.model.proofs.Erase.{erase-world}
 use Rattle.model.proofs.RowLaws.{length-row}
 use Rattle.model.proofs.Sessions.{session-next}
 use Rattle.model.proofs.Cuts.{longer-longer}
-use Rattle.model.proofs.Clean.{nul-cut}
+use Rattle.model.proofs.Framed.{either}
+use Rattle.model.proofs.Clean.{nul-cut, there}
 use Rattle.model.proofs.Sent.{Follows, completes}
 use Rattle.model.proofs.Wire.{CleanWorld, begun-clean, settings-clean, Silent, Speaks, none-replies as none-speaks, replies as speaks}
 use Rattle.model.proofs.Wire.{Sends, step-sends}
@@ -122,19 +124,13 @@ module _ (st : Settings) where
   hang-up-kept bs (opened i run) = tt
   hang-up-kept bs (started i run subs) = tt
 
+  shut-or : (idle : ℕ) (bs : List ℕ) (r : Session × List Emission) → Kept bs (r .0) → Kept bs ((tick-at idle r) .0)
+  shut-or idle bs r k = either (λ (q : Session × List Emission). Kept bs (q .0)) (eqb idle idle-limit) (closed, close ∷ []) r tt k
+
   tick-kept : (bs : List ℕ) (x : Session) → Kept bs x → Kept bs ((session-step st tick x) .0)
   tick-kept bs closed k = tt
-  tick-kept bs (opened i run) k = go (eqb (suc i) idle-limit)
-    where
-      go : (b : Bool) → Kept bs ((cond {A = Session × List Emission} b (closed, close ∷ []) (opened (suc i) run, [])) .0)
-      go true = tt
-      go false = k
-  tick-kept bs (started i run subs) k = go (eqb (suc i) idle-limit)
-    where
-      go : (b : Bool)
-          → Kept bs ((cond {A = Session × List Emission} b (closed, close ∷ []) (dealt st (suc i) run (λ kind. beats) subs)) .0)
-      go true = tt
-      go false = k
+  tick-kept bs (opened i run) k = shut-or (suc i) bs (opened (suc i) run, []) k
+  tick-kept bs (started i run subs) k = shut-or (suc i) bs (dealt st (suc i) run (λ kind. beats) subs) k
 
   event-kept : (bs : List ℕ) (n : Notice) (x : Session) → Kept bs x → Kept bs ((session-step st (event n) x) .0)
   event-kept bs n closed k = tt
@@ -183,12 +179,10 @@ module _ (w : World) (four : length (w .sessions) ≡ 4) (f : ℕ → List ℕ) 
       go s false e x = elsewhere-kept (w .settings) (f s) (session-at w s) x
 
   hangs-up-runs : (t : ℕ) → Runs (next w (hangs-up t)) f
-  hangs-up-runs t = next-runs w (hangs-up t) four f f k (λ s x. go s (eqb s t) x)
-    where
-      go : (s : ℕ) (b : Bool) → Kept (f s) (session-at w s)
-          → Kept (f s) ((session-step (w .settings) (cond b hang-up elsewhere) (session-at w s)) .0)
-      go s true x = hang-up-kept (w .settings) (f s) (session-at w s)
-      go s false x = elsewhere-kept (w .settings) (f s) (session-at w s) x
+  hangs-up-runs t =
+      next-runs w (hangs-up t) four f f k λ s x.
+      either (λ (l : Local). Kept (f s) ((session-step (w .settings) l (session-at w s)) .0)) (eqb s t) hang-up elsewhere
+      (hang-up-kept (w .settings) (f s) (session-at w s)) (elsewhere-kept (w .settings) (f s) (session-at w s) x)
 
   abbrev heard-by : ℕ → Piece → ℕ → List ℕ
   heard-by t p s = run-with (cond (eqb s t) (some p) none) false (f s)
@@ -251,11 +245,11 @@ Completed bs more m ends = (ends ≡ true) × (read-run (longer empty-run (bs ++
 ended : (run : Run) (bs more : List ℕ) (m : Message) → longer empty-run bs ≡ run
     → (b : Bool) → cond b (read-run (longer run more)) none ≡ some m → Completed bs more m b
 ended run bs more m k true e = (refl, ap read-run (longer-kept run bs more k) ∙ e)
-ended run bs more m k false e = absurd (let z : _≡_ {A = ℕ} 0 1 = cc in omega arith)
+ended run bs more m k false e = absurd (there (sym e))
 
 completed : (x : Session) (bs : List ℕ) (p : Piece) (m : Message) → Kept bs x → completes x p ≡ some m
     → Completed bs (p .bytes) m (p .ends)
-completed closed bs p m k e = absurd (let z : _≡_ {A = ℕ} 0 1 = cc in omega arith)
+completed closed bs p m k e = absurd (there (sym e))
 completed (opened i run) bs p m k e = ended run bs (p .bytes) m k (p .ends) e
 completed (started i run subs) bs p m k e = ended run bs (p .bytes) m k (p .ends) e
 

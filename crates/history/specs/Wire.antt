@@ -114,6 +114,6 @@ abbrev pub bytes-to : ℕ → List Made → List ℕ
 bytes-to s [] = []
 bytes-to s (m ∷ ms) = payloads-to s (records-of m) ++ bytes-to s ms
 
-abbrev pub frames-to : ℕ → List Made → List (List ℕ)
-frames-to s [] = []
-frames-to s (m ∷ ms) = frames-read s (records-of m) ++ frames-to s ms
+abbrev pub frames-sent : ℕ → List Made → List (List ℕ)
+frames-sent s [] = []
+frames-sent s (m ∷ ms) = frames-read s (records-of m) ++ frames-sent s ms

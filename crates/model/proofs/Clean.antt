@@ -208,6 +208,10 @@ pub entry-so : (mid : ℕ) → Listed mid (entry-of mid)
 unfolding entry-of
 entry-so mid = listed-so table mid (tt, (tt, (tt, (tt, (tt, (tt, (tt, (tt, (tt, ((refl, refl, refl), tt))))))))))
 
+-- (what is there is not missing)
+pub there : {A : Type 0} {a : A} → some a ≡ none → ⊥
+there e = let z : _≡_ {A = ℕ} 0 1 = cc in omega arith
+
 -- a message that has no error has a good length, and its data are text
 pub passed : (x : Standing) (e : Entry) (size revision : ℕ) (bs : List ℕ) → tested x (some e) size revision bs ≡ none
     → (good-length e size ≡ true) × (all is-text bs ≡ true)
@@ -219,8 +223,8 @@ passed x e size revision bs =
         → cond a (some already-started)
         (cond (not b) (some wrong-length) (cond (not c) (some wrong-revision) (cond (not d) (some wrong-data) o))) ≡ none
         → (b ≡ true) × (d ≡ true)
-    go true b c d o h = absurd (let z : _≡_ {A = ℕ} 0 1 = cc in omega arith)
-    go false false c d o h = absurd (let z : _≡_ {A = ℕ} 0 1 = cc in omega arith)
-    go false true false d o h = absurd (let z : _≡_ {A = ℕ} 0 1 = cc in omega arith)
-    go false true true false o h = absurd (let z : _≡_ {A = ℕ} 0 1 = cc in omega arith)
+    go true b c d o h = absurd (there h)
+    go false false c d o h = absurd (there h)
+    go false true false d o h = absurd (there h)
+    go false true true false o h = absurd (there h)
     go false true true true o h = (refl, refl)

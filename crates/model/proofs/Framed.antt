@@ -28,9 +28,14 @@ module _ {A : Type 0} (P : A → Type 0) where
   every-take (suc n) [] h = tt
   every-take (suc n) (x ∷ xs) h = (h .0, every-take n xs (h .1))
 
+-- of two, whichever is chosen is so
+pub either : {A : Type 0} (P : A → Type 0) (b : Bool) (x y : A) → P x → P y → P (cond b x y)
+either P true x y h k = h
+either P false x y h k = k
+
 -- ==== bytes that are no NUL
 
--- a byte is none
+-- a byte that is none
 abbrev pub Shown : ℕ → Type 0
 Shown b = b ≡ NUL → ⊥
 
@@ -102,7 +107,7 @@ pub record Text (bs : List ℕ) : Type 0 where
   pub no-NUL : NoNUL bs
   pub short : length bs ≤ identifier-length
 
--- one fact, and those behind it
+-- one fact, and those behind it, as they are asked of a list's elements
 infixr 20 _and_
 abbrev _and_ : {A B : Type 0} → A → B → A × B
 a and b = (a, b)
@@ -174,8 +179,7 @@ unfolding frame-0005
 framed-0005 mid = framed 5 1 space (digits 4 mid) (λ e. omega arith) (nul-digits 4 mid) (omega (arith, length-digits 4 mid))
 
 byte-12-shown : (b : Bool) → Shown (cond b digit-1 digit-0)
-byte-12-shown true = λ e. omega arith
-byte-12-shown false = λ e. omega arith
+byte-12-shown b = either Shown b digit-1 digit-0 (λ e. omega arith) (λ e. omega arith)
 
 fields-0052-fit : (b : Bool) (x : List ℕ) → Text x
     → let blank = text (spaces identifier-length) in

@@ -28,7 +28,7 @@ use Rattle.model.specs.Hearing.{begin, hear-opened, identifier-told, ide
 use Rattle.model.specs.Steps.{end-run, end-run-opened, Local, opening, hang-up, receives, tick, event, elsewhere, tick-at}
 use Rattle.model.specs.Steps.{receive-opened, receive, step, identifier-run, announces}
 use Rattle.model.specs.Wire.{Every, NoNUL, Framed, Answers, welcomes, refuses, accepts, mirrors as mirror, is-notice}
-use Rattle.model.proofs.Framed.{every-append, nul-append, nul-spaces, nul-text, Text, CleanSettings, CleanEvent}
+use Rattle.model.proofs.Framed.{every-append, either, nul-append, nul-spaces, nul-text, Text, CleanSettings, CleanEvent}
 use Rattle.model.proofs.Framed.{framed-0002, framed-0004, framed-0005, framed-event, notice-event}
 use Rattle.model.proofs.Clean.{both, CleanRun, clean-longer, CleanMessage, CleanEnd, clean-end}
 use Rattle.model.proofs.Clean.{MirrorsOnly, Listed, entry-so, passed}
@@ -65,20 +65,15 @@ next-one-clean revision (x ∷ q) h = (h, (h .0, tt))
 
 waits-clean : (room : Room) (n : Notice) (q : List Notice) → CleanNotice n → CleanNotices q → CleanNotices (waits room n q)
 waits-clean the-newest n q h k = (h, tt)
-waits-clean (up-to most) n q h k = go (has-room (up-to most) q)
-  where
-    go : (b : Bool) → CleanNotices (cond b (q ++ n ∷ []) q)
-    go true = every-append CleanNotice q (n ∷ []) k (h, tt)
-    go false = k
+waits-clean (up-to most) n q h k =
+    either CleanNotices (has-room (up-to most) q) (q ++ n ∷ []) q (every-append CleanNotice q (n ∷ []) k (h, tt)) k
 
 clock-at-clean : (revision : ℕ) (x : Notice) (clock : ℕ) (q : List Notice) → CleanNotice x → CleanNotices q
     → CleanAct (clock-at revision x clock q)
-clock-at-clean revision x clock q h k = go (eqb clock given-up-at) (eqb (clock % copy-every) 0)
-  where
-    go : (b d : Bool) → CleanAct (cond b (next-one revision q) (acked revision (busy x clock q), cond d (x ∷ []) []))
-    go true d = next-one-clean revision q k
-    go false true = ((h, k), (h, tt))
-    go false false = ((h, k), tt)
+clock-at-clean revision x clock q h k =
+    let due = eqb (clock % copy-every) 0 in
+    either CleanAct (eqb clock given-up-at) (next-one revision q) (acked revision (busy x clock q), cond due (x ∷ []) [])
+    (next-one-clean revision q k) ((h, k), either CleanNotices due (x ∷ []) [] (h, tt) tt)
 
 act-clean : (room : Room) (d : Deed) (s : Subscription) → CleanDeed d → CleanSub s → CleanAct (act room d s)
 act-clean room nothing s h k = (k, tt)
@@ -225,11 +220,7 @@ module _ (st : Settings) (clean : CleanSettings st) where
         copied (c ∷ cs) h = (h .0, copied cs (h .1))
 
   only-clean : (kind : ℕ) (d : Deed) → CleanDeed d → (other : ℕ) → CleanDeed (only kind d other)
-  only-clean kind d h other = go (eqb other kind)
-    where
-      go : (b : Bool) → CleanDeed (cond b d nothing)
-      go true = h
-      go false = tt
+  only-clean kind d h other = either CleanDeed (eqb other kind) d nothing h tt
 
   only-dealt : (idle : ℕ) (run : Run) (kind : ℕ) (d : Deed) (subs : List Subscription) → CleanDeed d → CleanRun run → Every CleanSub subs
       → Still (dealt st idle run (only kind d) subs)
@@ -258,11 +249,9 @@ module _ (st : Settings) (clean : CleanSettings st) where
 
   error-clean : (m : Message) (o : Option Entry) (x : Error) → Says (some m) (error-reply m o x)
   error-clean m none x = answers refl (refuses (code x)) (framed-0004 (m .mid) (code x)) tt
-  error-clean m (some e) x = go (gets-reply (e .effect))
-    where
-      go : (b : Bool) → Says (some m) (cond b (reply (frame-0004 (m .mid) (code x)) ∷ []) [])
-      go true = answers refl (refuses (code x)) (framed-0004 (m .mid) (code x)) tt
-      go false = quiet tt
+  error-clean m (some e) x =
+      either (Says (some m)) (gets-reply (e .effect)) (reply (frame-0004 (m .mid) (code x)) ∷ []) []
+      (answers refl (refuses (code x)) (framed-0004 (m .mid) (code x)) tt) (quiet tt)
 
   hear-clean : (subs : List Subscription) (m : Message) → CleanMessage m → Every CleanSub subs → Goes (some m) (hear st subs m)
   unfolding error-of
@@ -308,11 +297,9 @@ module _ (st : Settings) (clean : CleanSettings st) where
   receive-opened-clean idle r true h = end-run-opened-clean idle (read-run r)
 
   tick-at-clean : (idle : ℕ) (r : Session × List Emission) → Still r → Goes none (tick-at idle r)
-  tick-at-clean idle r h = go (eqb idle idle-limit)
-    where
-      go : (b : Bool) → Goes none (cond b (closed, close ∷ []) r)
-      go true = still none (closed, close ∷ []) (tt, (tt, tt))
-      go false = still none r h
+  tick-at-clean idle r h =
+      let shut : Session × List Emission = (closed, close ∷ []) in
+      either (Goes none) (eqb idle idle-limit) shut r (still none shut (tt, (tt, tt))) (still none r h)
 
   -- A STEP of a session
   pub step-clean : (l : Local) (x : Session) → CleanLocal l → CleanSession x → Goes (heard l x) (step st l x)

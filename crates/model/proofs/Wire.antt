@@ -1,8 +1,8 @@
 -- What a call sends, whatever came before it: frames that a line server reads alike by their NUL and by their length, and at most one
 -- reply, the first of them, to the session whose bytes completed the message that it answers. Assumes nothing.
 use Prim.Native.Nat.{ℕ, zero, suc, _+_, _<_}
-use mathlib.Core.Path.{_≡_, refl, _∙_, ap, subst}
-use mathlib.Core.Bool.{Bool, true, false, cond}
+use mathlib.Core.Path.{_≡_, refl, sym, _∙_, ap, subst}
+use mathlib.Core.Bool.{Bool, cond}
 use mathlib.Core.List.{List, [], _∷_, _++_, append-nil}
 use mathlib.Core.Option.{Option, none, some}
 use native.Mathlib.Omega.{arith}
@@ -22,8 +22,8 @@ use Rattle.model.specs.World.{sessions-after, begun, moved, in-force-aft
 use Rattle.model.specs.Calls.{Call, start, open-session, hang-up-session, bytes, one-tick, tool, Lent, refusal}
 use Rattle.model.specs.Calls.{settled, told, reported, moments, answered, step}
 use Rattle.model.specs.Wire.{Every, NoNUL, Framed, Answers}
-use Rattle.model.proofs.Framed.{every-append, Text, text-spaces, CleanSettings, CleanEvent}
-use Rattle.model.proofs.Clean.{CleanStart, clean-start, CleanTool, clean-tool, nul-cut}
+use Rattle.model.proofs.Framed.{every-append, either, Text, text-spaces, CleanSettings, CleanEvent}
+use Rattle.model.proofs.Clean.{CleanStart, clean-start, CleanTool, clean-tool, nul-cut, there}
 use Rattle.model.proofs.Sent.{Follows, Says, quiet, answers, row-every, said-every, CleanSession, CleanLocal, completes, heard}
 use Rattle.model.proofs.Sent.{CleanTold, step-clean, announces-clean}
 
@@ -44,21 +44,9 @@ CleanMoment (happens e) = CleanEvent e
 
 local-clean : (events : ℕ) (m : Moment) (s : ℕ) → CleanMoment m → CleanLocal (local events m s)
 local-clean events (begins st) s c = tt
-local-clean events (opens t) s c = go (eqb s t)
-  where
-    go : (b : Bool) → CleanLocal (cond b opening elsewhere)
-    go true = tt
-    go false = tt
-local-clean events (hangs-up t) s c = go (eqb s t)
-  where
-    go : (b : Bool) → CleanLocal (cond b hang-up elsewhere)
-    go true = tt
-    go false = tt
-local-clean events (hears t p) s c = go (eqb s t)
-  where
-    go : (b : Bool) → CleanLocal (cond b (receives p) elsewhere)
-    go true = c
-    go false = tt
+local-clean events (opens t) s c = either CleanLocal (eqb s t) opening elsewhere tt tt
+local-clean events (hangs-up t) s c = either CleanLocal (eqb s t) hang-up elsewhere tt tt
+local-clean events (hears t p) s c = either CleanLocal (eqb s t) (receives p) elsewhere c tt
 local-clean events ticks s c = tt
 local-clean events (happens e) s c = c
 
@@ -124,7 +112,7 @@ speaks-append s ys (replies {es = es} e a f h) k = replies e a f (silent-append 
 -- to whom no message is heard, no reply goes
 unheard : {o : Option Message} {es : List Emission} → o ≡ none → Says o es → Every Follows es
 unheard n (quiet h) = h
-unheard n (answers e a f h) = absurd (let z : _≡_ {A = ℕ} 0 1 = cc in omega arith)
+unheard n (answers e a f h) = absurd (there (sym e ∙ n))
 
 -- bytes are heard by one session
 elsewhere-silent : (st : Settings) (x : Session) → (session-step st elsewhere x) .1 ≡ []
@@ -163,16 +151,8 @@ Unheard (happens e) = Unit {0}
 
 none-heard : (events : ℕ) (m : Moment) (s : ℕ) (x : Session) → Unheard m → heard (local events m s) x ≡ none
 none-heard events (begins st) s x u = refl
-none-heard events (opens t) s x u = go (eqb s t)
-  where
-    go : (b : Bool) → heard (cond b opening elsewhere) x ≡ none
-    go true = refl
-    go false = refl
-none-heard events (hangs-up t) s x u = go (eqb s t)
-  where
-    go : (b : Bool) → heard (cond b hang-up elsewhere) x ≡ none
-    go true = refl
-    go false = refl
+none-heard events (opens t) s x u = either (λ l. heard l x ≡ none) (eqb s t) opening elsewhere refl refl
+none-heard events (hangs-up t) s x u = either (λ l. heard l x ≡ none) (eqb s t) hang-up elsewhere refl refl
 none-heard events (hears t p) s x u = absurd u
 none-heard events ticks s x u = refl
 none-heard events (happens e) s x u = refl
@@ -206,11 +186,7 @@ told-clean none h = tt
 told-clean (some x) h = (h, tt)
 
 identifier-clean : (x y : List ℕ) → Text x → Text y → Text (identifier-of x y)
-identifier-clean x y h k = go (all is-space x)
-  where
-    go : (b : Bool) → Text (cond b y x)
-    go true = k
-    go false = h
+identifier-clean x y h k = either Text (all is-space x) y x k h
 
 reported-clean : (w : World) (o : Option Tool) → CleanWorld w → CleanTool o → Every CleanMoment (reported w o)
 reported-clean w none h c = tt

@@ -11,6 +11,7 @@ use Rattle.model.specs.Records.{Settings}
 use Rattle.model.specs.Runs.{Message}
 use Rattle.model.specs.Frames.{frame-0002, frame-0004, frame-0005}
 
+-- each element of a list is so (`watch`, which knows nothing of the model, has the same word)
 abbrev pub Every : {A : Type 0} → (A → Type 0) → List A → Type 0
 Every P [] = Unit {0}
 Every P (x ∷ xs) = P x × Every P xs
