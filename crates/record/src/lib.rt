@@ -1,7 +1,6 @@
 // House records: which slices are good settings and tool records, and which identifier is meant.
 ghost use mathlib.Core.Path.{_≡_};
 ghost use mathlib.Core.Bool.{true};
-ghost use Prim.Native.Nat.{_≤_};
 ghost use lib.ListN.{length, drop, getD};
 ghost use Rattle.model.specs.Bytes.{all};
 ghost use Rattle.model.specs.Records.{
@@ -9,7 +8,6 @@ ghost use Rattle.model.specs.Records.{
   good-in-time,
   is-time as is-time-of,
   good-item as good-item-of,
-  item-length,
   payload-length,
   parts,
   good-parts,
