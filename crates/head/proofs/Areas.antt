@@ -7,11 +7,14 @@ use mathlib.Core.List.{List, [], _∷_}
 use lib.Dec.{leb, eqb, lit<, lit≤}
 use lib.ListN.{length, getD, take, drop}
 use lib.Seq.{sets, length-sets, getD-take}
-use borrow.Author.Tests.{le-leb, lt-leb, leb-true, eqb-true}
+use borrow.Author.Tests.{le-leb, lt-leb, lt-ltb, eqb-true}
+use Rattle.model.specs.Limits.{idle-limit, given-up-at}
 use Rattle.model.specs.Bytes.{little, in-bytes}
+use Rattle.model.specs.Events.{identifiers, tightenings}
+use Rattle.model.specs.Notices.{room-of}
 use Rattle.text.proofs.Numbers.{in-bytes-length}
 use Rattle.text.proofs.Cells.{stored-same, stored-before}
-use Rattle.session.specs.Meaning.{SubscribedIn}
+use Rattle.session.specs.Meaning.{most-held, SubscribedIn}
 use Rattle.session.specs.declared.Form.{Form}
 use Rattle.session.specs.declared.Form.the-variants.{Not, Acknowledged}
 use Rattle.session.specs.declared.Phase.{Phase}
@@ -152,13 +155,13 @@ module _ (h : List ℕ) (x : Session) (p f g : ℕ) (size : length h ≡ 32) (k 
   good =
       rw (
         le-leb p 2 lp,
-        le-leb (x .idle) 14 (k .idle),
+        lt-ltb (x .idle) idle-limit (k .idle),
         le-leb f 2 lf,
-        le-leb (x .identifiers .clock) 119 (k .i-clock),
-        le-leb (x .identifiers .held) 2 (k .i-held),
+        lt-ltb (x .identifiers .clock) given-up-at (k .i-clock),
+        le-leb (x .identifiers .held) (most-held (room-of identifiers)) (k .i-held),
         le-leb g 2 lg,
-        le-leb (x .tightenings .clock) 119 (k .t-clock),
-        le-leb (x .tightenings .held) 8 (k .t-held),
+        lt-ltb (x .tightenings .clock) given-up-at (k .t-clock),
+        le-leb (x .tightenings .held) (most-held (room-of tightenings)) (k .t-held),
         fits f g (x .identifiers) (x .tightenings) ef eg p
             (subst (λ (q : Phase). SubscribedIn q (x .identifiers) (x .tightenings)) (sym ep) (k .subscribed)),
       )

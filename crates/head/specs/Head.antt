@@ -3,15 +3,17 @@ use mathlib.Core.Path.{_≡_}
 use Prim.Native.Nat.{ℕ, zero, suc, _≤_, _<_}
 use mathlib.Core.Bool.{Bool, true, cond, _&&_}
 use mathlib.Core.List.{List}
-use lib.Dec.{leb, eqb}
+use lib.Dec.{leb, ltb, eqb}
 use lib.ListN.{length, getD, take, drop}
+use Rattle.model.specs.Limits.{idle-limit, given-up-at}
 use Rattle.model.specs.Bytes.{little}
-use Rattle.session.specs.Meaning.{SubscribedIn}
+use Rattle.model.specs.Events.{identifiers, tightenings}
+use Rattle.model.specs.Notices.{room-of}
+use Rattle.session.specs.Meaning.{most-held, SubscribedIn}
 use Rattle.session.specs.declared.Form.{Form}
 use Rattle.session.specs.declared.Form.the-variants.{Not, Plain, Acknowledged}
 use Rattle.session.specs.declared.Phase.{Phase}
 use Rattle.session.specs.declared.Phase.the-variants.{Closed, Opened, Started}
-use Rattle.session.specs.declared.Subscription.{Subscription}
 use Rattle.session.specs.declared.Session.{Session}
 
 abbrev pub phase-of : ℕ → Phase
@@ -45,13 +47,13 @@ forms-fit phase i-form t-form = cond (leb phase 1) (eqb i-form 0 && eqb t-form 0
 abbrev pub control-formed : List ℕ → Bool
 control-formed bs =
     leb (getD bs 0 0) 2
-    && leb (getD bs 1 0) 14
+    && ltb (getD bs 1 0) idle-limit
     && leb (getD bs 2 0) 2
-    && leb (getD bs 3 0) 119
-    && leb (getD bs 4 0) 2
+    && ltb (getD bs 3 0) given-up-at
+    && leb (getD bs 4 0) (most-held (room-of identifiers))
     && leb (getD bs 5 0) 2
-    && leb (getD bs 6 0) 119
-    && leb (getD bs 7 0) 8
+    && ltb (getD bs 6 0) given-up-at
+    && leb (getD bs 7 0) (most-held (room-of tightenings))
     && forms-fit (getD bs 0 0) (getD bs 2 0) (getD bs 5 0)
 
 unfoldable pub head-formed : List ℕ → Bool
@@ -59,12 +61,12 @@ head-formed h = control-formed h
 
 -- a session that can be stored
 pub record Storable (x : Session) : Type 0 where
-  pub idle : x .idle ≤ 14
+  pub idle : x .idle < idle-limit
   pub subscribed : SubscribedIn (x .phase) (x .identifiers) (x .tightenings)
-  pub i-clock : x .identifiers .clock ≤ 119
-  pub i-held : x .identifiers .held ≤ 2
-  pub t-clock : x .tightenings .clock ≤ 119
-  pub t-held : x .tightenings .held ≤ 8
+  pub i-clock : x .identifiers .clock < given-up-at
+  pub i-held : x .identifiers .held ≤ most-held (room-of identifiers)
+  pub t-clock : x .tightenings .clock < given-up-at
+  pub t-held : x .tightenings .held ≤ most-held (room-of tightenings)
 
 pub record Area (h : List ℕ) : Type 0 where
   pub size : length h ≡ 32

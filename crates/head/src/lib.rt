@@ -2,12 +2,21 @@
 ghost use mathlib.Core.Path.{_≡_};
 ghost use mathlib.Core.Bool.{true};
 ghost use Prim.Native.Nat.{_≤_};
-ghost use lib.ListN.{length, take, getD};
+ghost use lib.ListN.{length};
 ghost use Rattle.head.specs.Head.{phase-of, form-of, forms-fit, head-of, head-formed, Storable, Area};
 use session::Form;
 use session::Phase;
 use session::Session;
 use session::Subscription;
+
+// The session's constants, of which each fits the byte that it bounds.
+const IDLE_LIMIT: u8 = Session::IDLE_LIMIT as u8;
+
+const GIVEN_UP_AT: u8 = Session::GIVEN_UP_AT as u8;
+
+const IDENTIFIERS_HELD: u8 = Session::IDENTIFIERS_HELD as u8;
+
+const TIGHTENINGS_HELD: u8 = Session::TIGHTENINGS_HELD as u8;
 
 fn wide(x: u8) -> u64
     ensures { λ r. ⌜ r ≡ x ⌝ }
@@ -75,25 +84,25 @@ pub fn is_formed(head: &[u8]) -> bool
     if head[0] > 2 {
         return false;
     }
-    if head[1] > 14 {
+    if head[1] >= IDLE_LIMIT {
         return false;
     }
     if head[2] > 2 {
         return false;
     }
-    if head[3] > 119 {
+    if head[3] >= GIVEN_UP_AT {
         return false;
     }
-    if head[4] > 2 {
+    if head[4] > IDENTIFIERS_HELD {
         return false;
     }
     if head[5] > 2 {
         return false;
     }
-    if head[6] > 119 {
+    if head[6] >= GIVEN_UP_AT {
         return false;
     }
-    if head[7] > 8 {
+    if head[7] > TIGHTENINGS_HELD {
         return false;
     }
     forms_fit(head[0], head[2], head[5])

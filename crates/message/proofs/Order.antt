@@ -1,17 +1,22 @@
 -- The tests of a message in the paper's order, over a row that says what the entry says. Assumes nothing.
-use mathlib.Core.Path.{_≡_, refl}
-use mathlib.Core.Bool.{Bool, not, cond, _&&_}
-use mathlib.Core.List.{List}
+use mathlib.Core.Path.{_≡_, refl, subst}
+use mathlib.Core.Bool.{Bool, true, not, cond, _&&_}
+use mathlib.Core.List.{List, [], _∷_}
 use mathlib.Core.Option.{Option, none, some}
 use Prim.Native.Nat.{ℕ, _≤_, zero-le}
+use native.Mathlib.Omega.{arith}
 use lib.Dec.{eqb}
 use borrow.Author.Tests.{le-leb}
+use types.Run.{OneOf, miss}
+use denote.Enum.Declared.{tagOf}
 use Rattle.model.specs.Bytes.{within, is-text, all}
 use Rattle.model.specs.Messages.{Standing, Entry, Revisions, not-read, revisions, good-among, Error, unknown-message, already-started, wrong-length, wrong-revision, wrong-data, tested, entry-of, error-of}
-use Rattle.message.specs.Meaning.{effect-listed}
-use Rattle.message.specs.Inner.{any, Spans, Lists, own-error}
-use Rattle.message.specs.declared.Listed.{Listed}
-use Rattle.message.specs.declared.Listed.the-variants.{Not, Row}
+use Rattle.message.specs.Meaning.{effect-in, effect-listed}
+use Rattle.message.specs.Inner.{any, Spans, is-listed, Lists, own-error}
+use Rattle.message.specs.declared.Effect.{Effect}
+use Rattle.message.specs.declared.Effect.the-variants.{Unknown, Starts, Stops, Identifies, Subscribes, Unsubscribes, Acknowledges, Mirrors}
+use Rattle.message.specs.declared.Row.{Row}
+use Rattle.message.proofs.Effect as effect
 
 -- the error, by whether it starts again, has a length and a revision of its row, and data that is text, and by its own error
 abbrev pub in-order : Bool → Bool → Bool → Bool → Option Error → Option Error
@@ -25,27 +30,56 @@ among : (v : Revisions) (oldest newest n : ℕ) → n ≤ any → Spans v oldest
 among not-read oldest newest n h s = rw (s .0, s .1, le-leb 0 n zero-le, le-leb n any h)
 among (revisions least greatest) oldest newest n h s = rw (s .0, s .1)
 
+-- ==== the decision over message numbers
+
+-- every effect but the one of its closing arm, by its number
+abbrev others : List ℕ
+others = 1 ∷ 2 ∷ 3 ∷ 4 ∷ 5 ∷ 6 ∷ 7 ∷ []
+
+abbrev pub Other : Effect → Type 0
+Other e = OneOf others (tagOf effect.the-type e)
+
+closing : (e : Effect) → effect-in e ≡ none → e ≡ Unknown
+closing Unknown q = refl
+closing Starts q = cc
+closing Stops q = cc
+closing (Identifies error) q = cc
+closing (Subscribes kind error) q = cc
+closing (Unsubscribes kind error) q = cc
+closing (Acknowledges kind) q = cc
+closing Mirrors q = cc
+
+-- a number with another effect is listed
+pub known : (mid : ℕ) (e : Effect) → Other e → effect-in e ≡ effect-listed (entry-of mid) → is-listed (entry-of mid) ≡ true
+known mid e k q = by-entry (entry-of mid) q
+  where
+    by-entry : (o : Option Entry) → effect-in e ≡ effect-listed o → is-listed o ≡ true
+    by-entry none q = absurd (miss others 0 tt (subst Other (closing e q) k))
+    by-entry (some n) q = refl
+
+-- ==== the tests
+
 module _ (x : Standing) (mid size n : ℕ) (bs : List ℕ) where
-  unlisted : (o : Option Entry) → Lists mid Not o → some unknown-message ≡ tested x o size n bs
-  unlisted none l = refl
-  unlisted (some e) l = absurd l
+  unlisted : (o : Option Entry) → none ≡ effect-listed o → some unknown-message ≡ tested x o size n bs
+  unlisted none q = refl
+  unlisted (some e) q = absurd (let w : _≡_ {A = ℕ} 0 1 = cc in omega arith)
 
   -- nothing is listed for the number
-  pub unknown : {row : Listed} → row ≡ Not → Lists mid row (entry-of mid) → some unknown-message ≡ error-of x mid size n bs
+  pub unknown : {e : Effect} → e ≡ Unknown → effect-in e ≡ effect-listed (entry-of mid) → some unknown-message ≡ error-of x mid size n bs
   unfolding error-of
-  unknown q l = unlisted (entry-of mid) (rw q at l)
+  unknown p q = unlisted (entry-of mid) (rw p at q)
 
-  by-row : (least greatest oldest newest : ℕ) → n ≤ any → (o : Option Entry) → Lists mid (Row least greatest oldest newest) o
-      → in-order (x .started && eqb mid 1) (within least greatest size) (within oldest newest n) (all is-text bs) (own-error x (effect-listed o))
+  by-row : (r : Row) → n ≤ any → (o : Option Entry) → Lists mid r o
+      → in-order (x .started && eqb mid 1) (within (r .least) (r .greatest) size) (within (r .oldest) (r .newest) n) (all is-text bs) (own-error x (effect-listed o))
       ≡ tested x o size n bs
-  by-row least greatest oldest newest h none l = absurd l
-  by-row least greatest oldest newest h (some e) l = rw (l .0, l .1, l .2, among (e .revision) oldest newest n h (l .3))
+  by-row r h none l = absurd l
+  by-row r h (some e) l = rw (l .0, l .1, l .2, among (e .revision) (r .oldest) (r .newest) n h (l .3))
 
   -- a row is listed: the tests decide, whoever computed them
-  pub ordered : {row : Listed} {least greatest oldest newest : ℕ} {again sized revised texts : Bool} {own : Option Error}
-      → n ≤ any → row ≡ Row least greatest oldest newest → Lists mid row (entry-of mid)
-      → again ≡ (x .started && eqb mid 1) → sized ≡ within least greatest size → revised ≡ within oldest newest n
+  pub ordered : (row : Row) {again sized revised texts : Bool} {own : Option Error}
+      → n ≤ any → Lists mid row (entry-of mid)
+      → again ≡ (x .started && eqb mid 1) → sized ≡ within (row .least) (row .greatest) size → revised ≡ within (row .oldest) (row .newest) n
       → texts ≡ all is-text bs → own ≡ own-error x (effect-listed (entry-of mid))
       → in-order again sized revised texts own ≡ error-of x mid size n bs
   unfolding error-of
-  ordered h q l p₁ p₂ p₃ p₄ p₅ = rw (p₁, p₂, p₃, p₄, p₅) (by-row _ _ _ _ h (entry-of mid) (rw q at l))
+  ordered row h l p₁ p₂ p₃ p₄ p₅ = rw (p₁, p₂, p₃, p₄, p₅) (by-row row h (entry-of mid) l)

@@ -1,7 +1,7 @@
 -- The rule of the table of messages, that a row says what the model's entry at its place says, and the search for a number in it.
 -- Assumes nothing.
-use mathlib.Core.Path.{_≡_, refl, sym, _∙_}
-use mathlib.Core.Bool.{Bool, _&&_, So, and-eq-true-iff}
+use mathlib.Core.Path.{_≡_, refl, sym, ap, _∙_}
+use mathlib.Core.Bool.{Bool, true, _&&_, So, and-eq-true-iff, false≢true}
 use mathlib.Core.List.{List, [], _∷_}
 use mathlib.Core.Option.{some}
 use Prim.Native.Nat.{ℕ, _+_, _<_, _≤_}
@@ -12,8 +12,8 @@ use lib.ListN.{getD, drop}
 use lib.Seq.{drop-cons}
 use borrow.Author.Tests.{eqb-true, eq-eqb, ne-eqb}
 use Rattle.model.specs.Messages.{Entry, entry, Revisions, not-read, revisions, mirrors, table, listed, entry-of}
-use Rattle.message.specs.Inner.{any, messages, Spans, Lists}
-use Rattle.message.specs.declared.Listed.the-variants.{Not, Row}
+use Rattle.message.specs.Inner.{any, messages, Spans, is-listed, Lists}
+use Rattle.message.specs.declared.Row.{Row}
 use Rattle.message.proofs.AtEach.{at-each}
 
 -- ==== the test, and what it tells
@@ -64,18 +64,23 @@ rule k h = says-tells (row-at k) (entry-at k) (at-each says messages table [] be
 
 -- ==== the search for a number, row after row
 
+abbrev pub read : List ℕ → Row
+read r = record { least = getD r 1 0; greatest = getD r 2 0; oldest = getD r 3 0; newest = getD r 4 0 }
+
 module _ (mid k : ℕ) (h : k < 10) (q : entry-of mid ≡ listed (drop k table) mid) where
   -- the row at k has another number: the entry is further on
   pub passed : (getD (row-at k) 0 0 ≡ mid → ⊥) → entry-of mid ≡ listed (drop (k + 1) table) mid
   passed ne = q ∙ rw (add-one, drop-cons table k beyond h, ne-eqb _ mid (λ e. ne (rule k h .0 ∙ e)))
 
   -- it has the number: its entry is the one
-  pub found : getD (row-at k) 0 0 ≡ mid → Lists mid (Row (getD (row-at k) 1 0) (getD (row-at k) 2 0) (getD (row-at k) 3 0) (getD (row-at k) 4 0)) (entry-of mid)
+  pub found : getD (row-at k) 0 0 ≡ mid → Lists mid (read (row-at k)) (entry-of mid)
   found e =
       let s = rule k h in
       let z : entry-of mid ≡ some (entry-at k) = q ∙ rw (drop-cons table k beyond h, eq-eqb _ mid (sym (s .0) ∙ e)) in
       rw z (sym e ∙ s .0, s .1, s .2, s .3)
 
--- no row has the number: there is no entry
-pub absent : (mid k : ℕ) → k ≤ 10 → 10 ≤ k → entry-of mid ≡ listed (drop k table) mid → Lists mid Not (entry-of mid)
-absent mid k le ge q = let e : k ≡ 10 = omega arith in rw (q, e) tt
+-- a number that is listed is not past the last row
+pub in-table : (mid k : ℕ) → is-listed (entry-of mid) ≡ true → entry-of mid ≡ listed (drop k table) mid → k ≤ 10 → k < 10
+in-table mid k s q le =
+    let ne : k ≡ 10 → ⊥ = λ e. false≢true (sym (ap is-listed (rw e at q)) ∙ s) in
+    omega arith

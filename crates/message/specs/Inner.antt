@@ -1,12 +1,12 @@
 -- What this crate's inner functions leave, from which the contracts of the public ones are proved. Assumes nothing: these are definitions.
 use Prim.Native.Nat.{ℕ}
 use mathlib.Core.Path.{_≡_}
+use mathlib.Core.Bool.{Bool, true, false}
 use mathlib.Core.List.{List, [], _∷_}
 use mathlib.Core.Option.{Option, none, some}
 use Rattle.model.specs.Tests.{first}
 use Rattle.model.specs.Messages.{Entry, Revisions, not-read, revisions, Effect, Error, unknown-message, Standing, own-test}
-use Rattle.message.specs.declared.Listed.{Listed}
-use Rattle.message.specs.declared.Listed.the-variants.{Not, Row}
+use Rattle.message.specs.declared.Row.{Row}
 
 -- ==== 01, "What a message does", the table's columns of lengths and revisions
 
@@ -37,13 +37,14 @@ abbrev pub Spans : Revisions → ℕ → ℕ → Type 0
 Spans not-read oldest newest = (oldest ≡ 0) × (newest ≡ any)
 Spans (revisions least greatest) oldest newest = (oldest ≡ least) × (newest ≡ greatest)
 
--- what the code's table has for a number is what the number's entry says, and it has nothing where there is no entry
-abbrev pub Lists : ℕ → Listed → Option Entry → Type 0
-Lists mid Not none = Unit {0}
-Lists mid Not (some e) = ⊥
-Lists mid (Row least greatest oldest newest) none = ⊥
-Lists mid (Row least greatest oldest newest) (some e) =
-    (mid ≡ e .mid) × (least ≡ e .least) × (greatest ≡ e .greatest) × Spans (e .revision) oldest newest
+abbrev pub is-listed : Option Entry → Bool
+is-listed none = false
+is-listed (some e) = true
+
+-- what the code's table has for a number that is listed is what the number's entry says
+abbrev pub Lists : ℕ → Row → Option Entry → Type 0
+Lists mid r none = ⊥
+Lists mid r (some e) = (mid ≡ e .mid) × (r .least ≡ e .least) × (r .greatest ≡ e .greatest) × Spans (e .revision) (r .oldest) (r .newest)
 
 -- ==== 01, "What a message does", the last of the tests: the message's own
 

@@ -1,12 +1,12 @@
 // What a message does, and the error that it has (01, "What a message does"): decided by value, whatever the numbers are.
 ghost use mathlib.Core.Path.{_≡_};
-ghost use mathlib.Core.Bool.{cond, _&&_};
+ghost use mathlib.Core.Bool.{true, cond, _&&_};
 ghost use mathlib.Core.Option.{none, some};
 ghost use lib.Dec.{eqb};
 ghost use Rattle.model.specs.Bytes.{within as is-within};
 ghost use Rattle.model.specs.Messages.{entry-of, own, error-of};
 ghost use Rattle.message.specs.Meaning.{effect-in, effect-listed, answered, standing-of, error-in, error-number};
-ghost use Rattle.message.specs.Inner.{Lists, own-error};
+ghost use Rattle.message.specs.Inner.{is-listed, Lists, own-error};
 
 // ---- what a message does
 
@@ -94,24 +94,23 @@ const MESSAGES: [[u64; 5]; 10] = [
 ];
 
 // What the table has for a message number.
-enum Listed {
-    Not,
-    Row {
-        least: u64,
-        greatest: u64,
-        oldest: u64,
-        newest: u64,
-    },
+struct Row {
+    least: u64,
+    greatest: u64,
+    oldest: u64,
+    newest: u64,
 }
 
-fn row_of(mid: u64) -> Listed
+// The row of a number that is listed: the search ends there.
+fn row_of(mid: u64) -> Row
+    requires { ⌜ is-listed (entry-of mid) ≡ true ⌝ }
     ensures { λ r. ⌜ Lists mid r (entry-of mid) ⌝ }
 {
     let mut k = 0;
-    while k < 10 {
+    loop {
         let row = MESSAGES[k];
         if row[0] == mid {
-            return Listed::Row {
+            return Row {
                 least: row[1],
                 greatest: row[2],
                 oldest: row[3],
@@ -120,7 +119,6 @@ fn row_of(mid: u64) -> Listed
         }
         k += 1;
     }
-    Listed::Not
 }
 
 // ---- the tests
@@ -209,31 +207,27 @@ fn own_error(x: Standing, e: Effect) -> Verdict
     }
 }
 
-// The error of a message of that number, length, revision and data: the tests in order.
+// The error of a message of that number, length, revision and data: the tests in order. The first is the decision over message
+// numbers: what comes to its closing arm is unknown.
 pub fn judge(x: Standing, mid: u64, size: usize, revision: u64, data_field: &[u8]) -> Verdict
     ensures { λ r. ⌜ error-in r ≡ error-of (standing-of x) mid size revision (now (data_field .entry)) ⌝ }
 {
-    let row = row_of(mid);
-    let Listed::Row {
-        least,
-        greatest,
-        oldest,
-        newest,
-    } = row
-    else {
+    let e = effect_of(mid);
+    if let Effect::Unknown = e {
         return Verdict::Unknown;
-    };
+    }
+    let row = row_of(mid);
     if starts_again(x.started, mid) {
         return Verdict::AlreadyStarted;
     }
-    if !within(least, greatest, size as u64) {
+    if !within(row.least, row.greatest, size as u64) {
         return Verdict::Length;
     }
-    if !within(oldest, newest, revision) {
+    if !within(row.oldest, row.newest, revision) {
         return Verdict::Revision;
     }
     if !text::is_text(data_field) {
         return Verdict::Data;
     }
-    own_error(x, effect_of(mid))
+    own_error(x, e)
 }

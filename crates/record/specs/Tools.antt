@@ -1,5 +1,4 @@
--- What the readers of records answer, in the model's terms. 01, "House records" and the table of numbers.
--- Assumes nothing: these are definitions.
+-- What the readers of records answer, in the model's terms. 01, "House records". Assumes nothing: these are definitions.
 use Prim.Native.Nat.{ℕ}
 use mathlib.Core.Bool.{Bool, cond}
 use mathlib.Core.List.{List}
@@ -17,9 +16,3 @@ abbrev pub tool-in : Kind → List ℕ → Option Tool
 tool-in Bad slice = none
 tool-in Tightening slice = some (tightening (identifier-in (payload slice)) (tightening-of (payload slice)))
 tool-in Scanned slice = some (scanned (payload slice))
-
--- the number with which a call refuses it, 0 where it does not
-abbrev pub refused-with : Kind → ℕ
-refused-with Bad = 7
-refused-with Tightening = 0
-refused-with Scanned = 0

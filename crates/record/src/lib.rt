@@ -1,7 +1,6 @@
 // House records: which slices are good settings and tool records, and which identifier is meant.
 ghost use mathlib.Core.Path.{_≡_};
 ghost use mathlib.Core.Bool.{true};
-ghost use Prim.Native.Nat.{_≤_};
 ghost use lib.ListN.{length, drop, getD};
 ghost use Rattle.model.specs.Bytes.{all};
 ghost use Rattle.model.specs.Records.{
@@ -9,7 +8,6 @@ ghost use Rattle.model.specs.Records.{
   good-in-time,
   is-time as is-time-of,
   good-item as good-item-of,
-  item-length,
   payload-length,
   parts,
   good-parts,
@@ -19,7 +17,7 @@ ghost use Rattle.model.specs.Records.{
 };
 ghost use Rattle.model.specs.Events.{identifier-of};
 ghost use Rattle.record.specs.Items.{item-of, items, readable};
-ghost use Rattle.record.specs.Tools.{settings-in, tool-in, refused-with};
+ghost use Rattle.record.specs.Tools.{settings-in, tool-in};
 
 // ---- times
 
@@ -190,17 +188,6 @@ pub fn tool_kind(slice: &[u8]) -> Kind
         return Kind::Scanned;
     }
     Kind::Bad
-}
-
-// The number with which the call refuses it, 0 where it does not.
-pub fn refusal(kind: Kind) -> u64
-    ensures { λ r. ⌜ r ≡ refused-with kind ⌝ }
-{
-    match kind {
-        Kind::Bad => 7,
-        Kind::Tightening => 0,
-        Kind::Scanned => 0,
-    }
 }
 
 // ---- which identifier is meant: the tool's own, or the one in force where that is all spaces; one of the two, as it stands

@@ -4,14 +4,17 @@ use Prim.Native.Nat.{ℕ, _+_, _-_, _≤_, _<_}
 use native.Mathlib.Omega.{arith}
 use mathlib.Core.Bool.{Bool, true, false, _&&_, and-eq-true-iff}
 use mathlib.Core.List.{List, [], _++_}
-use lib.Dec.{leb, lit≤}
+use lib.Dec.{leb, ltb, lit≤}
 use lib.ListN.{length, getD, take, drop, length-append}
-use borrow.Author.Tests.{leb-true, eq-eqb, ne-eqb}
+use borrow.Author.Tests.{leb-true, ltb-true, eq-eqb, ne-eqb}
 use borrow.Rule.Slice.PartMut.{putMid, midOf, mid-len, same-len-mid}
+use Rattle.model.specs.Limits.{idle-limit, given-up-at}
 use Rattle.model.specs.Records.{Settings}
 use Rattle.model.specs.Runs.{Run}
-use Rattle.model.specs.Notices.{Deed}
+use Rattle.model.specs.Events.{identifiers, tightenings}
+use Rattle.model.specs.Notices.{Deed, room-of}
 use Rattle.text.specs.Put.{Put}
+use Rattle.session.specs.Meaning.{most-held}
 use Rattle.session.specs.declared.Subscription.{Subscription}
 use Rattle.notices.specs.Places.{places-size, Deals, dealt-bytes}
 use Rattle.text.proofs.Cells.{area-same, area-before, area-after}
@@ -44,20 +47,20 @@ pub storable : (h : List ℕ) → head-formed h ≡ true → Storable (head-of h
 unfolding head-of head-formed
 storable h e =
     let p8 = and-eq-true-iff _ (forms-fit (getD h 0 0) (getD h 2 0) (getD h 5 0)) .0 e in
-    let p7 = and-eq-true-iff _ (leb (getD h 7 0) 8) .0 (p8 .0) in
-    let p6 = and-eq-true-iff _ (leb (getD h 6 0) 119) .0 (p7 .0) in
+    let p7 = and-eq-true-iff _ (leb (getD h 7 0) (most-held (room-of tightenings))) .0 (p8 .0) in
+    let p6 = and-eq-true-iff _ (ltb (getD h 6 0) given-up-at) .0 (p7 .0) in
     let p5 = and-eq-true-iff _ (leb (getD h 5 0) 2) .0 (p6 .0) in
-    let p4 = and-eq-true-iff _ (leb (getD h 4 0) 2) .0 (p5 .0) in
-    let p3 = and-eq-true-iff _ (leb (getD h 3 0) 119) .0 (p4 .0) in
+    let p4 = and-eq-true-iff _ (leb (getD h 4 0) (most-held (room-of identifiers))) .0 (p5 .0) in
+    let p3 = and-eq-true-iff _ (ltb (getD h 3 0) given-up-at) .0 (p4 .0) in
     let p2 = and-eq-true-iff _ (leb (getD h 2 0) 2) .0 (p3 .0) in
-    let p1 = and-eq-true-iff (leb (getD h 0 0) 2) (leb (getD h 1 0) 14) .0 (p2 .0) in
+    let p1 = and-eq-true-iff (leb (getD h 0 0) 2) (ltb (getD h 1 0) idle-limit) .0 (p2 .0) in
     record {
-      idle = leb-true _ 14 (p1 .1);
+      idle = ltb-true _ idle-limit (p1 .1);
       subscribed = fitting (getD h 2 0) (getD h 5 0) _ _ refl refl (getD h 0 0) (p8 .1);
-      i-clock = leb-true _ 119 (p3 .1);
-      i-held = leb-true _ 2 (p4 .1);
-      t-clock = leb-true _ 119 (p6 .1);
-      t-held = leb-true _ 8 (p7 .1);
+      i-clock = ltb-true _ given-up-at (p3 .1);
+      i-held = leb-true _ (most-held (room-of identifiers)) (p4 .1);
+      t-clock = ltb-true _ given-up-at (p6 .1);
+      t-held = leb-true _ (most-held (room-of tightenings)) (p7 .1);
     }
 
 formed-of : (r : List ℕ) → head-formed (head-area r) ≡ true → run-formed (run-area r) ≡ true → region-formed r ≡ true

@@ -1,10 +1,11 @@
 -- What is done to a session's two kinds of notice is what the model does. Assumes nothing.
 use mathlib.Core.Path.{_≡_, refl, sym, ap, ap₂, subst, _∙_}
-use Prim.Native.Nat.{ℕ, _+_, _≤_, _<_}
+use Prim.Native.Nat.{ℕ, _+_, _<_}
 use native.Mathlib.Omega.{arith}
 use mathlib.Core.List.{List, [], _∷_, _++_}
 use lib.ListN.{length}
 use borrow.Rule.Slice.PartMut.{mid-len}
+use Rattle.model.specs.Limits.{idle-limit}
 use Rattle.model.specs.Records.{Settings}
 use Rattle.model.specs.Runs.{Run}
 use Rattle.model.specs.Events.{Notice}
@@ -72,7 +73,7 @@ sound-storable x is ts s =
 
 -- one that is started may be subscribed to anything
 module _ (idle : ℕ) (i t : Subscription) (is ts : List ℕ) where
-  pub storable-kept : idle ≤ 14 → Kept 0 i is → Kept 1 t ts → Storable (record { phase = Started; idle = idle; identifiers = i; tightenings = t })
+  pub storable-kept : idle < idle-limit → Kept 0 i is → Kept 1 t ts → Storable (record { phase = Started; idle = idle; identifiers = i; tightenings = t })
   storable-kept l ki kt =
       let hi = ki .holds in
       let ht = kt .holds in

@@ -1,6 +1,6 @@
 -- A tick to a session in its region is the model's. Assumes nothing.
 use mathlib.Core.Path.{_≡_, refl, sym, ap, ap₂, subst, _∙_}
-use Prim.Native.Nat.{ℕ, suc, _+_, _≤_, _<_}
+use Prim.Native.Nat.{ℕ, suc, _+_, _<_}
 use native.Mathlib.Numerals.{add-one}
 use native.Mathlib.Omega.{arith}
 use mathlib.Core.Bool.{Bool, true, false, cond}
@@ -84,17 +84,17 @@ module _ (x : Session) where
   from-path : (y z : Session) → z ≡ y → Same z → Same y
   from-path y z e s = subst Same e s
 
-  idle-few : (y : Session) (over : Bool) → leb idle-limit (x .idle + 1) ≡ over → cond over TimesOut (Stays (with-idle x (x .idle + 1))) ≡ Stays y → y .idle ≤ 14
+  idle-few : (y : Session) (over : Bool) → leb idle-limit (x .idle + 1) ≡ over → cond over TimesOut (Stays (with-idle x (x .idle + 1))) ≡ Stays y → y .idle < idle-limit
   idle-few y true p e = absurd (never y e)
   idle-few y false p e =
       let l = leb-false idle-limit (x .idle + 1) p in
-      subst (λ (z : Session). z .idle ≤ 14) (injected (with-idle x (x .idle + 1)) y e) (omega arith)
+      subst (λ (z : Session). z .idle < idle-limit) (injected (with-idle x (x .idle + 1)) y e) (omega arith)
 
   pub stays-storable : (y : Session) → idled x ≡ Stays y → Storable x → Same y × Storable y
   unfolding idled
   stays-storable y e k = by-phase (x .phase) e
     where
-      few : Same y → y .idle ≤ 14 → Storable y
+      few : Same y → y .idle < idle-limit → Storable y
       few s l =
           record {
             idle = l;

@@ -3,6 +3,7 @@ ghost use mathlib.Core.Path.{_≡_};
 ghost use mathlib.Core.Bool.{true};
 ghost use Prim.Native.Nat.{_+_, _≤_, _<_};
 ghost use lib.ListN.{length, take};
+ghost use Rattle.model.specs.Limits.{header-length, run-kept};
 ghost use Rattle.model.specs.Records.{settings-of};
 ghost use Rattle.model.specs.Runs.{empty-run, longer, cut};
 ghost use Rattle.model.specs.Notices.{room-of, beats, acks, news, takes};
@@ -303,8 +304,8 @@ pub fn event(
 // 01, "What a message does": the reply to session s, if the decision has one. The run is the one that was decided on: the header of a
 // 9999 goes back as it came.
 fn reply(out: &mut [u8], at: usize, s: u64, settings: &[u8], run: &[u8], d: Decision) -> usize
-    requires { ⌜ (at + 62 ≤ length (now out)) × (s < 256) × (length (now settings) ≡ 33) × (d ≡ Decision.Mirror → 20 ≤ length (now run)) ⌝ }
-    ensures { λ r. ⌜ (r ≤ at + 62) × Put (now (out .entry)) at (out-bytes s (replies (settings-of (now (settings .entry))) (take 20 (now (run .entry))) d)) r (now (out .exit)) ⌝ }
+    requires { ⌜ (at + 62 ≤ length (now out)) × (s < 256) × (length (now settings) ≡ 33) × (d ≡ Decision.Mirror → header-length ≤ length (now run)) ⌝ }
+    ensures { λ r. ⌜ (r ≤ at + 62) × Put (now (out .entry)) at (out-bytes s (replies (settings-of (now (settings .entry))) (take header-length (now (run .entry))) d)) r (now (out .exit)) ⌝ }
 {
     match d {
         Decision::Nothing => at,
@@ -406,7 +407,7 @@ fn rule(
     count: usize,
     place: &mut [u8],
 ) -> Ruling
-    requires { ⌜ (at + 62 ≤ length (now out)) × (s < 256) × (length (now settings) ≡ 33) × (length (now run) ≤ 45) × (length (now place) ≡ 25) ⌝ }
+    requires { ⌜ (at + 62 ≤ length (now out)) × (s < 256) × (length (now settings) ≡ 33) × (length (now run) ≤ run-kept) × (length (now place) ≡ 25) ⌝ }
     ensures { λ r. ⌜ Ruled s (settings-of (now (settings .entry))) x (record { kept = now (run .entry); count = count }) (now (out .entry)) at (now (place .entry)) (r .decision) (r .at) (r .identified) (now (out .exit)) (now (place .exit)) ⌝ }
 {
     let data_field = frame::data_field(run);

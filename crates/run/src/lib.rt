@@ -1,8 +1,8 @@
 // The run of bytes that a session is receiving, as the table holds it.
 ghost use mathlib.Core.Path.{_≡_};
-ghost use mathlib.Core.Bool.{true};
 ghost use Prim.Native.Nat.{_≤_, min};
 ghost use lib.ListN.{length};
+ghost use Rattle.model.specs.Limits.{run-counted};
 ghost use Rattle.model.specs.Runs.{empty-run, longer as longer-run, cut, consumed-by};
 ghost use Rattle.run.specs.Area.{run-of, run-formed, Area, Ends};
 
@@ -69,7 +69,7 @@ pub fn is_formed(area: &[u8]) -> bool
 // How many bytes it has.
 pub fn count(area: &[u8]) -> usize
     requires { ⌜ Area (now area) ⌝ }
-    ensures { λ r. ⌜ (r ≡ run-of (now (area .entry)) .count) × (r ≤ 10000) ⌝ }
+    ensures { λ r. ⌜ (r ≡ run-of (now (area .entry)) .count) × (r ≤ run-counted) ⌝ }
 {
     text::little(area, 0, 2) as usize
 }

@@ -5,6 +5,7 @@ use mathlib.Core.Bool.{Bool, true, false, cond}
 use lib.Dec.{ltb, leb, eqb}
 use Rattle.model.specs.Limits.{idle-limit, copy-every, given-up-at}
 use Rattle.model.specs.Notices.{Room, the-newest, up-to}
+use Rattle.session.specs.Meaning.{most-held}
 use Rattle.session.specs.declared.Form.{Form}
 use Rattle.session.specs.declared.Form.the-variants as form
 use Rattle.session.specs.declared.Phase.{Phase}
@@ -126,7 +127,7 @@ take-or x busy = take-from (x .form) x busy
 
 -- where one is open: the newest waits alone; or it waits behind the others, where there is room
 abbrev pub taken-busy : Room → Subscription → Taken
-taken-busy the-newest x = takes (take.Waits 1) (holding x (x .clock) 2)
+taken-busy the-newest x = takes (take.Waits 1) (holding x (x .clock) (most-held the-newest))
 taken-busy (up-to most) x =
     cond (leb most (x .held)) (takes take.Not x) (takes (take.Waits (x .held)) (holding x (x .clock) (x .held + 1)))
 

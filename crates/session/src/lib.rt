@@ -90,6 +90,9 @@ impl Session {
     // Ticks of an open notice until it is given up.
     pub const GIVEN_UP_AT: u64 = 120;
 
+    // Identifiers that a session holds: the open one, and the newest of those that came since.
+    pub const IDENTIFIERS_HELD: u64 = 2;
+
     // Tightenings that a session holds, the open one included.
     pub const TIGHTENINGS_HELD: u64 = 8;
 
@@ -376,7 +379,7 @@ pub fn take_identifier(x: Subscription) -> Taken
 {
     let busy = Taken {
         take: Take::Waits(1),
-        next: holding(x, x.clock, 2),
+        next: holding(x, x.clock, Session::IDENTIFIERS_HELD),
     };
     take_or(x, busy)
 }

@@ -1,6 +1,6 @@
 -- `head::is_formed` meets its contract. Assumes nothing.
 use borrow.Author.Needs.{needs}
-use borrow.Author.Tests.{le-leb, lt-leb}
+use borrow.Author.Tests.{le-leb, lt-leb, lt-ltb, le-ltb}
 use Rattle.head.specs.Head.{head-formed}
 use Rattle.head.proofs.is_formed.Statement.{statement}
 use Rattle.head.proofs.is_formed.Tie as tie
@@ -19,12 +19,12 @@ returns-9 c =
     let i1 = i2 .before .before in
     rw (
       le-leb _ _ (i1 .if1 .left),
-      le-leb _ _ (i2 .if2 .left),
+      lt-ltb _ _ (i2 .if2 .left),
       le-leb _ _ (i3 .if3 .left),
-      le-leb _ _ (i4 .if4 .left),
+      lt-ltb _ _ (i4 .if4 .left),
       le-leb _ _ (i5 .if5 .left),
       le-leb _ _ (i6 .if6 .left),
-      le-leb _ _ (i7 .if7 .left),
+      lt-ltb _ _ (i7 .if7 .left),
       le-leb _ _ (i8 .if8 .left),
     )
     (c .forms-fit .ensures)
@@ -37,19 +37,19 @@ is-formed-spec =
     (λ c. search needs)
     (λ c. rw (lt-leb _ _ (c .if1 .taken)))
     (λ c. search needs)
-    (λ c. rw (le-leb _ _ (c .before .before .if1 .left), lt-leb _ _ (c .if2 .taken)))
+    (λ c. rw (le-leb _ _ (c .before .before .if1 .left), le-ltb _ _ (c .if2 .taken)))
     (λ c. search needs)
-    (λ c. rw (le-leb _ _ (c .before .before .before .before .if1 .left), le-leb _ _ (c .before .before .if2 .left), lt-leb _ _ (c .if3 .taken)))
+    (λ c. rw (le-leb _ _ (c .before .before .before .before .if1 .left), lt-ltb _ _ (c .before .before .if2 .left), lt-leb _ _ (c .if3 .taken)))
     (λ c. search needs)
-    (λ c. rw (le-leb _ _ (c .before .before .before .before .before .before .if1 .left), le-leb _ _ (c .before .before .before .before .if2 .left), le-leb _ _ (c .before .before .if3 .left), lt-leb _ _ (c .if4 .taken)))
+    (λ c. rw (le-leb _ _ (c .before .before .before .before .before .before .if1 .left), lt-ltb _ _ (c .before .before .before .before .if2 .left), le-leb _ _ (c .before .before .if3 .left), le-ltb _ _ (c .if4 .taken)))
     (λ c. search needs)
-    (λ c. rw (le-leb _ _ (c .before .before .before .before .before .before .before .before .if1 .left), le-leb _ _ (c .before .before .before .before .before .before .if2 .left), le-leb _ _ (c .before .before .before .before .if3 .left), le-leb _ _ (c .before .before .if4 .left), lt-leb _ _ (c .if5 .taken)))
+    (λ c. rw (le-leb _ _ (c .before .before .before .before .before .before .before .before .if1 .left), lt-ltb _ _ (c .before .before .before .before .before .before .if2 .left), le-leb _ _ (c .before .before .before .before .if3 .left), lt-ltb _ _ (c .before .before .if4 .left), lt-leb _ _ (c .if5 .taken)))
     (λ c. search needs)
-    (λ c. rw (le-leb _ _ (c .before .before .before .before .before .before .before .before .before .before .if1 .left), le-leb _ _ (c .before .before .before .before .before .before .before .before .if2 .left), le-leb _ _ (c .before .before .before .before .before .before .if3 .left), le-leb _ _ (c .before .before .before .before .if4 .left), le-leb _ _ (c .before .before .if5 .left), lt-leb _ _ (c .if6 .taken)))
+    (λ c. rw (le-leb _ _ (c .before .before .before .before .before .before .before .before .before .before .if1 .left), lt-ltb _ _ (c .before .before .before .before .before .before .before .before .if2 .left), le-leb _ _ (c .before .before .before .before .before .before .if3 .left), lt-ltb _ _ (c .before .before .before .before .if4 .left), le-leb _ _ (c .before .before .if5 .left), lt-leb _ _ (c .if6 .taken)))
     (λ c. search needs)
-    (λ c. rw (le-leb _ _ (c .before .before .before .before .before .before .before .before .before .before .before .before .if1 .left), le-leb _ _ (c .before .before .before .before .before .before .before .before .before .before .if2 .left), le-leb _ _ (c .before .before .before .before .before .before .before .before .if3 .left), le-leb _ _ (c .before .before .before .before .before .before .if4 .left), le-leb _ _ (c .before .before .before .before .if5 .left), le-leb _ _ (c .before .before .if6 .left), lt-leb _ _ (c .if7 .taken)))
+    (λ c. rw (le-leb _ _ (c .before .before .before .before .before .before .before .before .before .before .before .before .if1 .left), lt-ltb _ _ (c .before .before .before .before .before .before .before .before .before .before .if2 .left), le-leb _ _ (c .before .before .before .before .before .before .before .before .if3 .left), lt-ltb _ _ (c .before .before .before .before .before .before .if4 .left), le-leb _ _ (c .before .before .before .before .if5 .left), le-leb _ _ (c .before .before .if6 .left), le-ltb _ _ (c .if7 .taken)))
     (λ c. search needs)
-    (λ c. rw (le-leb _ _ (c .before .before .before .before .before .before .before .before .before .before .before .before .before .before .if1 .left), le-leb _ _ (c .before .before .before .before .before .before .before .before .before .before .before .before .if2 .left), le-leb _ _ (c .before .before .before .before .before .before .before .before .before .before .if3 .left), le-leb _ _ (c .before .before .before .before .before .before .before .before .if4 .left), le-leb _ _ (c .before .before .before .before .before .before .if5 .left), le-leb _ _ (c .before .before .before .before .if6 .left), le-leb _ _ (c .before .before .if7 .left), lt-leb _ _ (c .if8 .taken)))
+    (λ c. rw (le-leb _ _ (c .before .before .before .before .before .before .before .before .before .before .before .before .before .before .if1 .left), lt-ltb _ _ (c .before .before .before .before .before .before .before .before .before .before .before .before .if2 .left), le-leb _ _ (c .before .before .before .before .before .before .before .before .before .before .if3 .left), lt-ltb _ _ (c .before .before .before .before .before .before .before .before .if4 .left), le-leb _ _ (c .before .before .before .before .before .before .if5 .left), le-leb _ _ (c .before .before .before .before .if6 .left), lt-ltb _ _ (c .before .before .if7 .left), lt-leb _ _ (c .if8 .taken)))
     (λ c. search needs)
     (λ c. search needs)
     (λ c. search needs)

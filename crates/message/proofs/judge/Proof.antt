@@ -2,18 +2,22 @@
 use borrow.Author.Needs.{needs}
 use borrow.Author.Tests.{not-true, not-false}
 use mathlib.Core.Path.{refl, sym, _∙_, ap}
+use native.Mathlib.Omega.{arith}
 use Rattle.message.specs.Inner.{own-error}
-use Rattle.message.proofs.Order.{unknown, ordered}
+use Rattle.message.proofs.Order.{known, unknown, ordered}
 use Rattle.message.proofs.judge.Statement.{statement}
 use Rattle.message.proofs.judge.Tie as tie
 
 returns : tie.Need-returns
-returns c = unknown _ _ _ _ _ (c .enum-told .given .1) (c .before .before .row-of .ensures)
+returns c = unknown _ _ _ _ _ (c .enum-told .given .1) (c .before .before .effect-of .ensures)
+
+row-of-requires : tie.Need-row-of-requires
+row-of-requires c κs = known _ (c .before .effect-of .result) (c .match .keys2) (c .before .effect-of .ensures)
 
 returns-2 : tie.Need-returns-2
 returns-2 c =
-    let l = c .before .before .before in
-    ordered _ _ _ _ _ (search needs) (l .row .given .1) (l .before .before .row-of .ensures)
+    let r = c .before .before in
+    ordered _ _ _ _ _ _ (search needs) (r .row-of .ensures)
     (sym (c .if1 .taken) ∙ c .before .starts-again .ensures)
     refl
     refl
@@ -23,8 +27,8 @@ returns-2 c =
 returns-3 : tie.Need-returns-3
 returns-3 c =
     let a = c .before .before in
-    let l = a .before .before .before in
-    ordered _ _ _ _ _ (search needs) (l .row .given .1) (l .before .before .row-of .ensures)
+    let r = a .before .before in
+    ordered _ _ _ _ _ _ (search needs) (r .row-of .ensures)
     (sym (a .if1 .left) ∙ a .before .starts-again .ensures)
     (sym (not-true _ (c .if2 .taken)) ∙ c .before .within .ensures)
     refl
@@ -35,8 +39,8 @@ returns-4 : tie.Need-returns-4
 returns-4 c =
     let s = c .before .before in
     let a = s .before .before in
-    let l = a .before .before .before in
-    ordered _ _ _ _ _ (search needs) (l .row .given .1) (l .before .before .row-of .ensures)
+    let r = a .before .before in
+    ordered _ _ _ _ _ _ (search needs) (r .row-of .ensures)
     (sym (a .if1 .left) ∙ a .before .starts-again .ensures)
     (sym (not-false _ (s .if2 .left)) ∙ s .before .within .ensures)
     (sym (not-true _ (c .if3 .taken)) ∙ c .before .within2 .ensures)
@@ -48,8 +52,8 @@ returns-5 c =
     let v = c .before .before in
     let s = v .before .before in
     let a = s .before .before in
-    let l = a .before .before .before in
-    ordered _ _ _ _ _ (search needs) (l .row .given .1) (l .before .before .row-of .ensures)
+    let r = a .before .before in
+    ordered _ _ _ _ _ _ (search needs) (r .row-of .ensures)
     (sym (a .if1 .left) ∙ a .before .starts-again .ensures)
     (sym (not-false _ (s .if2 .left)) ∙ s .before .within .ensures)
     (sym (not-false _ (v .if3 .left)) ∙ v .before .within2 .ensures)
@@ -58,17 +62,18 @@ returns-5 c =
 
 returns-6 : tie.Need-returns-6
 returns-6 c =
-    let t = c .before .before in
+    let t = c .before in
     let v = t .before .before in
     let s = v .before .before in
     let a = s .before .before in
-    let l = a .before .before .before in
-    ordered _ _ _ _ _ (search needs) (l .row .given .1) (l .before .before .row-of .ensures)
+    let r = a .before .before in
+    let few = r .before .before .before .before .fits .revision in
+    ordered _ _ _ _ _ _ (omega arith) (r .row-of .ensures)
     (sym (a .if1 .left) ∙ a .before .starts-again .ensures)
     (sym (not-false _ (s .if2 .left)) ∙ s .before .within .ensures)
     (sym (not-false _ (v .if3 .left)) ∙ v .before .within2 .ensures)
     (sym (not-false _ (t .if4 .left)) ∙ t .before .is-text .ensures)
-    (c .own-error .ensures ∙ ap (own-error _) (c .before .effect-of .ensures))
+    (c .own-error .ensures ∙ ap (own-error _) (r .before .before .effect-of .ensures))
 
 pub judge-spec : {M : Type 1} → statement M
 judge-spec =
@@ -76,8 +81,8 @@ judge-spec =
     (tie.spec
     (λ c κs. search needs)
     (λ c. search needs)
-    (λ c. search needs)
     returns
+    row-of-requires
     (λ c κs. search needs)
     returns-2
     (λ c κs. search needs)
@@ -86,6 +91,5 @@ judge-spec =
     returns-4
     (λ c κs. search needs)
     returns-5
-    (λ c κs. search needs)
     (λ c κs. search needs)
     returns-6)

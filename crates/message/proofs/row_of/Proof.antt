@@ -1,16 +1,15 @@
--- `message::row_of` meets its contract. The loop's invariant: the entry of the number, if there is one, is among the rows from place k on.
--- Assumes nothing.
+-- `message::row_of` meets its contract. The loop's invariant: the entry of the number is among the rows from place k on. Assumes nothing.
 use borrow.Author.Needs.{needs}
 use mathlib.Core.Path.{_≡_}
-use Prim.Native.Nat.{_≤_, _-_}
+use Prim.Native.Nat.{_<_, _-_}
 use lib.ListN.{drop}
 use Rattle.model.specs.Messages.{table, listed, entry-of}
-use Rattle.message.proofs.Rule.{passed, found, absent}
+use Rattle.message.proofs.Rule.{passed, found, in-table}
 use Rattle.message.proofs.row_of.Statement.{statement}
 use Rattle.message.proofs.row_of.Tie as tie
 
 abbrev Inv-loop : tie.InvT-loop
-Inv-loop mid k₀ k = (k ≤ 10) × (entry-of mid ≡ listed (drop k table) mid)
+Inv-loop mid k₀ k = (k < 10) × (entry-of mid ≡ listed (drop k table) mid)
 
 abbrev μ-loop : tie.MeasureT-loop
 μ-loop mid k₀ k = 10 - k
@@ -20,14 +19,13 @@ unfolding entry-of
 loop-holds c = search needs
 
 returns : tie.Need-returns Inv-loop μ-loop
-returns c = found _ _ (c .before .before .loop-test .taken) (c .before .before .before .loop .inv .1) (c .if1 .taken)
+returns c = found _ _ (c .before .before .loop .inv .0) (c .before .before .loop .inv .1) (c .if1 .taken)
 
 loop-again : tie.Need-loop-again Inv-loop μ-loop
 loop-again c =
-    (search needs, passed _ _ (c .before .before .loop-test .taken) (c .before .before .before .loop .inv .1) (c .if1 .left))
-
-returns-2 : tie.Need-returns-2 Inv-loop μ-loop
-returns-2 c = absent _ _ (c .before .loop .inv .0) (c .loop-test .left) (c .before .loop .inv .1)
+    let l = c .before .before .loop .inv in
+    let q = passed _ _ (l .0) (l .1) (c .if1 .left) in
+    (in-table _ _ (c .before .before .before .pre) q (search needs), q)
 
 pub row-of-spec : {M : Type 1} → statement M
 row-of-spec =
@@ -46,5 +44,4 @@ row-of-spec =
     returns
     (λ c. search needs)
     (λ c. search needs)
-    loop-again
-    returns-2)
+    loop-again)
