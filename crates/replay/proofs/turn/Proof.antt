@@ -1,43 +1,62 @@
--- `replay::turn` is safe and ends. Assumes nothing.
+-- `replay::turn` meets its contract. Assumes nothing.
 use borrow.Author.Needs.{needs}
-use mathlib.Core.Path.{_≡_, sym}
+use mathlib.Core.Path.{_≡_, sym, _∙_}
 use Prim.Native.Nat.{_+_}
 use native.Mathlib.Omega.{arith}
+use lib.ListN.{length, take}
 use lib.Seq.{length-take-le}
+use Rattle.replay.proofs.Reading.{waits-few, turned-none, turned-served}
 use Rattle.replay.proofs.turn.Statement.{statement}
 use Rattle.replay.proofs.turn.Tie as tie
+
+returns : tie.Need-returns
+returns c = let pre = c .before .before .before .before .before .before .before .before .before .pre in (turned-none (c .before .before .before .fill .ensures .1) (pre .2), pre .1)
 
 slice-aggregate-serve : tie.Need-slice-aggregate-serve
 slice-aggregate-serve c =
     let f = c .before .before .before .before .before .before .before .fill in
-    let h = f .ensures in
+    let h = f .ensures .0 in
     let k = f .kept .0 in
     sym (length-take-le (c .before .before .before .before .before .before .before .before .before .before .before .before .before .args .size + f .result) (f .last .0) (omega arith))
 
 sub-shift : tie.Need-sub-shift
 sub-shift c =
-    let f = c .before .before .before .before .before .before .before .before .before .before .before .before .before .before .before .fill in
-    let h = f .ensures in
+    let s = c .before .before .before .before .before .before .before .before .before .before .before .before .before .before .before .before .before .before .before .before .before .before .before in
+    let f = c .before .before .before .before .before .before .before .before .before .before .before .before .before .before .before .before .before .fill in
+    let h = f .ensures .0 in
     let k = f .kept .0 in
-    let n = length-take-le (c .before .before .before .before .before .before .before .before .before .before .before .before .before .before .before .before .before .before .before .before .before .args .size + f .result) (f .last .0) (omega arith) in
-    omega (arith, c .before .before .before .before .before .before .before .serve .ensures)
+    let bs = take (s .args .size + f .result) (f .last .0) in
+    let n = length-take-le (s .args .size + f .result) (f .last .0) (omega arith) in
+    let v = c .before .before .before .before .before .before .before .before .before .serve .ensures .1 .0 in
+    let few = waits-few bs in
+    omega arith
 
 shift-requires : tie.Need-shift-requires
 shift-requires c κs =
-    let f = c .before .before .before .before .before .before .before .before .before .before .before .before .before .before .before .fill in
-    let h = f .ensures in
+    let s = c .before .before .before .before .before .before .before .before .before .before .before .before .before .before .before .before .before .before .before .before .before .before .before in
+    let f = c .before .before .before .before .before .before .before .before .before .before .before .before .before .before .before .before .before .fill in
+    let h = f .ensures .0 in
     let k = f .kept .0 in
-    let n = length-take-le (c .before .before .before .before .before .before .before .before .before .before .before .before .before .before .before .before .before .before .before .before .before .args .size + f .result) (f .last .0) (omega arith) in
-    let v = c .before .before .before .before .before .before .before .serve .ensures in
+    let bs = take (s .args .size + f .result) (f .last .0) in
+    let n = length-take-le (s .args .size + f .result) (f .last .0) (omega arith) in
+    let v = c .before .before .before .before .before .before .before .before .before .serve .ensures .1 .0 in
+    let few = waits-few bs in
     (omega arith, omega arith)
 
 returns-2 : tie.Need-returns-2
 returns-2 c =
-    let f = c .before .before .before .before .before .before .before .before .before .before .before .before .before .before .before .before .before .before .fill in
-    let h = f .ensures in
+    let s = c .before .before .before .before .before .before .before .before .before .before .before .before .before .before .before .before .before .before .before .before .before .before .before .before .before .before in
+    let f = c .before .before .before .before .before .before .before .before .before .before .before .before .before .before .before .before .before .before .before .before .fill in
+    let h = f .ensures .0 in
     let k = f .kept .0 in
-    let n = length-take-le (c .before .before .before .before .before .before .before .before .before .before .before .before .before .before .before .before .before .before .before .before .before .before .before .before .args .size + f .result) (f .last .0) (omega arith) in
-    omega (arith, c .before .before .before .before .before .before .before .before .before .before .serve .ensures)
+    let bs = take (s .args .size + f .result) (f .last .0) in
+    let n = length-take-le (s .args .size + f .result) (f .last .0) (omega arith) in
+    let v = c .before .before .before .before .before .before .before .before .before .before .before .before .serve .ensures .1 .0 in
+    let few = waits-few bs in
+    let served = c .before .before .before .before .before .before .before .before .before .before .before .before .serve in (
+      turned-served (s .args .size) (f .result) (served .result .size) (f .last .0) (f .ensures .1) (omega arith) (served .ensures .0) v (c .before .before .shift .ensures),
+      omega arith,
+    )
 
 pub turn-spec : {M : Type 1} → statement M
 turn-spec =
@@ -45,10 +64,11 @@ turn-spec =
     (tie.spec
     (λ c κs. search needs)
     (λ c. search needs)
-    (λ c. search needs)
+    returns
     (λ c. search needs)
     (λ c. search needs)
     slice-aggregate-serve
+    (λ c κs. search needs)
     (λ c κs. search needs)
     sub-shift
     shift-requires
