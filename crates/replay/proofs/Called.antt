@@ -14,7 +14,8 @@ use Rattle.model.specs.Records.{Settings, read-settings}
 use Rattle.model.specs.Session.{Session, Emission}
 use Rattle.model.specs.Row.{Tagged}
 use Rattle.model.specs.World.{World, uncounted, emits, begins, after, emitted}
-use Rattle.model.specs.Calls.{Call, start, open-session, hang-up-session, bytes, one-tick, tool, Lent, settled, output, refusal, answered, step}
+use Rattle.model.specs.Calls.{Call, start, open-session, hang-up-session, bytes, one-tick, tool}
+use Rattle.model.specs.Calls.{Lent, settled, output, refusal, answered, step}
 use Rattle.model.specs.Calls as model
 use Rattle.model.specs.Program.{State, is-start, lent, called, lines-of, printed}
 use Rattle.model.proofs.Erase.{erase-session, erase-world}
@@ -42,7 +43,19 @@ record Regardless (c : Call) (q p : Said) : Type 0 where
   pub starts : p .1 .number ≡ 0 → is-start c ≡ true
   pub world : p .1 .number ≡ 0 → uncounted (q .0) ≡ erase-world (p .0)
 
+-- the answer of a start that is done and has these go out
+abbrev start-answer : List (Tagged Emission) → model.Answer
+start-answer es = record { number = 0; consumed = 0; written = length (output es); taken = 0 }
+
 module _ (v w : World) where
+  refused-both : (c : Call) (n : ℕ) → Regardless c (answered v c (suc n)) (answered w c (suc n))
+  refused-both c n = record {
+    answer = refl;
+    silent = (refl, refl);
+    starts = λ k. absurd (omega arith);
+    world = λ k. absurd (omega arith);
+  }
+
   begun-silent : (x : World) (st : Settings) → emitted x (settled (some st)) ≡ []
   begun-silent x st = ap (λ (es : List (Tagged Emission)). es ++ []) (start-silent x st)
 
@@ -53,25 +66,21 @@ module _ (v w : World) where
       let a = begun-silent v st in
       let b = begun-silent w st in
       rw e (record {
-        answer = ap (λ (es : List (Tagged Emission)). record { number = 0; consumed = 0; written = length (output es); taken = 0 }) (a ∙ sym b);
+        answer = ap start-answer (a ∙ sym b);
         silent = (a, b);
         starts = λ k. refl;
         world = λ k. refl;
       })
-  started slice o (suc n) e z = record { answer = refl; silent = (refl, refl); starts = λ k. absurd (omega arith); world = λ k. absurd (omega arith) }
-
-  refused : (c : Call) (n : ℕ) → n ≡ 2 → Regardless c (answered v c n) (answered w c n)
-  refused c zero e = absurd (omega arith)
-  refused c (suc n) e = record { answer = refl; silent = (refl, refl); starts = λ k. absurd (omega arith); world = λ k. absurd (omega arith) }
+  started slice o (suc n) e z = refused-both (start slice) n
 
   regardless : (c : Call) → Regardless c (step (with-formed false) v c) (step (with-formed false) w c)
   unfolding step refusal
   regardless (start slice) = started slice (read-settings slice) (cond (model.is-none (read-settings slice)) 9 0) refl refl
-  regardless (open-session s) = refused (open-session s) 2 refl
-  regardless (hang-up-session s) = refused (hang-up-session s) 2 refl
-  regardless (bytes s bs) = refused (bytes s bs) 2 refl
-  regardless one-tick = refused one-tick 2 refl
-  regardless (tool slice) = refused (tool slice) 2 refl
+  regardless (open-session s) = refused-both (open-session s) 1
+  regardless (hang-up-session s) = refused-both (hang-up-session s) 1
+  regardless (bytes s bs) = refused-both (bytes s bs) 1
+  regardless one-tick = refused-both one-tick 1
+  regardless (tool slice) = refused-both (tool slice) 1
 
 -- ==== a call, on a table that is well formed or not
 
@@ -87,12 +96,14 @@ and-false : (a b : Bool) → b ≡ false → (a && b) ≡ false
 and-false true b e = e
 and-false false b e = refl
 
-module _ {c : Call} {t o : List ℕ} {r : Answer} {t′ o′ : List ℕ} (out : Outcome c t o r t′ o′) (size : length t ≡ table-least) (room : length o ≡ output-least) (w : World) where
+module _ {c : Call} {t o : List ℕ} {r : Answer} {t′ o′ : List ℕ} (out : Outcome c t o r t′ o′)
+    (size : length t ≡ table-least) (room : length o ≡ output-least) (w : World) where
   as-formed : table-formed t ≡ true → decode t ≡ erase-world w → As c true (step (with-formed true) w c) r t′ o′
   as-formed f e =
       let h : Table t = record { size = omega arith; formed = f } in
       let k = one-call w h e out in
-      let same : step (lending (length t) (length o)) w c ≡ step (with-formed true) w c = ap₂ (λ (m n : ℕ). step (lending m n) w c) size room in
+      let same : step (lending (length t) (length o)) w c ≡ step (with-formed true) w c =
+      ap₂ (λ (m n : ℕ). step (lending m n) w c) size room in
       let four : length (w .sessions) ≡ 4 =
       sym (length-map (w .sessions) erase-session) ∙ ap (λ (v : World). length (v .sessions)) (sym e) ∙ four-sessions t in
       record {
@@ -105,7 +116,9 @@ module _ {c : Call} {t o : List ℕ} {r : Answer} {t′ o′ : List ℕ} (out : 
 
   formed-after : (k : ℕ) → r .number ≡ k → (k ≡ 0 → is-start c ≡ true) → table-formed t ≡ false → table-formed t′ ≡ (is-start c && eqb k 0)
   formed-after zero e s f = out .formed e ∙ sym (ap (λ (b : Bool). b && true) (s refl))
-  formed-after (suc k) e s f = ap table-formed (out .kept (λ (z : r .number ≡ 0). omega arith)) ∙ f ∙ sym (and-false (is-start c) (eqb (suc k) 0) (ne-eqb (suc k) 0 (λ (z : suc k ≡ 0). omega arith)))
+  formed-after (suc k) e s f =
+      ap table-formed (out .kept (λ (z : r .number ≡ 0). omega arith)) ∙ f
+      ∙ sym (and-false (is-start c) (eqb (suc k) 0) (ne-eqb (suc k) 0 (λ (z : suc k ≡ 0). omega arith)))
 
   as-unformed : table-formed t ≡ false → As c false (step (with-formed false) w c) r t′ o′
   as-unformed f =
@@ -119,7 +132,9 @@ module _ {c : Call} {t o : List ℕ} {r : Answer} {t′ o′ : List ℕ} (out : 
         bytes = stands out .records ∙ ap (λ (x : Said). output (x .2)) same ∙ ap output (g .silent .0 ∙ sym (g .silent .1));
         below = subst (Below 4) (sym (g .silent .1)) tt;
         formed = formed-after (q .1 .number) (ap (λ (a : model.Answer). a .number) answer) (g .starts) f;
-        world = λ z. out .meaning ∙ ap (λ (x : Said). uncounted (x .0)) same ∙ g .world (eqb-true _ _ (and-eq-true-iff (is-start c) (eqb (q .1 .number) 0) .0 z .1));
+        world = λ z.
+            out .meaning ∙ ap (λ (x : Said). uncounted (x .0)) same
+            ∙ g .world (eqb-true _ _ (and-eq-true-iff (is-start c) (eqb (q .1 .number) 0) .0 z .1));
       }
 
   as-called : (b : Bool) → table-formed t ≡ b → (b ≡ true → decode t ≡ erase-world w) → As c b (step (with-formed b) w c) r t′ o′
@@ -133,7 +148,8 @@ printed-append [] b = refl
 printed-append (l ∷ a) b =
     ap (λ (x : List ℕ). l ++ 0x0A ∷ x) (printed-append a b) ∙ sym (append-assoc l (0x0A ∷ printed a) (printed b))
 
-module _ {c : Call} {t o : List ℕ} {r : Answer} {t′ o′ : List ℕ} (out : Outcome c t o r t′ o′) (size : length t ≡ table-least) (room : length o ≡ output-least) where
+module _ {c : Call} {t o : List ℕ} {r : Answer} {t′ o′ : List ℕ} (out : Outcome c t o r t′ o′)
+    (size : length t ≡ table-least) (room : length o ≡ output-least) where
   as-state : (x : State) → Means t x → As c (x .formed) (step (lent x) (x .world) c) r t′ o′
   as-state x m = as-called out size room (x .world) (x .formed) (m .formed) (m .world)
 
@@ -141,7 +157,8 @@ module _ {c : Call} {t o : List ℕ} {r : Answer} {t′ o′ : List ℕ} (out : 
   called-answer x m = as-state x m .answer
 
   -- A CALL of the program's
-  pub called-follows : {bound : ℕ} {waited waits : List ℕ} → Behind bound waited (text-of r o′) waits → Follows (λ x. called x c) bound t waited t′ waits
+  pub called-follows : {bound : ℕ} {waited waits : List ℕ} → Behind bound waited (text-of r o′) waits
+      → Follows (λ x. called x c) bound t waited t′ waits
   called-follows b = record {
     new = text-of r o′;
     leads = record {

@@ -25,7 +25,9 @@ fed-next : (m s : ℕ) (y : State) (left rest : List ℕ) (a : model.Answer) (go
     → fed (suc m) y s left ≡ cond going (fed m (called y (bytes s left)) s rest) (called y (bytes s left))
 fed-next m s y left rest a going e d g =
     let z : State = called y (bytes s left) in
-    ap (λ (b : model.Answer). elim (eqb (b .number) 0 && not (eqb (length (drop (b .consumed) left)) 0)) [ true ↦ fed m z s (drop (b .consumed) left) | false ↦ z ]) e
+    ap (λ (b : model.Answer).
+    let l : List ℕ = drop (b .consumed) left in
+    elim (eqb (b .number) 0 && not (eqb (length l) 0)) [ true ↦ fed m z s l | false ↦ z ]) e
     ∙ ap (λ (l : List ℕ). elim (eqb (a .number) 0 && not (eqb (length l) 0)) [ true ↦ fed m z s l | false ↦ z ]) (sym d)
     ∙ chosen (eqb (a .number) 0 && not (eqb (length rest) 0)) (fed m z s rest) z
     ∙ ap (λ (b : Bool). cond b (fed m z s rest) z) (sym g)
@@ -53,13 +55,15 @@ feeding-begins s bs room t waited = record {
 }
 
 pub feeding-on : {s room : ℕ} {bs t waited t′ waits left o t₁ o₁ waits₁ rest : List ℕ} {r : Answer} {going on : Bool}
-    → Feeding s bs room t waited t′ waits left going → going ≡ true → Outcome (bytes s left) t′ o r t₁ o₁ → length t′ ≡ table-least → length o ≡ output-least
+    → Feeding s bs room t waited t′ waits left going → going ≡ true
+    → Outcome (bytes s left) t′ o r t₁ o₁ → length t′ ≡ table-least → length o ≡ output-least
     → Behind room waits (text-of r o₁) waits₁ → rest ≡ drop (r .consumed) left → on ≡ (eqb (r .number) 0 && not (eqb (length rest) 0))
     → Feeding s bs room t waited t₁ waits₁ rest on
-feeding-on {s = s} {room = room} {bs = bs} {t = t} {waited = waited} {t′ = t′} {left = left} {t₁ = t₁} {waits₁ = waits₁} {rest = rest} {r = r} {going = going} {on = on} f e out size lends b d g =
+feeding-on {s} {room} {bs} {t} {waited} {t′} {waits} {left} {o} {t₁} {o₁} {waits₁} {rest} {r} {going} {on} f e out size lends b d g =
     go (f .more) (f .enough e) (λ x m. ap (λ (k : Bool). cond k (fed (f .more) (f .so-far x) s left) (f .so-far x)) (sym e) ∙ f .rest x m)
   where
-    go : (m : ℕ) → length left < m → ((x : State) → Means t x → fed m (f .so-far x) s left ≡ fed (suc (length bs)) x s bs) → Feeding s bs room t waited t₁ waits₁ rest on
+    go : (m : ℕ) → length left < m → ((x : State) → Means t x → fed m (f .so-far x) s left ≡ fed (suc (length bs)) x s bs)
+        → Feeding s bs room t waited t₁ waits₁ rest on
     go zero h k = absurd (omega arith)
     go (suc m) h k = record {
       more = m;
@@ -71,14 +75,17 @@ feeding-on {s = s} {room = room} {bs = bs} {t = t} {waited = waited} {t′ = t�
           omega arith;
       so-far = λ x. called (f .so-far x) (bytes s left);
       follows = follows-then (f .follows) (called-follows out size lends b);
-      rest = λ x means. sym (fed-next m s (f .so-far x) left rest (model-answer r) on (sym (called-answer out size lends (f .so-far x) (f .follows .leads .state x means))) d g) ∙ k x means;
+      rest = λ x means.
+          let answer = called-answer out size lends (f .so-far x) (f .follows .leads .state x means) in
+          sym (fed-next m s (f .so-far x) left rest (model-answer r) on (sym answer) d g) ∙ k x means;
     }
       where
         over : (n : ℕ) → not (eqb n 0) ≡ true → 0 < n
         over zero q = let z : _≡_ {A = ℕ} 0 1 = cc in omega arith
         over (suc n) q = omega arith
 
-pub feeding-ends : {s room : ℕ} {bs t waited t′ waits left : List ℕ} {going : Bool} → Feeding s bs room t waited t′ waits left going → going ≡ false
+pub feeding-ends : {s room : ℕ} {bs t waited t′ waits left : List ℕ} {going : Bool}
+    → Feeding s bs room t waited t′ waits left going → going ≡ false
     → Follows (λ x. fed (suc (length bs)) x s bs) room t waited t′ waits
 feeding-ends {s = s} {left = left} f e =
     follows-as (λ x m. ap (λ (k : Bool). cond k (fed (f .more) (f .so-far x) s left) (f .so-far x)) (sym e) ∙ f .rest x m) (f .follows)

@@ -91,10 +91,16 @@ leads-as {t′ = t′} e p = record {
 pub follows-nothing : (room : ℕ) (t a : List ℕ) → Follows (λ x. x) room t a t a
 follows-nothing room t a = record { new = []; leads = leads-nothing t; behind = behind-nothing room a }
 
-pub follows-then : {f g : State → State} {room : ℕ} {t t₁ t₂ a b c : List ℕ} → Follows f room t a t₁ b → Follows g room t₁ b t₂ c → Follows (λ x. g (f x)) room t a t₂ c
-follows-then p q = record { new = p .new ++ q .new; leads = leads-then (p .leads) (q .leads); behind = behind-then (p .behind) (q .behind) }
+pub follows-then : {f g : State → State} {room : ℕ} {t t₁ t₂ a b c : List ℕ}
+    → Follows f room t a t₁ b → Follows g room t₁ b t₂ c → Follows (λ x. g (f x)) room t a t₂ c
+follows-then p q = record {
+  new = p .new ++ q .new;
+  leads = leads-then (p .leads) (q .leads);
+  behind = behind-then (p .behind) (q .behind);
+}
 
-pub follows-as : {f g : State → State} {room : ℕ} {t a t′ b : List ℕ} → ((x : State) → Means t x → f x ≡ g x) → Follows f room t a t′ b → Follows g room t a t′ b
+pub follows-as : {f g : State → State} {room : ℕ} {t a t′ b : List ℕ}
+    → ((x : State) → Means t x → f x ≡ g x) → Follows f room t a t′ b → Follows g room t a t′ b
 follows-as e p = record { new = p .new; leads = leads-as e (p .leads); behind = p .behind }
 
 pub follows-room : {f : State → State} {m n : ℕ} {t a t′ b : List ℕ} → m ≡ n → Follows f m t a t′ b → Follows f n t a t′ b

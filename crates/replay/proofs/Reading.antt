@@ -6,15 +6,17 @@ use native.Mathlib.Omega.{arith}
 use mathlib.Core.Bool.{Bool, true, false, cond, _&&_}
 use mathlib.Core.List.{List, [], _∷_, _++_, append-assoc, append-nil, flatten}
 use lib.Dec.{leb}
-use lib.ListN.{length, take, drop, length-append, length-drop}
+use lib.ListN.{length, take, drop, replicate, length-append, length-drop}
 use lib.Seq.{sets, length-take-le, take-add, take-take, take-append-le, drop-append-le, drop-drop}
 use borrow.Author.Tests.{leb-true}
 use Rattle.model.specs.Limits.{payload-longest}
 use Rattle.model.specs.Bytes.{little, places}
-use Rattle.model.specs.Program.{State, given, all-given}
+use Rattle.model.specs.Program.{State, zeros, given, all-given, program, printed}
 use Rattle.text.proofs.Lists.{take-sets, drop-take}
+use Rattle.table.specs.Table.{table-formed}
+use Rattle.shared.specs.Shared.{shared-formed}
 use Rattle.replay.specs.Whole.{whole-size, records, waits}
-use Rattle.replay.specs.States.{Leads, Behind, Follows, Turned, Ran}
+use Rattle.replay.specs.States.{Means, Follows, Turned, Ran}
 use Rattle.replay.proofs.Sizes.{size-cut, size-whole, slices-first, slices-none}
 use Rattle.replay.proofs.Follows.{leads-nothing, leads-then, leads-as}
 use Rattle.replay.proofs.Records.{waits-next, waits-none}
@@ -33,7 +35,8 @@ is-whole bs h = go (leb 4 (length bs)) (leb n payload-longest) (leb (4 + n) (len
     n : ℕ
     n = little (places 1 2 bs)
 
-    go : (a b c : Bool) → leb 4 (length bs) ≡ a → leb n payload-longest ≡ b → leb (4 + n) (length bs) ≡ c → 0 < cond (a && b && c) (4 + n) 0 → Is-whole bs
+    go : (a b c : Bool) → leb 4 (length bs) ≡ a → leb n payload-longest ≡ b → leb (4 + n) (length bs) ≡ c
+        → 0 < cond (a && b && c) (4 + n) 0 → Is-whole bs
     go true true true p q r z = record {
       size = rw (p, q, r);
       short = leb-true _ _ q;
@@ -83,7 +86,9 @@ module _ (xs ys : List ℕ) where
   split-none e =
       let w = waits-none xs e in
       record {
-        whole = ap (λ (l : List ℕ). records (l ++ ys)) (sym w) ∙ ap (λ (ss : List (List ℕ)). ss ++ records (waits xs ++ ys)) (sym (slices-none xs (length xs) e));
+        whole =
+            ap (λ (l : List ℕ). records (l ++ ys)) (sym w)
+            ∙ ap (λ (ss : List (List ℕ)). ss ++ records (waits xs ++ ys)) (sym (slices-none xs (length xs) e));
         left = ap (λ (l : List ℕ). waits (l ++ ys)) (sym w);
         cut = ap whole-size w ∙ e;
       }
@@ -135,12 +140,15 @@ pub turned-none : {t w waiting : List ℕ} → waiting ≡ w → whole-size w �
 turned-none {t = t} {w = w} e z = record {
   read = [];
   written = [];
-  leads = leads-as (λ x m. ap (all-given x) (sym (slices-none w (length w) z)) ∙ ap (λ (l : List ℕ). all-given x (records l)) (sym (append-nil w))) (leads-nothing t);
+  leads = leads-as (λ x m.
+      ap (all-given x) (sym (slices-none w (length w) z))
+      ∙ ap (λ (l : List ℕ). all-given x (records l)) (sym (append-nil w))) (leads-nothing t);
   left = e ∙ sym (waits-none w z) ∙ ap waits (sym (append-nil w));
 }
 
 -- what was served, and what waits moved to the front
-pub turned-served : {room : ℕ} {t w t′ l moved : List ℕ} (size got left : ℕ) (input : List ℕ) → take size input ≡ w → size + got ≤ length input
+pub turned-served : {room : ℕ} {t w t′ l moved : List ℕ} (size got left : ℕ) (input : List ℕ)
+    → take size input ≡ w → size + got ≤ length input
     → Follows (λ x. all-given x (records (take (size + got) input))) room t [] t′ l → left ≡ length (waits (take (size + got) input))
     → moved ≡ sets input 0 (take left (drop (size + got - left) input)) → Turned t w t′ (take left moved)
 turned-served {w = w} size got left input e h f n m =
@@ -184,3 +192,14 @@ turned-then {w = w} {w₁ = w₁} p q =
 -- no whole record waits
 pub turned-cut : {t w t′ waiting : List ℕ} → Turned t w t′ waiting → whole-size waiting ≡ 0
 turned-cut {w = w} p = ap whole-size (p .left) ∙ split (w ++ p .read) [] .cut
+
+-- ==== the whole program
+
+-- a table of zeros is not well formed
+zeros-mean : Means (replicate 16_384 0) zeros
+unfolding table-formed shared-formed
+zeros-mean = record { formed = refl; world = λ (e : false ≡ true). absurd (let z : _≡_ {A = ℕ} 0 1 = cc in omega arith) }
+
+-- THE PROGRAM: what a run that begins with zeros writes out is what the model's program prints of what the run read
+pub program-printed : {t′ : List ℕ} (r : Ran (replicate 16_384 0) t′) → r .turned .written ≡ printed (program (r .turned .read))
+program-printed r = sym (r .turned .leads .lines zeros zeros-mean)

@@ -35,7 +35,9 @@ module _ (x : State) (slice : List ℕ) (kind : ℕ) (k : kind ≡ little (place
       ap (λ (l : List ℕ). made x (bytes (kind - 48) l)) d ∙ ap (made x) c ∙ ap (λ (n : ℕ). made x (call-of n slice)) k
 
   pub given-call : within 48 63 kind ≡ false → called x (call-of kind slice) ≡ given x slice
-  given-call e = go (eqb kind 3) (within 16 31 kind) (within 32 47 kind) (within 48 63 kind) (eqb kind 64) e ∙ ap (λ (n : ℕ). made x (call-of n slice)) k
+  given-call e =
+      go (eqb kind 3) (within 16 31 kind) (within 32 47 kind) (within 48 63 kind) (eqb kind 64) e
+      ∙ ap (λ (n : ℕ). made x (call-of n slice)) k
     where
       a-call : Bool → Bool → Bool → Bool → Bool → Call
       a-call a b c d f =
@@ -80,13 +82,15 @@ pub serving-begins : (input : List ℕ) (room : ℕ) (t waited : List ℕ) → S
 serving-begins input room t waited = record { so-far = λ x. x; follows = follows-nothing room t waited; rest = λ x. refl; same = refl }
 
 pub serving-on : {input t waited t′ waiting left t₁ waiting₁ rest : List ℕ} {room size : ℕ} → Serving input room t waited t′ waiting left
-    → size ≡ whole-size left → 0 < size → size ≤ length left → Follows (λ x. given x (take size left)) room t′ waiting t₁ waiting₁ → rest ≡ drop size left
+    → size ≡ whole-size left → 0 < size → size ≤ length left
+    → Follows (λ x. given x (take size left)) room t′ waiting t₁ waiting₁ → rest ≡ drop size left
     → Serving input room t waited t₁ waiting₁ rest
 serving-on {left = left} {size = size} s e h few f d = record {
   so-far = λ x. given (s .so-far x) (take size left);
   follows = follows-then (s .follows) f;
   rest = λ x.
-      ap (λ (l : List ℕ). all-given (given (s .so-far x) (take size left)) (records l)) d ∙ ap (all-given (s .so-far x)) (sym (slices-first left size e h))
+      ap (λ (l : List ℕ). all-given (given (s .so-far x) (take size left)) (records l)) d
+      ∙ ap (all-given (s .so-far x)) (sym (slices-first left size e h))
       ∙ s .rest x;
   same = ap waits d ∙ waits-next left size e h few ∙ s .same;
 }
@@ -95,4 +99,5 @@ serving-on {left = left} {size = size} s e h few f d = record {
 pub serving-ends : {input t waited t′ waiting left : List ℕ} {room : ℕ} → Serving input room t waited t′ waiting left → whole-size left ≡ 0
     → Follows (λ x. all-given x (records input)) room t waited t′ waiting × (left ≡ waits input)
 serving-ends {left = left} s e =
-    (follows-as (λ x m. ap (all-given (s .so-far x)) (sym (slices-none left (length left) e)) ∙ s .rest x) (s .follows), sym (waits-none left e) ∙ s .same)
+    let served = follows-as (λ x m. ap (all-given (s .so-far x)) (sym (slices-none left (length left) e)) ∙ s .rest x) (s .follows) in
+    (served, sym (waits-none left e) ∙ s .same)

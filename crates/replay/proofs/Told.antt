@@ -124,7 +124,8 @@ lines-in-output (x ∷ xs) p h =
     (ap (λ (l : List ℕ). map line-in (slices (length l) l)) rest ∙ lines-in-output xs (p .1) (omega arith))
 
 -- what is printed for a call that answers and writes as the model says
-pub told-as : (q : Said) (r : Answer) (o′ : List ℕ) → model-answer r ≡ q .1 → take (r .written) o′ ≡ output (q .2) → r .written ≤ 2_048 → Below 4 (q .2)
+pub told-as : (q : Said) (r : Answer) (o′ : List ℕ)
+    → model-answer r ≡ q .1 → take (r .written) o′ ≡ output (q .2) → r .written ≤ 2_048 → Below 4 (q .2)
     → text-of r o′ ≡ printed (lines-of (q .1) (q .2))
 unfolding text-of
 told-as q r o′ answer bytes fits below =

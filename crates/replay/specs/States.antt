@@ -40,7 +40,7 @@ pub record Behind (room : ℕ) (waited new waits : List ℕ) : Type 0 where
   pub order : written ++ waits ≡ waited ++ new
   pub none : length (waited ++ new) + output-least ≤ room → written ≡ []
 
--- both
+-- the table has become what f leads to, and the lines of that come behind those that waited
 pub record Follows (f : State → State) (room : ℕ) (t waited t′ waits : List ℕ) : Type 0 where
   pub new : List ℕ
   pub leads : Leads f t new t′

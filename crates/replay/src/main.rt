@@ -128,7 +128,8 @@ fn room(lines: &[u8], at: usize) -> usize
 // The lines of a call, behind those that wait.
 fn print(answer: Answer, output: &[u8], lines: &mut [u8], at: usize) -> usize
     requires { ⌜ (answer .written ≤ length (now output)) × (answer .written ≤ 2_048) × (at ≤ length (now lines)) × (2_048 ≤ length (now lines)) ⌝ }
-    ensures behind { λ r. ⌜ Behind (length (now (lines .entry))) (take at (now (lines .entry))) (text-of answer (now (output .entry))) (take r (now (lines .exit))) ⌝ }
+    ensures behind { λ r. ⌜ Behind (length (now (lines .entry))) (take at (now (lines .entry)))
+        (text-of answer (now (output .entry))) (take r (now (lines .exit))) ⌝ }
     ensures within { λ r. ⌜ r ≤ length (now (lines .entry)) ⌝ }
 {
     let free = room(lines, at);
@@ -157,7 +158,8 @@ fn feed(
 ) -> usize
     requires { ⌜ Lends (now table) (now output) (now lines) × (at ≤ length (now lines)) ⌝ }
     ensures follows { λ r. ⌜ Follows (λ x. fed (suc (length (now (bytes .entry)))) x session (now (bytes .entry)))
-        (length (now (lines .entry))) (now (table .entry)) (take at (now (lines .entry))) (now (table .exit)) (take r (now (lines .exit))) ⌝ }
+        (length (now (lines .entry))) (now (table .entry)) (take at (now (lines .entry)))
+        (now (table .exit)) (take r (now (lines .exit))) ⌝ }
     ensures within { λ r. ⌜ r ≤ length (now (lines .entry)) ⌝ }
 {
     let mut to = at;
@@ -196,8 +198,8 @@ fn call(table: &mut [u8], output: &mut [u8], kind: u64, slice: &[u8]) -> Answer
 // One record, as a slice.
 fn given(table: &mut [u8], output: &mut [u8], lines: &mut [u8], at: usize, slice: &[u8]) -> usize
     requires { ⌜ Lends (now table) (now output) (now lines) × (at ≤ length (now lines)) × (4 ≤ length (now slice)) ⌝ }
-    ensures follows { λ r. ⌜ Follows (λ x. given-state x (now (slice .entry)))
-        (length (now (lines .entry))) (now (table .entry)) (take at (now (lines .entry))) (now (table .exit)) (take r (now (lines .exit))) ⌝ }
+    ensures follows { λ r. ⌜ Follows (λ x. given-state x (now (slice .entry))) (length (now (lines .entry)))
+        (now (table .entry)) (take at (now (lines .entry))) (now (table .exit)) (take r (now (lines .exit))) ⌝ }
     ensures within { λ r. ⌜ r ≤ length (now (lines .entry)) ⌝ }
 {
     let kind = text::little(slice, 2, 2);
@@ -228,8 +230,8 @@ struct Waiting {
 // Serves the whole records that an input begins with; what waits behind them.
 fn serve(table: &mut [u8], output: &mut [u8], lines: &mut [u8], input: &[u8]) -> Waiting
     requires { ⌜ Lends (now table) (now output) (now lines) ⌝ }
-    ensures follows { λ r. ⌜ Follows (λ x. all-given x (records (now (input .entry))))
-        (length (now (lines .entry))) (now (table .entry)) [] (now (table .exit)) (take (r .lines) (now (lines .exit))) ⌝ }
+    ensures follows { λ r. ⌜ Follows (λ x. all-given x (records (now (input .entry)))) (length (now (lines .entry)))
+        (now (table .entry)) [] (now (table .exit)) (take (r .lines) (now (lines .exit))) ⌝ }
     ensures waits { λ r. ⌜ (r .size ≡ length (waits (now (input .entry)))) × (r .going ≡ not (too-long (waits (now (input .entry)))))
         × (r .lines ≤ length (now (lines .entry))) ⌝ }
 {
@@ -273,7 +275,8 @@ fn turn(
     size: usize,
 ) -> Waiting
     requires { ⌜ Lends (now table) (now output) (now lines) × (size ≤ length (now input)) × (whole-size (take size (now input)) ≡ 0) ⌝ }
-    ensures turned { λ r. ⌜ Turned (now (table .entry)) (take size (now (input .entry))) (now (table .exit)) (take (r .size) (now (input .exit))) ⌝ }
+    ensures turned { λ r. ⌜ Turned (now (table .entry)) (take size (now (input .entry)))
+        (now (table .exit)) (take (r .size) (now (input .exit))) ⌝ }
     ensures within { λ r. ⌜ r .size ≤ length (now (input .entry)) ⌝ }
 {
     let got = fill(input, size);

@@ -27,57 +27,78 @@ loop-holds : tie.Need-loop-holds Inv-loop μ-loop
 loop-holds c =
     let s = c .before .before .before .before in
     let a = s .args in
-    (refl, refl, refl, s .pre .1, feeding-begins (a .session) (a .bytes .now) (length (a .lines .now)) (a .table .now) (take (a .at) (a .lines .now)))
+    let begins = feeding-begins (a .session) (a .bytes .now) (length (a .lines .now)) (a .table .now) (take (a .at) (a .lines .now)) in
+    (refl, refl, refl, s .pre .1, begins)
 
 print-requires : tie.Need-print-requires Inv-loop μ-loop
 print-requires c κs =
-    let i = c .before .before .before .before .before .before .before .before .before .before .loop .inv in
-    let f = fits-in (c .before .before .before .before .before .before .bytes .ensures) in
+    let called = c .before .before .before .before .before .before in
+    let loop = called .before .before .before .before in
+    let i = loop .loop .inv in
+    let f = fits-in (called .bytes .ensures) in
     let same = i .2 in
     let here = i .3 in
-    let room = c .before .before .before .before .before .before .before .before .before .before .before .before .before .before .before .pre .0 .room in
+    let room = loop .before .before .before .before .before .pre .0 .room in
     (f .0, f .1, omega arith, omega arith)
 
 loop-less : tie.Need-loop-less Inv-loop μ-loop
 loop-less c =
-    let l = c .before .before .before .before .before .before .before .before .before .before .before .before .before .before .before .before .loop in
-    fewer (l .left .now) (c .before .before .before .before .before .before .before .before .before .before .before .before .bytes .result) (l .going) (c .before .before .before .before .before .before .before .before .before .before .before .before .before .before .before .loop-test .taken) (c .before .before .rest .ensures) (c .before .before .before .before .before .before .before .before .before .before .before .before .bytes .ensures) (c .if1 .taken)
+    let called = c .before .before .before .before .before .before .before .before .before .before .before .before in
+    let r = called .bytes .result in
+    let out = called .bytes .ensures in
+    let test = called .before .before .before in
+    let l = test .before .loop in
+    fewer 0 (l .left .now) r (l .going) (test .loop-test .taken) (c .before .before .rest .ensures) out (c .if1 .taken)
 
 loop-again : tie.Need-loop-again Inv-loop μ-loop
 loop-again c =
-    let l = c .before .before .before .before .before .before .before .before .before .before .before .before .before .before .before .before .loop in
+    let called = c .before .before .before .before .before .before .before .before .before .before .before .before in
+    let r = called .bytes .result in
+    let out = called .bytes .ensures in
+    let test = called .before .before .before in
+    let l = test .before .loop in
     let i = l .inv in
-    let pre = c .before .before .before .before .before .before .before .before .before .before .before .before .before .before .before .before .before .before .before .before .before .pre .0 in
-    let out = c .before .before .before .before .before .before .before .before .before .before .before .before .bytes .ensures in
+    let pre = test .before .before .before .before .before .before .pre .0 in
     let p = c .before .before .before .before .before .print in
+    let rest = c .before .before .rest in
     let here = p .ensures .1 in
     let same = i .2 in (
       out .size ∙ i .0,
       same-output out ∙ i .1,
       p .kept .1 .1 .0 ∙ i .2,
       omega arith,
-      feeding-on (i .4) (c .before .before .before .before .before .before .before .before .before .before .before .before .before .before .before .loop-test .taken) out (i .0 ∙ pre .table) (i .1 ∙ pre .output) (behind-room (i .2) (p .ensures .0)) (c .before .before .rest .ensures) (on-done (c .before .before .before .before .before .before .before .before .before .before .before .before .bytes .result .number) (length (c .before .before .rest .result .now)) (c .if1 .taken)),
+      feeding-on (i .4) (test .loop-test .taken) out (i .0 ∙ pre .table) (i .1 ∙ pre .output) (behind-room (i .2) (p .ensures .0)) (rest .ensures)
+          (on-done (r .number) (length (rest .result .now)) (c .if1 .taken)),
     )
 
 loop-less-2 : tie.Need-loop-less-2 Inv-loop μ-loop
 loop-less-2 c =
-    let l = c .before .before .before .before .before .before .before .before .before .before .before .before .before .before .before .before .loop in
-    no-more (l .left .now) (c .before .before .rest .result .now) (c .before .before .before .before .before .before .before .before .before .before .before .before .bytes .result .number) (l .going) (c .before .before .before .before .before .before .before .before .before .before .before .before .before .before .before .loop-test .taken) (c .if1 .left)
+    let called = c .before .before .before .before .before .before .before .before .before .before .before .before in
+    let r = called .bytes .result in
+    let out = called .bytes .ensures in
+    let test = called .before .before .before in
+    let l = test .before .loop in
+    no-more (l .left .now) (c .before .before .rest .result .now) (r .number) (l .going) (test .loop-test .taken) (c .if1 .left)
 
 loop-again-2 : tie.Need-loop-again-2 Inv-loop μ-loop
 loop-again-2 c =
-    let l = c .before .before .before .before .before .before .before .before .before .before .before .before .before .before .before .before .loop in
+    let called = c .before .before .before .before .before .before .before .before .before .before .before .before in
+    let r = called .bytes .result in
+    let out = called .bytes .ensures in
+    let test = called .before .before .before in
+    let l = test .before .loop in
     let i = l .inv in
-    let pre = c .before .before .before .before .before .before .before .before .before .before .before .before .before .before .before .before .before .before .before .before .before .pre .0 in
-    let out = c .before .before .before .before .before .before .before .before .before .before .before .before .bytes .ensures in
+    let pre = test .before .before .before .before .before .before .pre .0 in
     let p = c .before .before .before .before .before .print in
+    let rest = c .before .before .rest in
     let here = p .ensures .1 in
     let same = i .2 in (
       out .size ∙ i .0,
       same-output out ∙ i .1,
       p .kept .1 .1 .0 ∙ i .2,
       omega arith,
-      feeding-on (i .4) (c .before .before .before .before .before .before .before .before .before .before .before .before .before .before .before .loop-test .taken) out (i .0 ∙ pre .table) (i .1 ∙ pre .output) (behind-room (i .2) (p .ensures .0)) (c .before .before .rest .ensures) (on-refused (c .before .before .before .before .before .before .before .before .before .before .before .before .bytes .result .number) (length (c .before .before .rest .result .now)) (c .if1 .left)),
+      feeding-on (i .4) (test .loop-test .taken) out (i .0 ∙ pre .table) (i .1 ∙ pre .output) (behind-room (i .2) (p .ensures .0)) (rest .ensures)
+          (on-refused (r .number) (length (rest .result .now)) (c .if1 .left)),
     )
 
 returns : tie.Need-returns Inv-loop μ-loop

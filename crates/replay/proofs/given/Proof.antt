@@ -23,32 +23,38 @@ feed-requires c κs = let p = c .before .before .before .before .before .before 
 
 returns : tie.Need-returns
 returns c =
-    let s = c .before .before .before .before .before .before .before .before .before .before .before .before .before .before .before .before .before .before in
+    let fed = c .before .before .before .before .before .before in
+    let asked = fed .before .before .before .before .before .before in
+    let kind = asked .before .little in
+    let s = asked .before .before .before .before .before .before in
     let slice = s .args .slice .now in
-    let n = s .pre .2 in
-    let kind = c .before .before .before .before .before .before .before .before .before .before .before .before .before .little in
-    let is : _ = sym (c .before .before .before .before .before .before .before .before .before .before .before .before .is-within .ensures) ∙ c .before .before .before .before .before .before .before .before .before .before .before .if1 .taken in
+    let four = s .pre .2 in
+    let are-bytes = sym (asked .is-within .ensures) ∙ fed .before .before .before .before .before .if1 .taken in
     let rest = take-all (length slice - 4) (drop 4 slice) (simp length-drop (omega arith)) in
-    let f = c .before .before .before .before .before .before .feed .ensures in
-    (follows-as (λ x m. given-bytes x slice (kind .result) (kind .ensures .0) _ is rest) (f .0), f .1)
+    let f = fed .feed .ensures in
+    (follows-as (λ x m. given-bytes x slice (kind .result) (kind .ensures .0) _ are-bytes rest) (f .0), f .1)
 
 call-requires : tie.Need-call-requires
 call-requires c κs = sym (c .before .before .before .is-within .ensures) ∙ c .before .before .if1 .left
 
 print-requires : tie.Need-print-requires
 print-requires c κs =
-    let p = c .before .before .before .before .before .before .before .before .before .before .before .before .before .before .before .before .pre in
-    let f = fits-in (c .before .before .before .before .before .before .call .ensures) in
+    let called = c .before .before .before .before .before .before in
+    let p = called .before .before .before .before .before .before .before .before .before .before .pre in
+    let f = fits-in (called .call .ensures) in
     (f .0, f .1, p .1, p .0 .room)
 
 returns-2 : tie.Need-returns-2
 returns-2 c =
-    let s = c .before .before .before .before .before .before .before .before .before .before .before .before .before .before .before .before .before .before .before in
-    let slice = s .args .slice .now in
-    let kind = c .before .before .before .before .before .before .before .before .before .before .before .before .before .before .little in
-    let is : _ = sym (c .before .before .before .before .before .before .before .before .before .before .before .before .before .is-within .ensures) ∙ c .before .before .before .before .before .before .before .before .before .before .before .before .if1 .left in
+    let called = c .before .before .before .before .before .before .before .before .before in
+    let asked = called .before .before .before .before in
+    let kind = asked .before .little in
+    let s = asked .before .before .before .before .before .before in
+    let lends = s .pre .0 in
+    let are-none = sym (asked .is-within .ensures) ∙ called .before .before .before .if1 .left in
     let p = c .before .before .print .ensures in
-    (follows-as (λ x m. given-call x slice (kind .result) (kind .ensures .0) is) (called-follows (c .before .before .before .before .before .before .before .before .before .call .ensures) (s .pre .0 .table) (s .pre .0 .output) (p .0)), p .1)
+    let f = called-follows (called .call .ensures) (lends .table) (lends .output) (p .0) in
+    (follows-as (λ x m. given-call x (s .args .slice .now) (kind .result) (kind .ensures .0) are-none) f, p .1)
 
 pub given-spec : {M : Type 1} → statement M
 given-spec =

@@ -1,4 +1,5 @@
--- `replay::run` meets its contract. The invariant: what was read so far was served, and what waits stands at the input's front. Assumes nothing.
+-- `replay::run` meets its contract. The invariant: what was read so far was served, and what waits stands at the input's front.
+-- Assumes nothing.
 use borrow.Author.Needs.{needs}
 use mathlib.Core.Path.{_≡_, refl, sym, _∙_}
 use mathlib.Core.List.{[]}
@@ -42,7 +43,8 @@ loop-again c =
     let t = c .before .before .before .before .before .before .before .before .turn in
     let here = t .ensures .1 in
     let input = i .3 in
-    (t .kept .0 ∙ i .0, t .kept .1 .0 ∙ i .1, t .kept .1 .1 .0 ∙ i .2, t .kept .1 .1 .1 .0 ∙ i .3, omega arith, turned-then (i .5) (t .ensures .0))
+    let k = t .kept in
+    (k .0 ∙ i .0, k .1 .0 ∙ i .1, k .1 .1 .0 ∙ i .2, k .1 .1 .1 .0 ∙ i .3, omega arith, turned-then (i .5) (t .ensures .0))
 
 returns : tie.Need-returns Inv-loop μ-loop
 returns c = let l = c .before .before .loop in record { waiting = take (l .size) (l .input); turned = l .inv .5 }

@@ -33,7 +33,8 @@ loop-holds : tie.Need-loop-holds Inv-loop μ-loop
 loop-holds c =
     let a = c .before .before .before .before .before .args in
     let w = c .whole .ensures in
-    (refl, refl, refl, omega arith, omega arith, w .1, w .2, w .0, serving-begins (a .input .now) (length (a .lines .now)) (a .table .now) [])
+    let begins = serving-begins (a .input .now) (length (a .lines .now)) (a .table .now) [] in
+    (refl, refl, refl, omega arith, omega arith, w .1, w .2, w .0, begins)
 
 slice-aggregate-given : tie.Need-slice-aggregate-given Inv-loop μ-loop
 slice-aggregate-given c = let l = c .before .before .before .before .before .loop in sym (length-take-le (l .size) (l .left .now) (l .inv .5))
@@ -51,16 +52,18 @@ given-requires c κs =
 
 loop-less : tie.Need-loop-less Inv-loop μ-loop
 loop-less c =
-    let l = c .before .before .before .before .before .before .before .before .before .before .before .before .before .before .loop in
-    let some = c .before .before .before .before .before .before .before .before .before .before .before .before .before .loop-test .taken in
+    let test = c .before .before .before .before .before .before .before .before .before .before .before .before .before in
+    let l = test .before .loop in
+    let some = test .loop-test .taken in
     let few = l .inv .5 in
     let d = length-drop (l .size) (l .left .now) in
     omega arith
 
 loop-again : tie.Need-loop-again Inv-loop μ-loop
 loop-again c =
-    let l = c .before .before .before .before .before .before .before .before .before .before .before .before .before .before .loop in
-    let some = c .before .before .before .before .before .before .before .before .before .before .before .before .before .loop-test .taken in
+    let test = c .before .before .before .before .before .before .before .before .before .before .before .before .before in
+    let l = test .before .loop in
+    let some = test .loop-test .taken in
     let i = l .inv in
     let g = c .before .before .before .before .before .before .before .before .given in
     let w = c .whole2 .ensures in

@@ -10,53 +10,61 @@ use Rattle.replay.proofs.turn.Statement.{statement}
 use Rattle.replay.proofs.turn.Tie as tie
 
 returns : tie.Need-returns
-returns c = let pre = c .before .before .before .before .before .before .before .before .before .pre in (turned-none (c .before .before .before .fill .ensures .1) (pre .2), pre .1)
+returns c =
+    let filled = c .before .before .before in
+    let pre = filled .before .before .before .before .before .before .pre in
+    (turned-none (filled .fill .ensures .1) (pre .2), pre .1)
 
 slice-aggregate-serve : tie.Need-slice-aggregate-serve
 slice-aggregate-serve c =
-    let f = c .before .before .before .before .before .before .before .fill in
+    let filled = c .before .before .before .before .before .before .before in
+    let f = filled .fill in
+    let size = filled .before .before .before .before .before .before .args .size in
     let h = f .ensures .0 in
     let k = f .kept .0 in
-    sym (length-take-le (c .before .before .before .before .before .before .before .before .before .before .before .before .before .args .size + f .result) (f .last .0) (omega arith))
+    sym (length-take-le (size + f .result) (f .last .0) (omega arith))
 
 sub-shift : tie.Need-sub-shift
 sub-shift c =
-    let s = c .before .before .before .before .before .before .before .before .before .before .before .before .before .before .before .before .before .before .before .before .before .before .before in
-    let f = c .before .before .before .before .before .before .before .before .before .before .before .before .before .before .before .before .before .fill in
+    let served = c .before .before .before .before .before .before .before .before .before in
+    let filled = served .before .before .before .before .before .before .before .before in
+    let f = filled .fill in
+    let size = filled .before .before .before .before .before .before .args .size in
     let h = f .ensures .0 in
     let k = f .kept .0 in
-    let bs = take (s .args .size + f .result) (f .last .0) in
-    let n = length-take-le (s .args .size + f .result) (f .last .0) (omega arith) in
-    let v = c .before .before .before .before .before .before .before .before .before .serve .ensures .1 .0 in
-    let few = waits-few bs in
+    let n = length-take-le (size + f .result) (f .last .0) (omega arith) in
+    let v = served .serve .ensures .1 .0 in
+    let few = waits-few (take (size + f .result) (f .last .0)) in
     omega arith
 
 shift-requires : tie.Need-shift-requires
 shift-requires c κs =
-    let s = c .before .before .before .before .before .before .before .before .before .before .before .before .before .before .before .before .before .before .before .before .before .before .before in
-    let f = c .before .before .before .before .before .before .before .before .before .before .before .before .before .before .before .before .before .fill in
+    let served = c .before .before .before .before .before .before .before .before .before in
+    let filled = served .before .before .before .before .before .before .before .before in
+    let f = filled .fill in
+    let size = filled .before .before .before .before .before .before .args .size in
     let h = f .ensures .0 in
     let k = f .kept .0 in
-    let bs = take (s .args .size + f .result) (f .last .0) in
-    let n = length-take-le (s .args .size + f .result) (f .last .0) (omega arith) in
-    let v = c .before .before .before .before .before .before .before .before .before .serve .ensures .1 .0 in
-    let few = waits-few bs in
+    let n = length-take-le (size + f .result) (f .last .0) (omega arith) in
+    let v = served .serve .ensures .1 .0 in
+    let few = waits-few (take (size + f .result) (f .last .0)) in
     (omega arith, omega arith)
 
 returns-2 : tie.Need-returns-2
 returns-2 c =
-    let s = c .before .before .before .before .before .before .before .before .before .before .before .before .before .before .before .before .before .before .before .before .before .before .before .before .before .before in
-    let f = c .before .before .before .before .before .before .before .before .before .before .before .before .before .before .before .before .before .before .before .before .fill in
+    let served = c .before .before .before .before .before .before .before .before .before .before .before .before in
+    let filled = served .before .before .before .before .before .before .before .before in
+    let f = filled .fill in
+    let size = filled .before .before .before .before .before .before .args .size in
     let h = f .ensures .0 in
     let k = f .kept .0 in
-    let bs = take (s .args .size + f .result) (f .last .0) in
-    let n = length-take-le (s .args .size + f .result) (f .last .0) (omega arith) in
-    let v = c .before .before .before .before .before .before .before .before .before .before .before .before .serve .ensures .1 .0 in
-    let few = waits-few bs in
-    let served = c .before .before .before .before .before .before .before .before .before .before .before .before .serve in (
-      turned-served (s .args .size) (f .result) (served .result .size) (f .last .0) (f .ensures .1) (omega arith) (served .ensures .0) v (c .before .before .shift .ensures),
-      omega arith,
-    )
+    let n = length-take-le (size + f .result) (f .last .0) (omega arith) in
+    let v = served .serve .ensures .1 .0 in
+    let few = waits-few (take (size + f .result) (f .last .0)) in
+    let moved = c .before .before .shift .ensures in
+    let follows = served .serve .ensures .0 in
+    let left = served .serve .result .size in
+    (turned-served size (f .result) left (f .last .0) (f .ensures .1) (omega arith) follows v moved, omega arith)
 
 pub turn-spec : {M : Type 1} → statement M
 turn-spec =
