@@ -5,5 +5,6 @@ pub mod Told
 pub mod Follows
 pub mod Called
 pub mod Fed
+pub mod Uncut
 pub mod Records
 pub mod Reading

@@ -67,8 +67,8 @@ loop-again c =
       same-output out ∙ i .1,
       p .kept .1 .1 .0 ∙ i .2,
       omega arith,
-      feeding-on (i .4) (test .loop-test .taken) out (i .0 ∙ pre .table) (i .1 ∙ pre .output) (behind-room (i .2) (p .ensures .0)) (rest .ensures)
-          (on-done (r .number) (length (rest .result .now)) (c .if1 .taken)),
+      feeding-on (i .4) (test .loop-test .taken) out (i .0 ∙ pre .table) (i .1 ∙ pre .output)
+          (behind-room (i .2) (p .ensures .0)) (rest .ensures) (on-done (r .number) (length (rest .result .now)) (c .if1 .taken)),
     )
 
 loop-less-2 : tie.Need-loop-less-2 Inv-loop μ-loop
@@ -97,8 +97,8 @@ loop-again-2 c =
       same-output out ∙ i .1,
       p .kept .1 .1 .0 ∙ i .2,
       omega arith,
-      feeding-on (i .4) (test .loop-test .taken) out (i .0 ∙ pre .table) (i .1 ∙ pre .output) (behind-room (i .2) (p .ensures .0)) (rest .ensures)
-          (on-refused (r .number) (length (rest .result .now)) (c .if1 .left)),
+      feeding-on (i .4) (test .loop-test .taken) out (i .0 ∙ pre .table) (i .1 ∙ pre .output)
+          (behind-room (i .2) (p .ensures .0)) (rest .ensures) (on-refused (r .number) (length (rest .result .now)) (c .if1 .left)),
     )
 
 returns : tie.Need-returns Inv-loop μ-loop
