@@ -133,6 +133,22 @@ all-given-append : (x : State) (rs ss : List (List ℕ)) → all-given x (rs ++ 
 all-given-append x [] ss = refl
 all-given-append x (r ∷ rs) ss = all-given-append (given x r) rs ss
 
+-- what waits, moved to the front
+pub waits-moved : {moved : List ℕ} (have left : ℕ) (input : List ℕ) → have ≤ length input → left ≡ length (waits (take have input))
+    → moved ≡ sets input 0 (take left (drop (have - left) input)) → take left moved ≡ waits (take have input)
+waits-moved have left input h n m =
+    let bs = take have input in
+    let so-long = length-take-le have input h in
+    let few = waits-few bs in
+    let front = take left (drop (have - left) input) in
+    let d = length-drop (have - left) input in
+    let k : length front ≡ left = length-take-le left (drop (have - left) input) (omega arith) in
+    let back : have - (have - left) ≡ left = omega arith in
+    let same : length bs - length (waits bs) ≡ have - left = omega arith in
+    ap₂ take (sym (zero-add (length front) ∙ k)) m ∙ take-sets front input 0 (omega arith)
+    ∙ ap (λ (j : ℕ). take j (drop (have - left) input)) (sym back) ∙ sym (drop-take (have - left) have input (omega arith))
+    ∙ ap (λ (j : ℕ). drop j bs) (sym same) ∙ sym (waits-end bs)
+
 -- ==== turns
 
 -- nothing is read
@@ -146,31 +162,18 @@ turned-none {t = t} {w = w} e z = record {
   left = e ∙ sym (waits-none w z) ∙ ap waits (sym (append-nil w));
 }
 
--- what was served, and what waits moved to the front
-pub turned-served : {room : ℕ} {t w t′ l moved : List ℕ} (size got left : ℕ) (input : List ℕ)
-    → take size input ≡ w → size + got ≤ length input
-    → Follows (λ x. all-given x (records (take (size + got) input))) room t [] t′ l → left ≡ length (waits (take (size + got) input))
-    → moved ≡ sets input 0 (take left (drop (size + got - left) input)) → Turned t w t′ (take left moved)
-turned-served {w = w} size got left input e h f n m =
-    let have = size + got in
-    let bs = take have input in
+-- what was read behind what waited is served
+pub turned-served : {room : ℕ} {t w t′ l waiting : List ℕ} (size got : ℕ) (input : List ℕ) → take size input ≡ w
+    → Follows (λ x. all-given x (records (take (size + got) input))) room t [] t′ l → waiting ≡ waits (take (size + got) input)
+    → Turned t w t′ waiting
+turned-served {w = w} size got input e f n =
     let read = take got (drop size input) in
-    let all : bs ≡ w ++ read = take-add size got input ∙ ap (λ (l : List ℕ). l ++ read) e in
-    let so-long = length-take-le have input h in
-    let few = waits-few bs in
-    let front = take left (drop (have - left) input) in
-    let d = length-drop (have - left) input in
-    let k : length front ≡ left = length-take-le left (drop (have - left) input) (omega arith) in
-    let back : have - (have - left) ≡ left = omega arith in
-    let same : length bs - length (waits bs) ≡ have - left = omega arith in
+    let all : take (size + got) input ≡ w ++ read = take-add size got input ∙ ap (λ (l : List ℕ). l ++ read) e in
     record {
       read = read;
       written = f .new;
-      leads = leads-as (λ x o. ap (λ (l : List ℕ). all-given x (records l)) all) (f .leads);
-      left =
-          ap₂ take (sym (zero-add (length front) ∙ k)) m ∙ take-sets front input 0 (omega arith)
-          ∙ ap (λ (j : ℕ). take j (drop (have - left) input)) (sym back) ∙ sym (drop-take (have - left) have input (omega arith))
-          ∙ ap (λ (j : ℕ). drop j bs) (sym same) ∙ sym (waits-end bs) ∙ ap waits all;
+      leads = leads-as (λ x m. ap (λ (l : List ℕ). all-given x (records l)) all) (f .leads);
+      left = n ∙ ap waits all;
     }
 
 -- one turn after another

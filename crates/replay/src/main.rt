@@ -227,7 +227,7 @@ struct Waiting {
     going: bool,
 }
 
-// Serves the whole records that an input begins with; what waits behind them.
+// Serves the whole records that an input begins with; what waits behind them, and of the lines.
 fn serve(table: &mut [u8], output: &mut [u8], lines: &mut [u8], input: &[u8]) -> Waiting
     requires { ⌜ Lends (now table) (now output) (now lines) ⌝ }
     ensures follows { λ r. ⌜ Follows (λ x. all-given x (records (now (input .entry)))) (length (now (lines .entry)))
@@ -250,6 +250,28 @@ fn serve(table: &mut [u8], output: &mut [u8], lines: &mut [u8], input: &[u8]) ->
     }
 }
 
+// Serves the first `have` bytes of the input, and moves what waits to its front.
+fn serve_and_move(
+    table: &mut [u8],
+    output: &mut [u8],
+    lines: &mut [u8],
+    input: &mut [u8],
+    have: usize,
+) -> Waiting
+    requires { ⌜ Lends (now table) (now output) (now lines) × (have ≤ length (now input)) ⌝ }
+    ensures follows { λ r. ⌜ Follows (λ x. all-given x (records (take have (now (input .entry))))) (length (now (lines .entry)))
+        (now (table .entry)) [] (now (table .exit)) (take (r .lines) (now (lines .exit))) ⌝ }
+    ensures waits { λ r. ⌜ (take (r .size) (now (input .exit)) ≡ waits (take have (now (input .entry))))
+        × (r .going ≡ not (too-long (waits (take have (now (input .entry))))))
+        × (r .size ≤ have)
+        × (r .lines ≤ length (now (lines .entry))) ⌝ }
+{
+    let waiting = serve(table, output, lines, &input[..have]);
+    let left = waiting.size;
+    text::shift(input, 0, have - left, left);
+    waiting
+}
+
 // One read; 0 at the end.
 fn read(space: &mut [u8]) -> usize
     ensures { λ r. ⌜ r ≤ length (now (space .entry)) ⌝ }
@@ -266,7 +288,7 @@ fn fill(input: &mut [u8], size: usize) -> usize
     read(&mut input[size..])
 }
 
-// Reads once, serves what is whole, and moves what waits to the input's front, where `size` bytes waited.
+// Reads once, behind the `size` bytes that wait in the input, serves that, and writes out the lines.
 fn turn(
     table: &mut [u8],
     output: &mut [u8],
@@ -287,14 +309,11 @@ fn turn(
             going: false,
         };
     }
-    let have = size + got;
-    let waiting = serve(table, output, lines, &input[..have]);
+    let waiting = serve_and_move(table, output, lines, input, size + got);
     let at = waiting.lines;
     flush(lines, at);
-    let left = waiting.size;
-    text::shift(input, 0, have - left, left);
     Waiting {
-        size: left,
+        size: waiting.size,
         lines: 0,
         going: waiting.going,
     }
