@@ -2,3 +2,9 @@ pub mod Lines
 pub mod Sizes
 pub mod Turns
 pub mod Told
+pub mod Follows
+pub mod Called
+pub mod Fed
+pub mod Uncut
+pub mod Records
+pub mod Reading

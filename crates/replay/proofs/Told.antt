@@ -5,7 +5,7 @@ use native.Mathlib.Omega.{arith}
 use mathlib.Core.Bool.{Bool, cond}
 use mathlib.Core.List.{List, [], _∷_, _++_, map}
 use lib.Dec.{eqb}
-use lib.ListN.{length, take, drop, length-append}
+use lib.ListN.{length, take, drop, length-append, length-take}
 use lib.Seq.{take-at, drop-at}
 use borrow.Author.Tests.{ne-eqb}
 use Rattle.model.specs.Bytes.{NUL, space, digits, in-bytes, little, places}
@@ -13,20 +13,21 @@ use Rattle.model.specs.Frames.{frame-record, close-record}
 use Rattle.model.specs.Records.{house-record}
 use Rattle.model.specs.Session.{Emission, reply, copy, close}
 use Rattle.model.specs.Calls.{Call, output-record, output, step}
+use Rattle.model.specs.Calls as model
 use Rattle.model.specs.Row.{Tagged, said}
 use Rattle.model.specs.Program.{shown, line-of, lines-of, slices, printed}
 use Rattle.text.proofs.Cells.{length-cells}
 use Rattle.table.specs.Table.{decode}
 use Rattle.refusal.specs.Numbers.{number}
 use Rattle.controller.specs.declared.Answer.{Answer}
-use Rattle.controller.specs.Contract.{model-answer, Outcome}
+use Rattle.controller.specs.Contract.{Said, model-answer, Outcome}
 use Rattle.controller.specs.Contract as contract
-use Rattle.controller.proofs.Outputs.{so-long, stands, Below, answered-below}
+use Rattle.controller.proofs.Outputs.{stands, Below, answered-below}
 use Rattle.replay.specs.Lines.{line-in, lines-in, text-of}
 use Rattle.replay.specs.Whole.{whole-size}
 use Rattle.replay.proofs.Sizes.{size-whole, slices-first}
 
-four-sessions : (t : List ℕ) → length ((decode t) .sessions) ≡ 4
+pub four-sessions : (t : List ℕ) → length ((decode t) .sessions) ≡ 4
 unfolding decode
 four-sessions t = length-cells _ 1_024 4 (drop 1_024 t)
 
@@ -122,13 +123,21 @@ lines-in-output (x ∷ xs) p h =
     ∙ ap₂ _∷_ (ap line-in (take-at r (output xs) (length r) refl) ∙ record-line (x .who) (x .what) (p .0))
     (ap (λ (l : List ℕ). map line-in (slices (length l) l)) rest ∙ lines-in-output xs (p .1) (omega arith))
 
+-- what is printed for a call that answers and writes as the model says
+pub told-as : (q : Said) (r : Answer) (o′ : List ℕ)
+    → model-answer r ≡ q .1 → take (r .written) o′ ≡ output (q .2) → r .written ≤ 2_048 → Below 4 (q .2)
+    → text-of r o′ ≡ printed (lines-of (q .1) (q .2))
+unfolding text-of
+told-as q r o′ answer bytes fits below =
+    let n = ap length (sym bytes) ∙ length-take (r .written) o′ in
+    ap₂ (λ (number : ℕ) (ls : List (List ℕ)). printed (cond (eqb number 0) ls ((0x52 ∷ space ∷ digits 1 number) ∷ [])))
+    (ap (λ (a : model.Answer). a .number) answer)
+    (ap lines-in bytes ∙ lines-in-output (q .2) below (omega arith))
+
 -- THE LINES: what is printed for a call are the lines of what the model says of it
 pub told : {c : Call} {t o : List ℕ} {r : Answer} {t′ o′ : List ℕ} → Outcome c t o r t′ o′ → text-of r o′ ≡ printed (lines-of (model-answer r) ((contract.said c t o) .2))
-unfolding text-of step
+unfolding step
 told {c = c} {t = t} {o = o} {r = r} {t′ = t′} {o′ = o′} out =
-    let es = (contract.said c t o) .2 in
-    let s = stands out in
-    let n = so-long out in
-    let f : r .written ≤ 2_048 = out .fits in
-    ap (λ (ls : List (List ℕ)). printed (cond (eqb (r .number) 0) ls ((0x52 ∷ space ∷ digits 1 (r .number)) ∷ [])))
-    (ap lines-in (s .records) ∙ lines-in-output es (answered-below (decode t) c (number t (length o) c) (four-sessions t)) (omega arith))
+    told-as (contract.said c t o) r o′ (ap model-answer (out .answer)) (stands out .records) (out .fits)
+    (answered-below (decode t) c (number t (length o) c) (four-sessions t))
+    ∙ ap (λ (a : Answer). printed (lines-of (model-answer a) ((contract.said c t o) .2))) (sym (out .answer))

@@ -94,14 +94,15 @@ fits-in out =
     let e = same-output out in
     (omega arith, out .fits)
 
--- the measure of a loop over received bytes
-pub fewer : {s : ℕ} {t o t′ o′ rest : List ℕ} (left : List ℕ) (r : Answer) (going : Bool) → going ≡ true → rest ≡ drop (r .consumed) left → Outcome (bytes s left) t o r t′ o′
-    → r .number ≡ 0 → cond (ltb 0 (length rest)) (suc (length rest)) 0 < cond going (suc (length left)) 0
-fewer {rest = rest} left r going e p out z = rw e (go (ltb 0 (length rest)) refl)
+-- the measure of a loop over received bytes, which goes on where more than so many are left
+pub fewer : {s : ℕ} {t o t′ o′ rest : List ℕ} (least : ℕ) (left : List ℕ) (r : Answer) (going : Bool)
+    → going ≡ true → rest ≡ drop (r .consumed) left → Outcome (bytes s left) t o r t′ o′ → r .number ≡ 0
+    → cond (ltb least (length rest)) (suc (length rest)) 0 < cond going (suc (length left)) 0
+fewer {rest = rest} least left r going e p out z = rw e (go (ltb least (length rest)) refl)
   where
-    go : (b : Bool) → ltb 0 (length rest) ≡ b → cond b (suc (length rest)) 0 < suc (length left)
+    go : (b : Bool) → ltb least (length rest) ≡ b → cond b (suc (length rest)) 0 < suc (length left)
     go true q =
-        let some : 0 < length rest = ltb-true 0 (length rest) q in
+        let some : least < length rest = ltb-true least (length rest) q in
         let n : length rest ≡ length (drop (r .consumed) left) = ap length p in
         let less = used-up left out z (omega arith) in
         omega arith

@@ -1,11 +1,12 @@
 -- 01, "Counted and compared": the records of an input. Assumes nothing: these are definitions.
 use Prim.Native.Nat.{ℕ, _+_}
 use mathlib.Core.Bool.{Bool, cond, not, _&&_}
-use mathlib.Core.List.{List}
+use mathlib.Core.List.{List, flatten}
 use lib.Dec.{leb}
-use lib.ListN.{length}
+use lib.ListN.{length, drop}
 use Rattle.model.specs.Limits.{payload-longest}
 use Rattle.model.specs.Bytes.{places, little}
+use Rattle.model.specs.Program.{slices}
 
 -- the size of the record that an input begins with, or 0 where that is cut or too long
 unfoldable pub whole-size : List ℕ → ℕ
@@ -16,3 +17,10 @@ whole-size input =
 -- a whole header that announces too long a payload
 unfoldable pub too-long : List ℕ → Bool
 too-long input = leb 4 (length input) && not (leb (little (places 1 2 input)) payload-longest)
+
+-- the whole records that an input begins with, and what waits behind them
+abbrev pub records : List ℕ → List (List ℕ)
+records input = slices (length input) input
+
+unfoldable pub waits : List ℕ → List ℕ
+waits input = drop (length (flatten (records input))) input

@@ -1,16 +1,17 @@
 // The test program: house records on standard input, a line for each output record and each refusal on standard output.
 ghost use mathlib.Core.Path.{_≡_};
-ghost use mathlib.Core.Bool.{true, false, cond};
+ghost use mathlib.Core.Bool.{true, false, not, cond};
 ghost use lib.Dec.{eqb};
 ghost use mathlib.Core.List.{[], _∷_, _++_};
-ghost use Prim.Native.Nat.{_+_, _≤_, _<_};
-ghost use lib.ListN.{length};
+ghost use Prim.Native.Nat.{suc, _+_, _≤_, _<_};
+ghost use lib.ListN.{length, take};
 ghost use Rattle.model.specs.Bytes.{space, within};
-ghost use Rattle.model.specs.Program.{shown as shown-bytes, call-of, printed};
+ghost use Rattle.model.specs.Program.{shown as shown-bytes, call-of, printed, fed, given as given-state, all-given};
 ghost use Rattle.text.specs.Put.{Put};
 ghost use Rattle.controller.specs.Contract.{Outcome};
 ghost use Rattle.replay.specs.Lines.{line-in, lines-in, text-of};
-ghost use Rattle.replay.specs.Whole.{whole-size, too-long};
+ghost use Rattle.replay.specs.Whole.{whole-size, too-long, records, waits};
+ghost use Rattle.replay.specs.States.{Lends, free-from, Behind, Follows, Turned, Ran};
 use controller::Answer;
 
 const PAYLOAD_LONGEST: u64 = 8192;
@@ -115,7 +116,7 @@ fn flush(lines: &[u8], at: usize)
 // Room for the lines of one more call: those that wait are written out where there is none.
 fn room(lines: &[u8], at: usize) -> usize
     requires { ⌜ (at ≤ length (now lines)) × (2_048 ≤ length (now lines)) ⌝ }
-    ensures { λ r. ⌜ r + 2_048 ≤ length (now (lines .entry)) ⌝ }
+    ensures { λ r. ⌜ (r ≡ free-from (length (now (lines .entry))) at) × (r + 2_048 ≤ length (now (lines .entry))) ⌝ }
 {
     if lines.len() - at >= OUTPUT_SIZE {
         return at;
@@ -127,7 +128,9 @@ fn room(lines: &[u8], at: usize) -> usize
 // The lines of a call, behind those that wait.
 fn print(answer: Answer, output: &[u8], lines: &mut [u8], at: usize) -> usize
     requires { ⌜ (answer .written ≤ length (now output)) × (answer .written ≤ 2_048) × (at ≤ length (now lines)) × (2_048 ≤ length (now lines)) ⌝ }
-    ensures { λ r. ⌜ r ≤ length (now (lines .entry)) ⌝ }
+    ensures behind { λ r. ⌜ Behind (length (now (lines .entry))) (take at (now (lines .entry)))
+        (text-of answer (now (output .entry))) (take r (now (lines .exit))) ⌝ }
+    ensures within { λ r. ⌜ r ≤ length (now (lines .entry)) ⌝ }
 {
     let free = room(lines, at);
     tell(answer, output, lines, free)
@@ -153,8 +156,11 @@ fn feed(
     session: u64,
     bytes: &[u8],
 ) -> usize
-    requires { ⌜ (at ≤ length (now lines)) × (2_048 ≤ length (now lines)) ⌝ }
-    ensures { λ r. ⌜ r ≤ length (now (lines .entry)) ⌝ }
+    requires { ⌜ Lends (now table) (now output) (now lines) × (at ≤ length (now lines)) ⌝ }
+    ensures follows { λ r. ⌜ Follows (λ x. fed (suc (length (now (bytes .entry)))) x session (now (bytes .entry)))
+        (length (now (lines .entry))) (now (table .entry)) (take at (now (lines .entry)))
+        (now (table .exit)) (take r (now (lines .exit))) ⌝ }
+    ensures within { λ r. ⌜ r ≤ length (now (lines .entry)) ⌝ }
 {
     let mut to = at;
     let mut left = bytes;
@@ -191,8 +197,10 @@ fn call(table: &mut [u8], output: &mut [u8], kind: u64, slice: &[u8]) -> Answer
 
 // One record, as a slice.
 fn given(table: &mut [u8], output: &mut [u8], lines: &mut [u8], at: usize, slice: &[u8]) -> usize
-    requires { ⌜ (4 ≤ length (now slice)) × (at ≤ length (now lines)) × (2_048 ≤ length (now lines)) ⌝ }
-    ensures { λ r. ⌜ r ≤ length (now (lines .entry)) ⌝ }
+    requires { ⌜ Lends (now table) (now output) (now lines) × (at ≤ length (now lines)) × (4 ≤ length (now slice)) ⌝ }
+    ensures follows { λ r. ⌜ Follows (λ x. given-state x (now (slice .entry))) (length (now (lines .entry)))
+        (now (table .entry)) (take at (now (lines .entry))) (now (table .exit)) (take r (now (lines .exit))) ⌝ }
+    ensures within { λ r. ⌜ r ≤ length (now (lines .entry)) ⌝ }
 {
     let kind = text::little(slice, 2, 2);
     if is_within(48, 63, kind) {
@@ -212,16 +220,20 @@ fn is_too_long(input: &[u8]) -> bool
     text::little(input, 0, 2) > PAYLOAD_LONGEST
 }
 
-// How many bytes wait in the input, and whether the run goes on.
+// How many bytes of the input wait, how many of the lines, and whether the run goes on.
 struct Waiting {
     size: usize,
+    lines: usize,
     going: bool,
 }
 
-// Serves the whole records that an input begins with; what waits behind them.
+// Serves the whole records that an input begins with; what waits behind them, and of the lines.
 fn serve(table: &mut [u8], output: &mut [u8], lines: &mut [u8], input: &[u8]) -> Waiting
-    requires { ⌜ 2_048 ≤ length (now lines) ⌝ }
-    ensures { λ r. ⌜ r .size ≤ length (now (input .entry)) ⌝ }
+    requires { ⌜ Lends (now table) (now output) (now lines) ⌝ }
+    ensures follows { λ r. ⌜ Follows (λ x. all-given x (records (now (input .entry)))) (length (now (lines .entry)))
+        (now (table .entry)) [] (now (table .exit)) (take (r .lines) (now (lines .exit))) ⌝ }
+    ensures waits { λ r. ⌜ (r .size ≡ length (waits (now (input .entry)))) × (r .going ≡ not (too-long (waits (now (input .entry)))))
+        × (r .lines ≤ length (now (lines .entry))) ⌝ }
 {
     let mut to = 0;
     let mut left = input;
@@ -231,11 +243,33 @@ fn serve(table: &mut [u8], output: &mut [u8], lines: &mut [u8], input: &[u8]) ->
         left = &left[size..];
         size = whole(left);
     }
-    flush(lines, to);
     Waiting {
         size: left.len(),
+        lines: to,
         going: !is_too_long(left),
     }
+}
+
+// Serves the first `have` bytes of the input, and moves what waits to its front.
+fn serve_and_move(
+    table: &mut [u8],
+    output: &mut [u8],
+    lines: &mut [u8],
+    input: &mut [u8],
+    have: usize,
+) -> Waiting
+    requires { ⌜ Lends (now table) (now output) (now lines) × (have ≤ length (now input)) ⌝ }
+    ensures follows { λ r. ⌜ Follows (λ x. all-given x (records (take have (now (input .entry))))) (length (now (lines .entry)))
+        (now (table .entry)) [] (now (table .exit)) (take (r .lines) (now (lines .exit))) ⌝ }
+    ensures waits { λ r. ⌜ (take (r .size) (now (input .exit)) ≡ waits (take have (now (input .entry))))
+        × (r .going ≡ not (too-long (waits (take have (now (input .entry))))))
+        × (r .size ≤ have)
+        × (r .lines ≤ length (now (lines .entry))) ⌝ }
+{
+    let waiting = serve(table, output, lines, &input[..have]);
+    let left = waiting.size;
+    text::shift(input, 0, have - left, left);
+    waiting
 }
 
 // One read; 0 at the end.
@@ -249,12 +283,12 @@ fn read(space: &mut [u8]) -> usize
 // One read, behind the `size` bytes that wait in the input.
 fn fill(input: &mut [u8], size: usize) -> usize
     requires { ⌜ size ≤ length (now input) ⌝ }
-    ensures { λ r. ⌜ size + r ≤ length (now (input .entry)) ⌝ }
+    ensures { λ r. ⌜ (size + r ≤ length (now (input .entry))) × (take size (now (input .exit)) ≡ take size (now (input .entry))) ⌝ }
 {
     read(&mut input[size..])
 }
 
-// Reads once, serves what is whole, and moves what waits to the input's front, where `size` bytes waited.
+// Reads once, behind the `size` bytes that wait in the input, serves that, and writes out the lines.
 fn turn(
     table: &mut [u8],
     output: &mut [u8],
@@ -262,23 +296,33 @@ fn turn(
     input: &mut [u8],
     size: usize,
 ) -> Waiting
-    requires { ⌜ (2_048 ≤ length (now lines)) × (size ≤ length (now input)) ⌝ }
-    ensures { λ r. ⌜ r .size ≤ length (now (input .entry)) ⌝ }
+    requires { ⌜ Lends (now table) (now output) (now lines) × (size ≤ length (now input)) × (whole-size (take size (now input)) ≡ 0) ⌝ }
+    ensures turned { λ r. ⌜ Turned (now (table .entry)) (take size (now (input .entry)))
+        (now (table .exit)) (take (r .size) (now (input .exit))) ⌝ }
+    ensures within { λ r. ⌜ r .size ≤ length (now (input .entry)) ⌝ }
 {
     let got = fill(input, size);
     if got == 0 {
-        return Waiting { size, going: false };
+        return Waiting {
+            size,
+            lines: 0,
+            going: false,
+        };
     }
-    let have = size + got;
-    let waiting = serve(table, output, lines, &input[..have]);
-    let left = waiting.size;
-    text::shift(input, 0, have - left, left);
-    waiting
+    let waiting = serve_and_move(table, output, lines, input, size + got);
+    let at = waiting.lines;
+    flush(lines, at);
+    Waiting {
+        size: waiting.size,
+        lines: 0,
+        going: waiting.going,
+    }
 }
 
 // A proved loop has to end, and nothing says that an input does: this one ends after more turns than any run has.
 fn run(table: &mut [u8], output: &mut [u8], lines: &mut [u8], input: &mut [u8])
-    requires { ⌜ 2_048 ≤ length (now lines) ⌝ }
+    requires { ⌜ Lends (now table) (now output) (now lines) ⌝ }
+    ensures { λ _. ⌜ Ran (now (table .entry)) (now (table .exit)) ⌝ }
 {
     let mut turns = u64::MAX;
     let mut size = 0;

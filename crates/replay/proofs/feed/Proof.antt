@@ -1,59 +1,108 @@
--- `replay::feed` is safe and ends: what is left of the bytes gets shorter. Assumes nothing.
+-- `replay::feed` meets its contract. The invariant: what is left is still to be handed on, and what was is the calls of the model's
+-- program so far. Assumes nothing.
 use borrow.Author.Needs.{needs}
 use mathlib.Core.Path.{_≡_, refl, sym, ap, _∙_}
 use mathlib.Core.Bool.{Bool, true, false, cond}
 use Prim.Native.Nat.{ℕ, suc, _≤_, _<_}
 use native.Mathlib.Omega.{arith}
-use lib.ListN.{length, drop}
+use lib.ListN.{length, take, drop}
+use Rattle.replay.proofs.Follows.{behind-room}
+use Rattle.replay.proofs.Fed.{Feeding, feeding-begins, feeding-on, feeding-ends, on-done, on-refused}
 use Rattle.replay.proofs.Turns.{fits-in, same-output, fewer, no-more}
 use Rattle.replay.proofs.feed.Statement.{statement}
 use Rattle.replay.proofs.feed.Tie as tie
 
 abbrev Inv-loop : tie.InvT-loop
 Inv-loop table₀ output₀ lines₀ at session bytes to₀ left₀ going₀ table output lines to left going =
-    (length table ≡ length table₀) × (length output ≡ length output₀) × (length lines ≡ length lines₀) × (to ≤ length lines₀)
+    (length table ≡ length table₀)
+    × (length output ≡ length output₀)
+    × (length lines ≡ length lines₀)
+    × (to ≤ length lines₀)
+    × Feeding session bytes (length lines₀) table₀ (take at lines₀) table (take to lines) left going
 
 abbrev μ-loop : tie.MeasureT-loop
 μ-loop table₀ output₀ lines₀ at session bytes to₀ left₀ going₀ table output lines to left going = cond going (suc (length left)) 0
 
 loop-holds : tie.Need-loop-holds Inv-loop μ-loop
-loop-holds c = (refl, refl, refl, c .before .before .before .before .pre .0)
+loop-holds c =
+    let s = c .before .before .before .before in
+    let a = s .args in
+    let begins = feeding-begins (a .session) (a .bytes .now) (length (a .lines .now)) (a .table .now) (take (a .at) (a .lines .now)) in
+    (refl, refl, refl, s .pre .1, begins)
 
 print-requires : tie.Need-print-requires Inv-loop μ-loop
 print-requires c κs =
-    let i = c .before .before .before .before .before .before .before .before .before .before .loop .inv in
-    let f = fits-in (c .before .before .before .before .before .before .bytes .ensures) in
+    let called = c .before .before .before .before .before .before in
+    let loop = called .before .before .before .before in
+    let i = loop .loop .inv in
+    let f = fits-in (called .bytes .ensures) in
     let same = i .2 in
     let here = i .3 in
-    let room = c .before .before .before .before .before .before .before .before .before .before .before .before .before .before .before .pre .1 in
+    let room = loop .before .before .before .before .before .pre .0 .room in
     (f .0, f .1, omega arith, omega arith)
 
 loop-less : tie.Need-loop-less Inv-loop μ-loop
 loop-less c =
-    let l = c .before .before .before .before .before .before .before .before .before .before .before .before .before .before .before .before .loop in
-    fewer (l .left .now) (c .before .before .before .before .before .before .before .before .before .before .before .before .bytes .result) (l .going) (c .before .before .before .before .before .before .before .before .before .before .before .before .before .before .before .loop-test .taken) (c .before .before .rest .ensures) (c .before .before .before .before .before .before .before .before .before .before .before .before .bytes .ensures) (c .if1 .taken)
+    let called = c .before .before .before .before .before .before .before .before .before .before .before .before in
+    let r = called .bytes .result in
+    let out = called .bytes .ensures in
+    let test = called .before .before .before in
+    let l = test .before .loop in
+    fewer 0 (l .left .now) r (l .going) (test .loop-test .taken) (c .before .before .rest .ensures) out (c .if1 .taken)
 
 loop-again : tie.Need-loop-again Inv-loop μ-loop
 loop-again c =
-    let i = c .before .before .before .before .before .before .before .before .before .before .before .before .before .before .before .before .loop .inv in
-    let out = c .before .before .before .before .before .before .before .before .before .before .before .before .bytes .ensures in
+    let called = c .before .before .before .before .before .before .before .before .before .before .before .before in
+    let r = called .bytes .result in
+    let out = called .bytes .ensures in
+    let test = called .before .before .before in
+    let l = test .before .loop in
+    let i = l .inv in
+    let pre = test .before .before .before .before .before .before .pre .0 in
     let p = c .before .before .before .before .before .print in
-    let here = p .ensures in
-    let same = i .2 in
-    (out .size ∙ i .0, same-output out ∙ i .1, p .kept .1 .1 .0 ∙ i .2, omega arith)
+    let rest = c .before .before .rest in
+    let here = p .ensures .1 in
+    let same = i .2 in (
+      out .size ∙ i .0,
+      same-output out ∙ i .1,
+      p .kept .1 .1 .0 ∙ i .2,
+      omega arith,
+      feeding-on (i .4) (test .loop-test .taken) out (i .0 ∙ pre .table) (i .1 ∙ pre .output)
+          (behind-room (i .2) (p .ensures .0)) (rest .ensures) (on-done (r .number) (length (rest .result .now)) (c .if1 .taken)),
+    )
 
 loop-less-2 : tie.Need-loop-less-2 Inv-loop μ-loop
 loop-less-2 c =
-    let l = c .before .before .before .before .before .before .before .before .before .before .before .before .before .before .before .before .loop in no-more (l .left .now) (c .before .before .rest .result .now) (c .before .before .before .before .before .before .before .before .before .before .before .before .bytes .result .number) (l .going) (c .before .before .before .before .before .before .before .before .before .before .before .before .before .before .before .loop-test .taken) (c .if1 .left)
+    let called = c .before .before .before .before .before .before .before .before .before .before .before .before in
+    let r = called .bytes .result in
+    let out = called .bytes .ensures in
+    let test = called .before .before .before in
+    let l = test .before .loop in
+    no-more (l .left .now) (c .before .before .rest .result .now) (r .number) (l .going) (test .loop-test .taken) (c .if1 .left)
 
 loop-again-2 : tie.Need-loop-again-2 Inv-loop μ-loop
 loop-again-2 c =
-    let i = c .before .before .before .before .before .before .before .before .before .before .before .before .before .before .before .before .loop .inv in
-    let out = c .before .before .before .before .before .before .before .before .before .before .before .before .bytes .ensures in
+    let called = c .before .before .before .before .before .before .before .before .before .before .before .before in
+    let r = called .bytes .result in
+    let out = called .bytes .ensures in
+    let test = called .before .before .before in
+    let l = test .before .loop in
+    let i = l .inv in
+    let pre = test .before .before .before .before .before .before .pre .0 in
     let p = c .before .before .before .before .before .print in
-    let here = p .ensures in
-    let same = i .2 in
-    (out .size ∙ i .0, same-output out ∙ i .1, p .kept .1 .1 .0 ∙ i .2, omega arith)
+    let rest = c .before .before .rest in
+    let here = p .ensures .1 in
+    let same = i .2 in (
+      out .size ∙ i .0,
+      same-output out ∙ i .1,
+      p .kept .1 .1 .0 ∙ i .2,
+      omega arith,
+      feeding-on (i .4) (test .loop-test .taken) out (i .0 ∙ pre .table) (i .1 ∙ pre .output)
+          (behind-room (i .2) (p .ensures .0)) (rest .ensures) (on-refused (r .number) (length (rest .result .now)) (c .if1 .left)),
+    )
+
+returns : tie.Need-returns Inv-loop μ-loop
+returns c = let i = c .before .loop .inv in (feeding-ends (i .4) (c .loop-test .left), i .3)
 
 pub feed-spec : {M : Type 1} → statement M
 feed-spec =
@@ -72,4 +121,4 @@ feed-spec =
     (λ c. c .before .loop .inv .0)
     (λ c. c .before .loop .inv .1)
     (λ c. c .before .loop .inv .2)
-    (λ c. c .before .loop .inv .3))
+    returns)

@@ -1,28 +1,60 @@
--- `replay::given` is safe and ends. Assumes nothing.
+-- `replay::given` meets its contract. Assumes nothing.
 use borrow.Author.Needs.{needs}
-use mathlib.Core.Path.{sym, _∙_}
+use mathlib.Core.Path.{_≡_, sym, _∙_}
+use Prim.Native.Nat.{_-_}
 use native.Mathlib.Omega.{arith}
+use lib.ListN.{length, drop, length-drop}
+use lib.Seq.{take-all}
+use Rattle.replay.proofs.Follows.{follows-as}
+use Rattle.replay.proofs.Called.{called-follows}
+use Rattle.replay.proofs.Records.{given-bytes, given-call}
 use Rattle.replay.proofs.Turns.{at-least, fits-in}
 use Rattle.replay.proofs.given.Statement.{statement}
 use Rattle.replay.proofs.given.Tie as tie
 
 little-requires : tie.Need-little-requires
-little-requires c κs = let p = c .before .before .before .before .pre .0 in (omega arith, omega arith)
+little-requires c κs = let p = c .before .before .before .before .pre .2 in (omega arith, omega arith)
 
 sub-feed : tie.Need-sub-feed
 sub-feed c = at-least 48 63 (c .before .before .before .before .before .little .result) (sym (c .before .before .before .before .is-within .ensures) ∙ c .before .before .before .if1 .taken)
 
 feed-requires : tie.Need-feed-requires
-feed-requires c κs = let p = c .before .before .before .before .before .before .before .before .before .before .before .pre in (p .1, p .2)
+feed-requires c κs = let p = c .before .before .before .before .before .before .before .before .before .before .before .pre in (p .0, p .1)
+
+returns : tie.Need-returns
+returns c =
+    let fed = c .before .before .before .before .before .before in
+    let asked = fed .before .before .before .before .before .before in
+    let kind = asked .before .little in
+    let s = asked .before .before .before .before .before .before in
+    let slice = s .args .slice .now in
+    let four = s .pre .2 in
+    let are-bytes = sym (asked .is-within .ensures) ∙ fed .before .before .before .before .before .if1 .taken in
+    let rest = take-all (length slice - 4) (drop 4 slice) (simp length-drop (omega arith)) in
+    let f = fed .feed .ensures in
+    (follows-as (λ x m. given-bytes x slice (kind .result) (kind .ensures .0) _ are-bytes rest) (f .0), f .1)
 
 call-requires : tie.Need-call-requires
 call-requires c κs = sym (c .before .before .before .is-within .ensures) ∙ c .before .before .if1 .left
 
 print-requires : tie.Need-print-requires
 print-requires c κs =
-    let p = c .before .before .before .before .before .before .before .before .before .before .before .before .before .before .before .before .pre in
-    let f = fits-in (c .before .before .before .before .before .before .call .ensures) in
-    (f .0, f .1, p .1, p .2)
+    let called = c .before .before .before .before .before .before in
+    let p = called .before .before .before .before .before .before .before .before .before .before .pre in
+    let f = fits-in (called .call .ensures) in
+    (f .0, f .1, p .1, p .0 .room)
+
+returns-2 : tie.Need-returns-2
+returns-2 c =
+    let called = c .before .before .before .before .before .before .before .before .before in
+    let asked = called .before .before .before .before in
+    let kind = asked .before .little in
+    let s = asked .before .before .before .before .before .before in
+    let lends = s .pre .0 in
+    let are-none = sym (asked .is-within .ensures) ∙ called .before .before .before .if1 .left in
+    let p = c .before .before .print .ensures in
+    let f = called-follows (called .call .ensures) (lends .table) (lends .output) (p .0) in
+    (follows-as (λ x m. given-call x (s .args .slice .now) (kind .result) (kind .ensures .0) are-none) f, p .1)
 
 pub given-spec : {M : Type 1} → statement M
 given-spec =
@@ -31,17 +63,17 @@ given-spec =
     little-requires
     (λ c κs. search needs)
     sub-feed
-    (λ c. omega (arith, c .before .before .before .before .before .before .before .before .before .before .pre .0))
-    (λ c. omega (arith, c .before .before .before .before .before .before .before .before .before .before .pre .0))
+    (λ c. omega (arith, c .before .before .before .before .before .before .before .before .before .before .pre .2))
+    (λ c. omega (arith, c .before .before .before .before .before .before .before .before .before .before .pre .2))
     (λ c. search needs)
     feed-requires
     (λ c. search needs)
     (λ c. search needs)
     (λ c. search needs)
-    (λ c. c .before .before .before .before .before .before .feed .ensures)
+    returns
     call-requires
     print-requires
     (λ c. search needs)
     (λ c. search needs)
     (λ c. search needs)
-    (λ c. c .before .before .print .ensures))
+    returns-2)

@@ -1,6 +1,7 @@
 -- `replay::print` meets its contract. Assumes nothing.
 use borrow.Author.Needs.{needs}
 use native.Mathlib.Omega.{arith}
+use Rattle.replay.proofs.Follows.{behind-put}
 use Rattle.replay.proofs.print.Statement.{statement}
 use Rattle.replay.proofs.print.Tie as tie
 
@@ -8,10 +9,14 @@ room-requires : tie.Need-room-requires
 room-requires c κs = let p = c .before .before .before .pre in (p .2, p .3)
 
 tell-requires : tie.Need-tell-requires
-tell-requires c κs = let p = c .before .before .before .before .before .pre in (p .0, p .1, c .before .room .ensures)
+tell-requires c κs = let p = c .before .before .before .before .before .pre in (p .0, p .1, c .before .room .ensures .1)
 
 returns : tie.Need-returns
-returns c = omega (arith, c .before .before .tell .ensures .1, c .before .before .before .before .room .ensures)
+returns c =
+    let free = c .before .before .before .before .room .ensures in
+    let put = c .before .before .tell .ensures in
+    let here = c .before .before .before .before .before .before .before .before .pre .2 in
+    (behind-put here (free .0) (free .1) (put .0) (put .1), omega (arith, put .1, free .1))
 
 pub print-spec : {M : Type 1} → statement M
 print-spec =

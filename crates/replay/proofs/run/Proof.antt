@@ -1,9 +1,14 @@
--- `replay::run` is safe and ends. Assumes nothing.
+-- `replay::run` meets its contract. The invariant: what was read so far was served, and what waits stands at the input's front.
+-- Assumes nothing.
 use borrow.Author.Needs.{needs}
-use mathlib.Core.Path.{_≡_, refl, _∙_}
-use Prim.Native.Nat.{_≤_}
+use mathlib.Core.Path.{_≡_, refl, sym, _∙_}
+use mathlib.Core.List.{[]}
+use Prim.Native.Nat.{_≤_, _<_}
 use native.Mathlib.Omega.{arith}
-use lib.ListN.{length}
+use lib.ListN.{length, take}
+use Rattle.replay.specs.States.{Turned}
+use Rattle.replay.proofs.Sizes.{size-cut}
+use Rattle.replay.proofs.Reading.{turned-none, turned-then, turned-cut}
 use Rattle.replay.proofs.run.Statement.{statement}
 use Rattle.replay.proofs.run.Tie as tie
 
@@ -14,29 +19,38 @@ Inv-loop table₀ output₀ lines₀ input₀ turns₀ size₀ going₀ table ou
     × (length lines ≡ length lines₀)
     × (length input ≡ length input₀)
     × (size ≤ length input₀)
+    × Turned table₀ [] table (take size input)
 
 abbrev μ-loop : tie.MeasureT-loop
 μ-loop table₀ output₀ lines₀ input₀ turns₀ size₀ going₀ table output lines input turns size going = turns
 
 loop-holds : tie.Need-loop-holds Inv-loop μ-loop
-loop-holds c = (refl, refl, refl, refl, omega arith)
+loop-holds c = (refl, refl, refl, refl, omega arith, turned-none refl (sym (size-cut [] (omega arith))))
 
 turn-requires : tie.Need-turn-requires Inv-loop μ-loop
 turn-requires c κs =
     let i = c .before .before .before .before .before .before .loop .inv in
-    let room = c .before .before .before .before .before .before .before .before .before .before .before .pre in
+    let pre = c .before .before .before .before .before .before .before .before .before .before .before .pre in
+    let room = pre .room in
     let lines = i .2 in
     let input = i .3 in
     let here = i .4 in
-    (omega arith, omega arith)
+    (record { table = i .0 ∙ pre .table; output = i .1 ∙ pre .output; room = omega arith }, omega arith, turned-cut (i .5))
 
 loop-again : tie.Need-loop-again Inv-loop μ-loop
 loop-again c =
     let i = c .before .before .before .before .before .before .before .before .before .before .before .before .before .before .before .loop .inv in
     let t = c .before .before .before .before .before .before .before .before .turn in
-    let here = t .ensures in
+    let here = t .ensures .1 in
     let input = i .3 in
-    (t .kept .0 ∙ i .0, t .kept .1 .0 ∙ i .1, t .kept .1 .1 .0 ∙ i .2, t .kept .1 .1 .1 .0 ∙ i .3, omega arith)
+    let k = t .kept in
+    (k .0 ∙ i .0, k .1 .0 ∙ i .1, k .1 .1 .0 ∙ i .2, k .1 .1 .1 .0 ∙ i .3, omega arith, turned-then (i .5) (t .ensures .0))
+
+returns : tie.Need-returns Inv-loop μ-loop
+returns c = let l = c .before .before .loop in record { waiting = take (l .size) (l .input); turned = l .inv .5 }
+
+returns-2 : tie.Need-returns-2 Inv-loop μ-loop
+returns-2 c = let l = c .before .loop in record { waiting = take (l .size) (l .input); turned = l .inv .5 }
 
 pub run-spec : {M : Type 1} → statement M
 run-spec =
@@ -53,9 +67,9 @@ run-spec =
     (λ c. c .before .before .loop .inv .1)
     (λ c. c .before .before .loop .inv .2)
     (λ c. c .before .before .loop .inv .3)
-    (λ c. search needs)
+    returns
     (λ c. c .before .loop .inv .0)
     (λ c. c .before .loop .inv .1)
     (λ c. c .before .loop .inv .2)
     (λ c. c .before .loop .inv .3)
-    (λ c. search needs))
+    returns-2)

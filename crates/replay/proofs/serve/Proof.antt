@@ -1,10 +1,16 @@
--- `replay::serve` is safe and ends: what is left of the input gets shorter. Assumes nothing.
+-- `replay::serve` meets its contract. The invariant: what is left is still to be served, and what was is the records of the model's
+-- program so far. Assumes nothing.
 use borrow.Author.Needs.{needs}
-use mathlib.Core.Path.{_≡_, refl, sym, _∙_}
-use Prim.Native.Nat.{_≤_, _<_}
+use mathlib.Core.Path.{_≡_, refl, sym, ap, _∙_}
+use mathlib.Core.Bool.{Bool, not}
+use mathlib.Core.List.{List, []}
+use Prim.Native.Nat.{ℕ, _-_, _≤_, _<_}
 use native.Mathlib.Omega.{arith}
-use lib.ListN.{length, length-drop}
-use lib.Seq.{length-take-le}
+use lib.ListN.{length, take, drop, length-drop}
+use lib.Seq.{length-take-le, take-all}
+use Rattle.replay.specs.Whole.{whole-size, too-long}
+use Rattle.replay.proofs.Follows.{follows-room}
+use Rattle.replay.proofs.Records.{Serving, serving-begins, serving-on, serving-ends}
 use Rattle.replay.proofs.serve.Statement.{statement}
 use Rattle.replay.proofs.serve.Tie as tie
 
@@ -17,12 +23,18 @@ Inv-loop table₀ output₀ lines₀ input to₀ left₀ size₀ table output li
     × (length left ≤ length input)
     × (size ≤ length left)
     × (0 < size → 4 ≤ size)
+    × (size ≡ whole-size left)
+    × Serving input (length lines₀) table₀ [] table (take to lines) left
 
 abbrev μ-loop : tie.MeasureT-loop
 μ-loop table₀ output₀ lines₀ input to₀ left₀ size₀ table output lines to left size = length left
 
 loop-holds : tie.Need-loop-holds Inv-loop μ-loop
-loop-holds c = let w = c .whole .ensures in (refl, refl, refl, omega arith, omega arith, w .1, w .2)
+loop-holds c =
+    let a = c .before .before .before .before .before .args in
+    let w = c .whole .ensures in
+    let begins = serving-begins (a .input .now) (length (a .lines .now)) (a .table .now) [] in
+    (refl, refl, refl, omega arith, omega arith, w .1, w .2, w .0, begins)
 
 slice-aggregate-given : tie.Need-slice-aggregate-given Inv-loop μ-loop
 slice-aggregate-given c = let l = c .before .before .before .before .before .loop in sym (length-take-le (l .size) (l .left .now) (l .inv .5))
@@ -34,35 +46,53 @@ given-requires c κs =
     let four = l .inv .6 (c .before .before .before .before .loop-test .taken) in
     let here = l .inv .3 in
     let same = l .inv .2 in
-    let room = c .before .before .before .before .before .before .before .before .before .before .before .pre in
-    (omega arith, omega arith, omega arith)
+    let pre = c .before .before .before .before .before .before .before .before .before .before .before .pre in
+    let room = pre .room in
+    (record { table = l .inv .0 ∙ pre .table; output = l .inv .1 ∙ pre .output; room = omega arith }, omega arith, omega arith)
 
 loop-less : tie.Need-loop-less Inv-loop μ-loop
 loop-less c =
-    let l = c .before .before .before .before .before .before .before .before .before .before .before .before .before .before .loop in
-    let some = c .before .before .before .before .before .before .before .before .before .before .before .before .before .loop-test .taken in
+    let test = c .before .before .before .before .before .before .before .before .before .before .before .before .before in
+    let l = test .before .loop in
+    let some = test .loop-test .taken in
     let few = l .inv .5 in
     let d = length-drop (l .size) (l .left .now) in
     omega arith
 
 loop-again : tie.Need-loop-again Inv-loop μ-loop
 loop-again c =
-    let l = c .before .before .before .before .before .before .before .before .before .before .before .before .before .before .loop in
+    let test = c .before .before .before .before .before .before .before .before .before .before .before .before .before in
+    let l = test .before .loop in
+    let some = test .loop-test .taken in
     let i = l .inv in
     let g = c .before .before .before .before .before .before .before .before .given in
     let w = c .whole2 .ensures in
     let d = length-drop (l .size) (l .left .now) in
+    let few = i .5 in
     let within = i .4 in
     let same = i .2 in
-    let here = g .ensures in
-    (g .kept .0 ∙ i .0, g .kept .1 .0 ∙ i .1, g .kept .1 .1 .0 ∙ i .2, omega arith, omega arith, w .1, w .2)
+    let here = g .ensures .1 in
+    let rest = take-all (length (l .left .now) - l .size) (drop (l .size) (l .left .now)) (simp length-drop (omega arith)) in (
+      g .kept .0 ∙ i .0,
+      g .kept .1 .0 ∙ i .1,
+      g .kept .1 .1 .0 ∙ i .2,
+      omega arith,
+      omega arith,
+      w .1,
+      w .2,
+      w .0,
+      serving-on (i .8) (i .7) some few (follows-room same (g .ensures .0)) rest,
+    )
 
-flush-requires : tie.Need-flush-requires Inv-loop μ-loop
-flush-requires c κs =
-    let i = c .before .before .loop .inv in
-    let same = i .2 in
-    let here = i .3 in
-    omega arith
+returns : tie.Need-returns Inv-loop μ-loop
+returns c =
+    let l = c .before .before .loop in
+    let none = c .before .loop-test .left in
+    let z : l .size ≡ 0 = omega arith in
+    let s = serving-ends (l .inv .8) (sym (l .inv .7) ∙ z) in (
+      s .0,
+      (ap length (s .1), ap not (c .is-too-long .ensures) ∙ ap (λ (z : List ℕ). not (too-long z)) (s .1), l .inv .3),
+    )
 
 pub serve-spec : {M : Type 1} → statement M
 serve-spec =
@@ -80,9 +110,8 @@ serve-spec =
     (λ c κs. search needs)
     loop-less
     loop-again
-    flush-requires
     (λ c κs. search needs)
-    (λ c. c .before .before .before .before .loop .inv .0)
-    (λ c. c .before .before .before .before .loop .inv .1)
-    (λ c. c .before .before .before .before .loop .inv .2)
-    (λ c. c .before .before .before .before .loop .inv .4))
+    (λ c. c .before .before .loop .inv .0)
+    (λ c. c .before .before .loop .inv .1)
+    (λ c. c .before .before .loop .inv .2)
+    returns)

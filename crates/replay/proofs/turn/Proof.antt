@@ -1,43 +1,26 @@
--- `replay::turn` is safe and ends. Assumes nothing.
+-- `replay::turn` meets its contract. Assumes nothing.
 use borrow.Author.Needs.{needs}
-use mathlib.Core.Path.{_≡_, sym}
-use Prim.Native.Nat.{_+_}
 use native.Mathlib.Omega.{arith}
-use lib.Seq.{length-take-le}
+use lib.ListN.{length}
+use Rattle.replay.proofs.Reading.{turned-none, turned-served}
 use Rattle.replay.proofs.turn.Statement.{statement}
 use Rattle.replay.proofs.turn.Tie as tie
 
-slice-aggregate-serve : tie.Need-slice-aggregate-serve
-slice-aggregate-serve c =
-    let f = c .before .before .before .before .before .before .before .fill in
-    let h = f .ensures in
-    let k = f .kept .0 in
-    sym (length-take-le (c .before .before .before .before .before .before .before .before .before .before .before .before .before .args .size + f .result) (f .last .0) (omega arith))
-
-sub-shift : tie.Need-sub-shift
-sub-shift c =
-    let f = c .before .before .before .before .before .before .before .before .before .before .before .before .before .before .before .fill in
-    let h = f .ensures in
-    let k = f .kept .0 in
-    let n = length-take-le (c .before .before .before .before .before .before .before .before .before .before .before .before .before .before .before .before .before .before .before .before .before .args .size + f .result) (f .last .0) (omega arith) in
-    omega (arith, c .before .before .before .before .before .before .before .serve .ensures)
-
-shift-requires : tie.Need-shift-requires
-shift-requires c κs =
-    let f = c .before .before .before .before .before .before .before .before .before .before .before .before .before .before .before .fill in
-    let h = f .ensures in
-    let k = f .kept .0 in
-    let n = length-take-le (c .before .before .before .before .before .before .before .before .before .before .before .before .before .before .before .before .before .before .before .before .before .args .size + f .result) (f .last .0) (omega arith) in
-    let v = c .before .before .before .before .before .before .before .serve .ensures in
-    (omega arith, omega arith)
+returns : tie.Need-returns
+returns c =
+    let filled = c .before .before .before in
+    let pre = filled .before .before .before .before .before .before .pre in
+    (turned-none (filled .fill .ensures .1) (pre .2), pre .1)
 
 returns-2 : tie.Need-returns-2
 returns-2 c =
-    let f = c .before .before .before .before .before .before .before .before .before .before .before .before .before .before .before .before .before .before .fill in
-    let h = f .ensures in
-    let k = f .kept .0 in
-    let n = length-take-le (c .before .before .before .before .before .before .before .before .before .before .before .before .before .before .before .before .before .before .before .before .before .before .before .before .args .size + f .result) (f .last .0) (omega arith) in
-    omega (arith, c .before .before .before .before .before .before .before .before .before .before .serve .ensures)
+    let served = c .before .before .before .before .before .before .before .before .before .before .serve-and-move .ensures in
+    let filled = c .before .before .before .before .before .before .before .before .before .before .before .before .before .before .before .before .before .before in
+    let f = filled .fill in
+    let size = filled .before .before .before .before .before .before .args .size in
+    let h = f .ensures .0 in
+    let few = served .1 .2 in
+    (turned-served size (f .result) (f .last .0) (f .ensures .1) (served .0) (served .1 .0), omega arith)
 
 pub turn-spec : {M : Type 1} → statement M
 turn-spec =
@@ -45,13 +28,10 @@ turn-spec =
     (tie.spec
     (λ c κs. search needs)
     (λ c. search needs)
+    returns
     (λ c. search needs)
-    (λ c. search needs)
-    (λ c. search needs)
-    slice-aggregate-serve
     (λ c κs. search needs)
-    sub-shift
-    shift-requires
+    (λ c κs. search needs)
     (λ c. search needs)
     (λ c. search needs)
     (λ c. search needs)

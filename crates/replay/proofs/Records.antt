@@ -1,0 +1,103 @@
+-- 01, "Counted and compared": a record is a call, or received bytes; and the records of an input one after the other. Assumes nothing.
+use mathlib.Core.Path.{_≡_, refl, sym, ap, ap₂, _∙_}
+use Prim.Native.Nat.{ℕ, suc, _+_, _-_, _≤_, _<_}
+use native.Mathlib.Omega.{arith}
+use mathlib.Core.Bool.{Bool, true, false, cond, _&&_}
+use mathlib.Core.List.{List, _++_, flatten}
+use lib.Dec.{leb, eqb}
+use lib.ListN.{length, take, drop, length-append}
+use lib.Seq.{length-take-le, drop-drop}
+use borrow.Author.Tests.{ne-eqb, lt-leb}
+use Rattle.model.specs.Bytes.{within, little, places}
+use Rattle.model.specs.Calls.{Call, start, open-session, hang-up-session, bytes, one-tick, tool}
+use Rattle.model.specs.Program.{State, called, fed, call-of, made, given, all-given}
+use Rattle.replay.specs.Whole.{whole-size, records, waits}
+use Rattle.replay.specs.States.{Follows}
+use Rattle.replay.proofs.Sizes.{slices-first, slices-none}
+use Rattle.replay.proofs.Follows.{follows-nothing, follows-then, follows-as}
+use Rattle.replay.proofs.Turns.{at-least}
+
+-- ==== one record
+
+above : (least greatest n : ℕ) → greatest < n → within least greatest n ≡ false
+above least greatest n h = go (leb least n) (lt-leb n greatest h)
+  where
+    go : (b : Bool) → leb n greatest ≡ false → (b && leb n greatest) ≡ false
+    go true e = e
+    go false e = refl
+
+module _ (x : State) (slice : List ℕ) (kind : ℕ) (k : kind ≡ little (places 3 4 slice)) where
+  pub given-bytes : (bs : List ℕ) → within 48 63 kind ≡ true → bs ≡ drop 4 slice → fed (suc (length bs)) x (kind - 48) bs ≡ given x slice
+  given-bytes bs e d =
+      let h = at-least 48 63 kind e in
+      let c : bytes (kind - 48) (drop 4 slice) ≡ call-of kind slice =
+      rw (ne-eqb kind 3 (λ (z : kind ≡ 3). omega arith), above 16 31 kind (omega arith), above 32 47 kind (omega arith), e) in
+      ap (λ (l : List ℕ). made x (bytes (kind - 48) l)) d ∙ ap (made x) c ∙ ap (λ (n : ℕ). made x (call-of n slice)) k
+
+  pub given-call : within 48 63 kind ≡ false → called x (call-of kind slice) ≡ given x slice
+  given-call e =
+      go (eqb kind 3) (within 16 31 kind) (within 32 47 kind) (within 48 63 kind) (eqb kind 64) e
+      ∙ ap (λ (n : ℕ). made x (call-of n slice)) k
+    where
+      a-call : Bool → Bool → Bool → Bool → Bool → Call
+      a-call a b c d f =
+          cond a (start slice)
+          (cond b (open-session (kind - 16))
+          (cond c (hang-up-session (kind - 32)) (cond d (bytes (kind - 48) (drop 4 slice)) (cond f one-tick (tool slice)))))
+
+      go : (a b c d f : Bool) → d ≡ false → called x (a-call a b c d f) ≡ made x (a-call a b c d f)
+      go true b c d f z = refl
+      go false true c d f z = refl
+      go false false true d f z = refl
+      go false false false false true z = refl
+      go false false false false false z = refl
+      go false false false true f z = absurd (let q : _≡_ {A = ℕ} 0 1 = cc in omega arith)
+
+-- ==== the records of an input
+
+-- behind the first record wait those that wait behind all
+pub waits-next : (bs : List ℕ) (size : ℕ) → size ≡ whole-size bs → 0 < size → size ≤ length bs → waits (drop size bs) ≡ waits bs
+unfolding waits flatten
+waits-next bs size e h few =
+    let behind = flatten (records (drop size bs)) in
+    let n = length-take-le size bs few in
+    let a = length-append (take size bs) behind in
+    let k : size + length behind ≡ length (take size bs ++ behind) = omega arith in
+    drop-drop (length behind) size bs
+    ∙ ap (λ (m : ℕ). drop m bs) k
+    ∙ ap (λ (ss : List (List ℕ)). drop (length (flatten ss)) bs) (sym (slices-first bs size e h))
+
+pub waits-none : (bs : List ℕ) → whole-size bs ≡ 0 → waits bs ≡ bs
+unfolding waits flatten
+waits-none bs e = rw (slices-none bs (length bs) e)
+
+-- some records were served, and the rest of the input is `left`
+pub record Serving (input : List ℕ) (room : ℕ) (t waited t′ waiting left : List ℕ) : Type 0 where
+  pub so-far : State → State
+  pub follows : Follows so-far room t waited t′ waiting
+  pub rest : (x : State) → all-given (so-far x) (records left) ≡ all-given x (records input)
+  pub same : waits left ≡ waits input
+
+pub serving-begins : (input : List ℕ) (room : ℕ) (t waited : List ℕ) → Serving input room t waited t waited input
+serving-begins input room t waited = record { so-far = λ x. x; follows = follows-nothing room t waited; rest = λ x. refl; same = refl }
+
+pub serving-on : {input t waited t′ waiting left t₁ waiting₁ rest : List ℕ} {room size : ℕ} → Serving input room t waited t′ waiting left
+    → size ≡ whole-size left → 0 < size → size ≤ length left
+    → Follows (λ x. given x (take size left)) room t′ waiting t₁ waiting₁ → rest ≡ drop size left
+    → Serving input room t waited t₁ waiting₁ rest
+serving-on {left = left} {size = size} s e h few f d = record {
+  so-far = λ x. given (s .so-far x) (take size left);
+  follows = follows-then (s .follows) f;
+  rest = λ x.
+      ap (λ (l : List ℕ). all-given (given (s .so-far x) (take size left)) (records l)) d
+      ∙ ap (all-given (s .so-far x)) (sym (slices-first left size e h))
+      ∙ s .rest x;
+  same = ap waits d ∙ waits-next left size e h few ∙ s .same;
+}
+
+-- no whole record is left
+pub serving-ends : {input t waited t′ waiting left : List ℕ} {room : ℕ} → Serving input room t waited t′ waiting left → whole-size left ≡ 0
+    → Follows (λ x. all-given x (records input)) room t waited t′ waiting × (left ≡ waits input)
+serving-ends {left = left} s e =
+    let served = follows-as (λ x m. ap (all-given (s .so-far x)) (sym (slices-none left (length left) e)) ∙ s .rest x) (s .follows) in
+    (served, sym (waits-none left e) ∙ s .same)
