@@ -3,8 +3,8 @@
    how deep its stack goes.
 
    A kind of call is a table in a certain state and a few calls from there. Before each
-   measurement the table is put back into that state, which is not timed; nothing else is
-   cleared. A round takes the libraries in turn, many times, and compares the times that one
+   measurement the table is put back into that state, which is not timed; of all else only the
+   upper halves of the vector registers are cleared. A round takes the libraries in turn, many times, and compares the times that one
    measurement in ten stays below, which other work on the machine hardly alters. A ratio
    shown is the median of the rounds, and the spread is that of their middle half, in percent
    of it. Rounds are added until it is 5 % or less, or until there are too many.
@@ -14,11 +14,11 @@
    string instruction that repeats itself counts once, as in a processor's own counters. What
    the same calls take of a library that returns at once is taken off.
 
-       bench               all kinds of call
-       bench CALL MOST     one of them, whose ratios to the peer are to be so much at most
-
    The stack is painted: the calls run on a stack of their own, filled with a pattern, and the
-   lowest byte that is not the pattern any more shows how deep they went. */
+   lowest byte that is not the pattern any more shows how deep they went.
+
+       bench               all kinds of call
+       bench CALL MOST     one of them, whose ratios to the peer are to be so much at most */
 #define _GNU_SOURCE /* the place of an instruction in a signal's context */
 #include "../../include/serifladder.h"
 #include "../independent/independent.h"
@@ -417,10 +417,10 @@ static void prepare(const struct kind *kind)
     }
 }
 
-static const char *verdict(bool good)
+static void end_row(bool good)
 {
+    puts(good ? "" : "  <-- beyond what is asked");
     fflush(stdout);
-    return good ? "" : "  <-- beyond what is asked";
 }
 
 static bool measure_time(const struct kind *kind, double nothing)
@@ -444,7 +444,7 @@ static bool measure_time(const struct kind *kind, double nothing)
     printf("%-40s %8.0f %8.0f %6.2f %5.1f %% %8.0f %6.2f %5.1f %% %6u", kind->name, at_part(times[PRODUCT], rounds, 0.5),
            at_part(times[INDEPENDENT], rounds, 0.5), independent.median, independent.spread, at_part(times[PEER], rounds, 0.5),
            peer.median, peer.spread, rounds);
-    puts(verdict(good));
+    end_row(good);
     return good;
 }
 
@@ -462,7 +462,7 @@ static bool measure_work(const struct kind *kind, long bare)
     printf("%-40s %8.0f %8.0f %6.2f %8.0f %6.2f %9ld %7ld %7ld", kind->name, instructions[PRODUCT], instructions[INDEPENDENT],
            instructions[PRODUCT] / instructions[INDEPENDENT], instructions[PEER], instructions[PRODUCT] / instructions[PEER],
            deep[PRODUCT], deep[INDEPENDENT], deep[PEER]);
-    puts(verdict(good));
+    end_row(good);
     return good;
 }
 
