@@ -21,7 +21,7 @@ help:
 	@echo "make install header, archive, pkg-config file and host, to PREFIX=$(PREFIX)"
 	@echo "make proved  proves every crate and lists the public functions"
 	@echo "make soak    a longer comparison: COUNT=2000 histories, a million calls, every planted fault; the host under load and with faults planted"
-	@echo "make bench   the library's time and stack beside those of the implementation in C"
+	@echo "make bench   the library's time, instructions and stack beside those of two implementations in C"
 	@echo "make wrong   the wrong programs that the gate leaves out for its time: the prover must refuse each"
 	@echo "make format  lays the sources out"
 	@echo "make clean   removes what was built"

@@ -1,18 +1,32 @@
-/* The product's library and the independent one in one process, on the same inputs: how long
-   each kind of call takes, and how deep its stack goes.
+/* The product's library, the independent one and a peer written for speed in one process, on
+   the same inputs: how long each kind of call takes, how many instructions it executes, and
+   how deep its stack goes.
 
    A kind of call is a table in a certain state and a few calls from there. Before each
-   measurement the table is put back into that state, which is not timed; nothing else is
-   cleared. A round takes both libraries in turn, many times, and compares the times that one
-   measurement in ten stays below, which other work on the machine hardly alters. The ratio
+   measurement the table is put back into that state, which is not timed; of all else only the
+   upper halves of the vector registers are cleared. A round takes the libraries in turn, many times, and compares the times that one
+   measurement in ten stays below, which other work on the machine hardly alters. A ratio
    shown is the median of the rounds, and the spread is that of their middle half, in percent
    of it. Rounds are added until it is 5 % or less, or until there are too many.
 
+   Instructions are counted by the processor's trap flag: while it is set, every instruction
+   is followed by a signal, which a handler counts, on a processor as under an emulator. A
+   string instruction that repeats itself counts once, as in a processor's own counters. What
+   the same calls take of a library that returns at once is taken off.
+
    The stack is painted: the calls run on a stack of their own, filled with a pattern, and the
-   lowest byte that is not the pattern any more shows how deep they went. */
+   lowest byte that is not the pattern any more shows how deep they went.
+
+       bench               all kinds of call
+       bench CALL MOST     one of them, whose ratios to the peer are to be so much at most */
+#define _GNU_SOURCE /* the place of an instruction in a signal's context */
 #include "../../include/serifladder.h"
 #include "../independent/independent.h"
+#include "peer.h"
 
+#include <math.h>
+#include <signal.h>
+#include <stdatomic.h>
 #include <stdbool.h>
 #include <stdio.h>
 #include <stdlib.h>
@@ -25,14 +39,16 @@ enum {
     OUTPUT = SERIFLADDER_OUTPUT_SIZE,
     ANSWER = SERIFLADDER_ANSWER_SIZE,
     SESSIONS = SERIFLADDER_SESSIONS,
+    FLOOD = 8192, /* bytes at once */
     REPEATS = 2001,
     ROUNDS_LEAST = 15,
     ROUNDS_MOST = 201,
     STACK = 1 << 18,
-    PATTERN = 0xA5
+    PATTERN = 0xA5,
+    TRAP_FLAG = 0x100
 };
 
-static const double STEADY = 5.0, RATIO_MOST = 1.5;
+static const double STEADY = 5.0, RATIO_MOST = 1.5; /* against the second implementation */
 static const long STACK_MOST = 4096;
 
 struct library {
@@ -46,14 +62,45 @@ struct library {
                        uint8_t *, size_t);
 };
 
-static const struct library LIBRARIES[2] = {
+/* A library that returns at once, to see what driving takes. */
+static uint64_t nothing_start(uint8_t *t, size_t tl, const uint8_t *g, size_t gl, uint8_t *a, size_t al)
+{
+    return (void)t, (void)tl, (void)g, (void)gl, (void)a, (void)al, 0;
+}
+
+static uint64_t nothing_session(uint8_t *t, size_t tl, uint8_t *o, size_t ol, uint64_t s, uint8_t *a, size_t al)
+{
+    return (void)t, (void)tl, (void)o, (void)ol, (void)s, (void)a, (void)al, 0;
+}
+
+static uint64_t nothing_bytes(uint8_t *t, size_t tl, uint8_t *o, size_t ol, uint64_t s, const uint8_t *g, size_t gl,
+                              uint8_t *a, size_t al)
+{
+    return (void)t, (void)tl, (void)o, (void)ol, (void)s, (void)g, (void)gl, (void)a, (void)al, 0;
+}
+
+static uint64_t nothing_tick(uint8_t *t, size_t tl, uint8_t *o, size_t ol, uint8_t *a, size_t al)
+{
+    return (void)t, (void)tl, (void)o, (void)ol, (void)a, (void)al, 0;
+}
+
+static uint64_t nothing_record(uint8_t *t, size_t tl, uint8_t *o, size_t ol, const uint8_t *g, size_t gl, uint8_t *a, size_t al)
+{
+    return (void)t, (void)tl, (void)o, (void)ol, (void)g, (void)gl, (void)a, (void)al, 0;
+}
+
+enum { PRODUCT, INDEPENDENT, PEER, COMPARED, NOTHING = COMPARED, LIBRARY_COUNT };
+
+static const struct library LIBRARIES[LIBRARY_COUNT] = {
     { serifladder_start, serifladder_open, serifladder_hang_up, serifladder_bytes,
       serifladder_tick, serifladder_record },
     { independent_start, independent_open, independent_hang_up, independent_bytes,
       independent_tick, independent_record },
+    { peer_start, peer_open, peer_hang_up, peer_bytes, peer_tick, peer_record },
+    { nothing_start, nothing_session, nothing_session, nothing_bytes, nothing_tick, nothing_record },
 };
 
-static uint8_t table[2][TABLE], state[2][TABLE], output[2][OUTPUT], answer[2][ANSWER];
+static uint8_t table[LIBRARY_COUNT][TABLE], state[LIBRARY_COUNT][TABLE], output[LIBRARY_COUNT][OUTPUT], answer[LIBRARY_COUNT][ANSWER];
 static uint64_t worst; /* the greatest number that a call answered */
 
 static void note(uint64_t number)
@@ -62,13 +109,29 @@ static void note(uint64_t number)
         worst = number;
 }
 
+/* ---- what is given to the calls, made before anything is measured */
+
+static uint8_t settings[37] = { 33, 0, 3, 0, 12, 0, 3, 1 }, tightening[110] = { 106, 0, 1, 0 }, flood[FLOOD], message_in_flood[FLOOD];
+
+static const char KEEP_ALIVE[] = "00209999001         ";
+
+static void make_inputs(void)
+{
+    memset(settings + 8, ' ', 25);
+    memcpy(settings + 8, "LINE4", 5);
+    memset(tightening + 4, ' ', 25);
+    memcpy(tightening + 4, "BODY 4711", 9);
+    memcpy(tightening + 71, "2026-11-15:10:20:30", 19);
+    memcpy(tightening + 90, "2026-11-14:08:00:00", 19);
+    memset(flood, 'A', FLOOD);
+    memset(message_in_flood, 'A', FLOOD);
+    memcpy(message_in_flood, KEEP_ALIVE, sizeof KEEP_ALIVE);
+}
+
 /* ---- calls */
 
 static void start(unsigned i)
 {
-    uint8_t settings[37] = { 33, 0, 3, 0, 12, 0, 3, 1 };
-    memset(settings + 8, ' ', 25);
-    memcpy(settings + 8, "LINE4", 5);
     note(LIBRARIES[i].start(table[i], TABLE, settings, sizeof settings, answer[i], ANSWER));
 }
 
@@ -82,11 +145,13 @@ static void hang_up(unsigned i, uint64_t session)
     note(LIBRARIES[i].hang_up(table[i], TABLE, output[i], OUTPUT, session, answer[i], ANSWER));
 }
 
-static void send(unsigned i, uint64_t session, const char *message)
+static void receive(unsigned i, uint64_t session, const uint8_t *bytes, size_t length)
 {
-    note(LIBRARIES[i].bytes(table[i], TABLE, output[i], OUTPUT, session,
-                            (const uint8_t *)message, strlen(message) + 1, answer[i], ANSWER));
+    note(LIBRARIES[i].bytes(table[i], TABLE, output[i], OUTPUT, session, bytes, length, answer[i], ANSWER));
 }
+
+/* A message, with the NUL that ends it. */
+#define SEND(i, session, message) receive(i, session, (const uint8_t *)(message), sizeof(message))
 
 static void tick(unsigned i)
 {
@@ -95,18 +160,10 @@ static void tick(unsigned i)
 
 static void tighten(unsigned i)
 {
-    uint8_t record[110] = { 106, 0, 1, 0 };
-    memset(record + 4, ' ', 25);
-    memcpy(record + 4, "BODY 4711", 9);
-    memcpy(record + 71, "2026-11-15:10:20:30", 19);
-    memcpy(record + 90, "2026-11-14:08:00:00", 19);
-    note(LIBRARIES[i].record(table[i], TABLE, output[i], OUTPUT, record, sizeof record,
-                             answer[i], ANSWER));
+    note(LIBRARIES[i].record(table[i], TABLE, output[i], OUTPUT, tightening, sizeof tightening, answer[i], ANSWER));
 }
 
 /* ---- the kinds of call: how the table gets into its state, and what is timed */
-
-static const char KEEP_ALIVE[] = "00209999001         ";
 
 /* Four sessions, started, each told the same further message. */
 static void all_started(unsigned i, const char *then)
@@ -114,9 +171,9 @@ static void all_started(unsigned i, const char *then)
     start(i);
     for (uint64_t s = 0; s < SESSIONS; s++) {
         open_session(i, s);
-        send(i, s, "00200001001         ");
+        SEND(i, s, "00200001001         ");
         if (then != NULL)
-            send(i, s, then);
+            receive(i, s, (const uint8_t *)then, strlen(then) + 1);
     }
 }
 
@@ -140,7 +197,7 @@ static void prepare_due(unsigned i)
     for (unsigned k = 0; k < 19; k++) {
         tick(i);
         for (uint64_t s = 0; s < SESSIONS; s++)
-            send(i, s, KEEP_ALIVE);
+            SEND(i, s, KEEP_ALIVE);
     }
 }
 
@@ -152,9 +209,11 @@ static void run_open_and_hang_up(unsigned i)
     hang_up(i, 2);
 }
 
-static void run_keep_alive(unsigned i) { send(i, 1, KEEP_ALIVE); }
-static void run_acknowledge(unsigned i) { send(i, 1, "00200062001         "); }
-static void run_download(unsigned i) { send(i, 1, "00290050001         BODY 4712"); }
+static void run_keep_alive(unsigned i) { SEND(i, 1, KEEP_ALIVE); }
+static void run_message_in_flood(unsigned i) { receive(i, 1, message_in_flood, FLOOD); }
+static void run_flood(unsigned i) { receive(i, 1, flood, FLOOD); }
+static void run_acknowledge(unsigned i) { SEND(i, 1, "00200062001         "); }
+static void run_download(unsigned i) { SEND(i, 1, "00290050001         BODY 4712"); }
 static void run_tick(unsigned i) { tick(i); }
 static void run_tighten(unsigned i) { tighten(i); }
 
@@ -170,6 +229,8 @@ static const struct kind KINDS[] = {
     { "start", prepare_closed, run_start, 8, 0 },
     { "open and hang-up", prepare_closed, run_open_and_hang_up, 8, 0 },
     { "bytes: keep-alive", prepare_started, run_keep_alive, 8, 25 },
+    { "bytes: keep-alive, 8 KB behind it", prepare_started, run_message_in_flood, 8, 25 },
+    { "bytes: 8 KB without NUL", prepare_started, run_flood, 8, 0 },
     { "bytes: acknowledge that sends the next", prepare_queue, run_acknowledge, 7, 236 },
     { "bytes: 0050 to four subscribers", prepare_identifiers, run_download, 8, 29 + 4 * 52 },
     { "tick, nothing open", prepare_started, run_tick, 12, 0 },
@@ -193,10 +254,18 @@ static double at_part(double *values, unsigned count, double part)
     return values[(unsigned)(part * (count - 1) + 0.5)];
 }
 
+/* What other code left in the upper halves of the vector registers would slow down code that does not know them. */
+static void clear_upper_halves(void)
+{
+    if (__builtin_cpu_supports("avx"))
+        __asm__ volatile("vzeroupper");
+}
+
 static double ticks_of(const struct kind *kind, unsigned i)
 {
     unsigned cpu;
     memcpy(table[i], state[i], TABLE);
+    clear_upper_halves();
     _mm_lfence();
     uint64_t began = __rdtsc();
     for (unsigned k = 0; k < kind->times; k++)
@@ -222,14 +291,70 @@ static double overhead(void)
 }
 
 /* Many measurements for each library, taken in turn; what one in ten of them stays below. */
-static void one_round(const struct kind *kind, double nothing, double quick[2])
+static void one_round(const struct kind *kind, double nothing, double quick[COMPARED])
 {
-    static double taken[2][REPEATS];
+    static double taken[COMPARED][REPEATS];
     for (unsigned k = 0; k < REPEATS; k++)
-        for (unsigned i = 0; i < 2; i++)
+        for (unsigned i = 0; i < COMPARED; i++)
             taken[i][k] = ticks_of(kind, i);
-    for (unsigned i = 0; i < 2; i++)
+    for (unsigned i = 0; i < COMPARED; i++)
         quick[i] = (at_part(taken[i], REPEATS, 0.1) - nothing) / kind->times;
+}
+
+/* How the product's time stands to another library's, in the rounds so far. */
+struct ratio {
+    double each[ROUNDS_MOST], median, spread;
+};
+
+static void add_round(struct ratio *ratio, unsigned rounds, double ours, double theirs)
+{
+    static double sorted[ROUNDS_MOST];
+    ratio->each[rounds] = ours / theirs;
+    memcpy(sorted, ratio->each, (rounds + 1) * sizeof *sorted);
+    ratio->median = at_part(sorted, rounds + 1, 0.5);
+    ratio->spread = 100 * (at_part(sorted, rounds + 1, 0.75) - at_part(sorted, rounds + 1, 0.25)) / ratio->median;
+}
+
+/* ---- instructions */
+
+static uint64_t counted;
+static greg_t place_before;
+
+/* An instruction was executed. One that repeats itself leaves the place as it was until it has ended. */
+static void count_one(int signal, siginfo_t *info, void *context)
+{
+    greg_t place = ((const ucontext_t *)context)->uc_mcontext.gregs[REG_RIP];
+    (void)signal, (void)info;
+    counted += place != place_before;
+    place_before = place;
+}
+
+static void take_traps(void)
+{
+    struct sigaction action = { .sa_sigaction = count_one, .sa_flags = SA_SIGINFO };
+    if (sigaction(SIGTRAP, &action, NULL) != 0) {
+        perror("sigaction");
+        exit(2);
+    }
+}
+
+static uint64_t counted_of(const struct kind *kind, unsigned i)
+{
+    memcpy(table[i], state[i], TABLE);
+    counted = 0;
+    place_before = 0;
+    atomic_signal_fence(memory_order_seq_cst);
+    __writeeflags(__readeflags() | TRAP_FLAG);
+    for (unsigned k = 0; k < kind->times; k++)
+        kind->run(i);
+    __writeeflags(__readeflags() & ~(unsigned long long)TRAP_FLAG);
+    atomic_signal_fence(memory_order_seq_cst);
+    return counted;
+}
+
+static double instructions_of(const struct kind *kind, unsigned i)
+{
+    return (double)(counted_of(kind, i) - counted_of(kind, NOTHING)) / kind->times;
 }
 
 /* ---- stack */
@@ -272,11 +397,14 @@ static uint64_t written(unsigned i)
     return value;
 }
 
-/* Puts both tables into the kind's state; ends the program if a call does not do what it should. */
+/* What the product's ratios to the peer are to stay below, where that is asked. */
+static double peer_most = HUGE_VAL;
+
+/* Puts the tables into the kind's state; ends the program if a call does not do what it should. */
 static void prepare(const struct kind *kind)
 {
     worst = 0;
-    for (unsigned i = 0; i < 2; i++) {
+    for (unsigned i = 0; i < COMPARED; i++) {
         kind->prepare(i);
         memcpy(state[i], table[i], TABLE);
         for (unsigned k = 0; k < kind->times; k++)
@@ -289,45 +417,103 @@ static void prepare(const struct kind *kind)
     }
 }
 
-static bool measure(const struct kind *kind, double nothing, long bare)
+static void end_row(bool good)
 {
-    static double ratios[ROUNDS_MOST], sorted[ROUNDS_MOST], ours[ROUNDS_MOST], theirs[ROUNDS_MOST];
+    puts(good ? "" : "  <-- beyond what is asked");
+    fflush(stdout);
+}
+
+static bool measure_time(const struct kind *kind, double nothing)
+{
+    static double times[COMPARED][ROUNDS_MOST];
+    static struct ratio independent, peer;
     unsigned rounds = 0;
-    double ratio = 0, spread = 100, quick[2];
+    double quick[COMPARED];
     prepare(kind);
     one_round(kind, nothing, quick); /* warms up */
-    while (rounds < ROUNDS_MOST && (rounds < ROUNDS_LEAST || spread > STEADY)) {
+    independent.spread = peer.spread = 100;
+    while (rounds < ROUNDS_MOST && (rounds < ROUNDS_LEAST || independent.spread > STEADY || peer.spread > STEADY)) {
         one_round(kind, nothing, quick);
-        ours[rounds] = quick[0];
-        theirs[rounds] = quick[1];
-        ratios[rounds++] = quick[0] / quick[1];
-        memcpy(sorted, ratios, rounds * sizeof *ratios);
-        ratio = at_part(sorted, rounds, 0.5);
-        spread = 100 * (at_part(sorted, rounds, 0.75) - at_part(sorted, rounds, 0.25)) / ratio;
+        for (unsigned i = 0; i < COMPARED; i++)
+            times[i][rounds] = quick[i];
+        add_round(&independent, rounds, quick[PRODUCT], quick[INDEPENDENT]);
+        add_round(&peer, rounds, quick[PRODUCT], quick[PEER]);
+        rounds += 1;
     }
-    memcpy(table[0], state[0], TABLE);
-    memcpy(table[1], state[1], TABLE);
-    long deep = depth(kind->run, 0) - bare, other = depth(kind->run, 1) - bare;
-    bool good = ratio <= RATIO_MOST && spread <= STEADY && deep <= STACK_MOST;
-    printf("%-40s %9.0f %9.0f %7.2f %7.1f %% %6u %7ld %7ld%s\n", kind->name,
-           at_part(ours, rounds, 0.5), at_part(theirs, rounds, 0.5), ratio, spread, rounds, deep,
-           other, good ? "" : "  <-- beyond what is asked");
-    fflush(stdout);
+    bool good = independent.median <= RATIO_MOST && independent.spread <= STEADY && peer.median <= peer_most;
+    printf("%-40s %8.0f %8.0f %6.2f %5.1f %% %8.0f %6.2f %5.1f %% %6u", kind->name, at_part(times[PRODUCT], rounds, 0.5),
+           at_part(times[INDEPENDENT], rounds, 0.5), independent.median, independent.spread, at_part(times[PEER], rounds, 0.5),
+           peer.median, peer.spread, rounds);
+    end_row(good);
     return good;
 }
 
-int main(void)
+static bool measure_work(const struct kind *kind, long bare)
+{
+    double instructions[COMPARED];
+    long deep[COMPARED];
+    prepare(kind);
+    for (unsigned i = 0; i < COMPARED; i++) {
+        instructions[i] = instructions_of(kind, i);
+        memcpy(table[i], state[i], TABLE);
+        deep[i] = depth(kind->run, i) - bare;
+    }
+    bool good = deep[PRODUCT] <= STACK_MOST && instructions[PRODUCT] <= peer_most * instructions[PEER];
+    printf("%-40s %8.0f %8.0f %6.2f %8.0f %6.2f %9ld %7ld %7ld", kind->name, instructions[PRODUCT], instructions[INDEPENDENT],
+           instructions[PRODUCT] / instructions[INDEPENDENT], instructions[PEER], instructions[PRODUCT] / instructions[PEER],
+           deep[PRODUCT], deep[INDEPENDENT], deep[PEER]);
+    end_row(good);
+    return good;
+}
+
+static bool measure_times(const struct kind *kinds, unsigned count)
 {
     double nothing = overhead();
+    bool good = true;
+    printf("cycles of the time stamp counter a call; the product's ratio to the second implementation (at most %.1f) and to the peer,\n"
+           "each with the spread of its middle half (the first at most %.0f %%); rounds of %u\n", RATIO_MOST, STEADY, REPEATS);
+    printf("%-40s %8s %8s %6s %7s %8s %6s %7s %6s\n", "call", "product", "indep.", "ratio", "spread", "peer", "ratio", "spread",
+           "rounds");
+    for (unsigned k = 0; k < count; k++)
+        good &= measure_time(&kinds[k], nothing);
+    return good;
+}
+
+static bool measure_works(const struct kind *kinds, unsigned count)
+{
     long bare = depth(NULL, 0);
     bool good = true;
-    printf("cycles of the time stamp counter a call, product and independent; their ratio (at most %.1f);\n"
-           "the spread of its middle half (at most %.0f %%); rounds of %u; stack in bytes (at most %ld)\n",
-           RATIO_MOST, STEADY, REPEATS, STACK_MOST);
-    printf("%-40s %9s %9s %7s %9s %6s %7s %7s\n", "call", "product", "indep.", "ratio", "spread",
-           "rounds", "stack", "indep.");
+    printf("instructions a call, and the product's ratios; stack in bytes (the product's at most %ld)\n", STACK_MOST);
+    printf("%-40s %8s %8s %6s %8s %6s %9s %7s %7s\n", "call", "product", "indep.", "ratio", "peer", "ratio", "stack", "indep.",
+           "peer");
+    for (unsigned k = 0; k < count; k++)
+        good &= measure_work(&kinds[k], bare);
+    return good;
+}
+
+static const struct kind *kind_named(const char *name)
+{
     for (unsigned k = 0; k < KIND_COUNT; k++)
-        good &= measure(&KINDS[k], nothing, bare);
+        if (strcmp(KINDS[k].name, name) == 0)
+            return &KINDS[k];
+    fprintf(stderr, "bench: no call is named %s\n", name);
+    exit(2);
+}
+
+int main(int argument_count, char **arguments)
+{
+    const struct kind *kinds = KINDS;
+    unsigned count = KIND_COUNT;
+    if (argument_count == 3) {
+        kinds = kind_named(arguments[1]);
+        count = 1;
+        peer_most = atof(arguments[2]);
+        printf("the product's ratios to the peer are to be %.1f at most\n", peer_most);
+    }
+    make_inputs();
+    take_traps();
+    bool good = measure_times(kinds, count);
+    good &= measure_works(kinds, count);
     printf("bench: %s\n", good ? "all within what is asked" : "NOT all within what is asked");
     return 0;
 }

@@ -111,8 +111,9 @@ pub fn bytes(table: &mut [u8], output: &mut [u8], session: u64, slice: &[u8]) ->
     if n != 0 {
         return refused(n);
     }
-    let at = table::receive(table, output, 0, session, slice);
-    done(run::consumed(slice) as u64, at as u64, 0)
+    let end = run::ends_at(slice);
+    let at = table::receive(table, output, 0, session, slice, end);
+    done(run::consumed(slice, end) as u64, at as u64, 0)
 }
 
 // What a call left of the bytes that it was given, for the next call.

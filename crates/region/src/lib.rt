@@ -13,7 +13,7 @@ ghost use Rattle.model.specs.Events.{identifiers, tightenings};
 ghost use Rattle.text.specs.Put.{Put};
 ghost use Rattle.session.specs.Decisions.{subscription-of as subscription-at, after as after-so};
 ghost use Rattle.session.specs.Effects.{announced, replies, carried-out, AcknowledgedIn};
-ghost use Rattle.run.specs.Area.{run-of};
+ghost use Rattle.run.specs.Area.{run-of, Ends};
 ghost use Rattle.head.specs.Head.{head-of, Storable};
 ghost use Rattle.notices.specs.Places.{place-size, notice-in, notices-in, subscription-of, Kept, Deals, dealt-bytes};
 ghost use Rattle.region.specs.Region.{head-area, run-area, identifiers-area, tightenings-area, session-of, region-formed, Good, Stands, places-of, Moved, subscriptions-of, out-bytes, Steps, tick-goes-on, ending, Knows, Ruled, Hears};
@@ -529,7 +529,7 @@ fn end_run(
     end_kept(region, out, at, s, settings, bytes, place)
 }
 
-// Received bytes, up to the first NUL, to session s. An identifier that they make known is put in `place`.
+// Received bytes, which are read up to `end`, to session s. An identifier that they make known is put in `place`.
 pub fn receive(
     region: &mut [u8],
     out: &mut [u8],
@@ -537,14 +537,14 @@ pub fn receive(
     s: u64,
     settings: &[u8],
     bytes: &[u8],
+    end: usize,
     place: &mut [u8],
 ) -> Received
-    requires { ⌜ (at + 298 ≤ length (now out)) × (s < 256) × (length (now settings) ≡ 33) × Good (now region) × (length (now place) ≡ 25) ⌝ }
+    requires { ⌜ (at + 298 ≤ length (now out)) × (s < 256) × (length (now settings) ≡ 33) × Good (now region) × (length (now place) ≡ 25) × Ends (now bytes) end ⌝ }
     ensures { λ r. ⌜ Hears s (settings-of (now (settings .entry))) (cut (now (bytes .entry))) (now (region .entry)) (now (out .entry)) at (now (place .entry)) (r .at) (r .identified) (now (region .exit)) (now (out .exit)) (now (place .exit)) ⌝ }
 {
-    let i = run::ends_at(bytes);
-    if i < bytes.len() {
-        return end_run(region, out, at, s, settings, &bytes[0..i], place);
+    if end < bytes.len() {
+        return end_run(region, out, at, s, settings, &bytes[0..end], place);
     }
     lengthen(region, bytes);
     Received {

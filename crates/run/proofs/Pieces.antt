@@ -11,13 +11,7 @@ use lib.Seq.{take-suc, length-take-le, take-all}
 use borrow.Author.Tests.{eq-eqb, ne-eqb, lt-ltb, le-ltb}
 use Rattle.model.specs.Runs.{Piece, cut, consumed-by}
 use Rattle.text.proofs.Lists.{drop-next}
-use Rattle.run.specs.Area.{Ends}
-
--- what was passed has no NUL, and the rest is to be looked at
-pub record Passed (bs : List ℕ) (i : ℕ) : Type 0 where
-  pub within : i ≤ length bs
-  pub bytes : (cut bs) .bytes ≡ take i bs ++ (cut (drop i bs)) .bytes
-  pub ends : (cut bs) .ends ≡ (cut (drop i bs)) .ends
+use Rattle.run.specs.Area.{Passed, Ends}
 
 pub passed-none : (bs : List ℕ) → Passed bs 0
 passed-none bs = record { within = omega arith; bytes = refl; ends = refl }

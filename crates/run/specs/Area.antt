@@ -3,7 +3,7 @@
 use mathlib.Core.Path.{_≡_}
 use Prim.Native.Nat.{ℕ, _≤_, min}
 use mathlib.Core.Bool.{Bool, true}
-use mathlib.Core.List.{List}
+use mathlib.Core.List.{List, _++_}
 use lib.Dec.{leb, ltb}
 use lib.ListN.{length, take, drop}
 use Rattle.model.specs.Limits.{run-kept, run-counted}
@@ -20,6 +20,12 @@ run-formed a = leb (little (take 2 a)) run-counted
 pub record Area (a : List ℕ) : Type 0 where
   pub size : length a ≡ 48
   pub formed : run-formed a ≡ true
+
+-- how far a piece of received bytes was looked through: what was passed has no NUL, and the rest is to be looked at
+pub record Passed (bs : List ℕ) (i : ℕ) : Type 0 where
+  pub within : i ≤ length bs
+  pub bytes : (cut bs) .bytes ≡ take i bs ++ (cut (drop i bs)) .bytes
+  pub ends : (cut bs) .ends ≡ (cut (drop i bs)) .ends
 
 -- where a piece of received bytes ends: before the first NUL, or with the last byte
 pub record Ends (bs : List ℕ) (n : ℕ) : Type 0 where

@@ -1,10 +1,11 @@
 // The run of bytes that a session is receiving, as the table holds it.
 ghost use mathlib.Core.Path.{_≡_};
-ghost use Prim.Native.Nat.{_≤_, min};
+ghost use mathlib.Core.Bool.{false};
+ghost use Prim.Native.Nat.{_≤_, _<_, min};
 ghost use lib.ListN.{length};
 ghost use Rattle.model.specs.Limits.{run-counted};
 ghost use Rattle.model.specs.Runs.{empty-run, longer as longer-run, cut, consumed-by};
-ghost use Rattle.run.specs.Area.{run-of, run-formed, Area, Ends};
+ghost use Rattle.run.specs.Area.{run-of, run-formed, Area, Passed, Ends};
 
 const KEPT: usize = 45;
 
@@ -18,11 +19,47 @@ fn least(a: usize, b: usize) -> usize
 
 // ---- received bytes
 
+// How many bytes are looked through at once: first so many, and those that are left in smaller blocks.
+const WIDE: usize = 512;
+
+const NARROW: usize = 16;
+
+// Whether a NUL may stand at from..to. Every byte is looked at, whatever stands before it, so that the compiler takes many at a time.
+fn may_end(bytes: &[u8], from: usize, to: usize) -> bool
+    requires { ⌜ Passed (now bytes) from × (from ≤ to) × (to ≤ length (now bytes)) ⌝ }
+    ensures { λ r. ⌜ (r ≡ false → Passed (now (bytes .entry)) to) ⌝ }
+{
+    let mut lowest = 255;
+    let mut i = from;
+    while i < to {
+        let b = bytes[i];
+        lowest = if b < lowest { b } else { lowest };
+        i += 1;
+    }
+    lowest == 0
+}
+
+// Past the blocks of `size` bytes without NUL that stand from `from` on.
+fn past_blocks(bytes: &[u8], from: usize, size: usize) -> usize
+    requires { ⌜ Passed (now bytes) from × (0 < size) ⌝ }
+    ensures { λ r. ⌜ Passed (now (bytes .entry)) r ⌝ }
+{
+    let mut at = from;
+    while size <= bytes.len() - at {
+        if may_end(bytes, at, at + size) {
+            return at;
+        }
+        at += size;
+    }
+    at
+}
+
 // Where what one call reads of them ends.
 pub fn ends_at(bytes: &[u8]) -> usize
     ensures { λ r. ⌜ Ends (now (bytes .entry)) r ⌝ }
 {
-    let mut i = 0;
+    let far = past_blocks(bytes, 0, WIDE);
+    let mut i = past_blocks(bytes, far, NARROW);
     while i < bytes.len() {
         if bytes[i] == 0 {
             return i;
@@ -32,15 +69,15 @@ pub fn ends_at(bytes: &[u8]) -> usize
     i
 }
 
-// What one call consumes of them.
-pub fn consumed(bytes: &[u8]) -> usize
+// What one call consumes of them, of which it reads up to `end`.
+pub fn consumed(bytes: &[u8], end: usize) -> usize
+    requires { ⌜ Ends (now bytes) end ⌝ }
     ensures { λ r. ⌜ r ≡ consumed-by (cut (now (bytes .entry))) ⌝ }
 {
-    let i = ends_at(bytes);
-    if i < bytes.len() {
-        return i + 1;
+    if end < bytes.len() {
+        return end + 1;
     }
-    i
+    end
 }
 
 // A run that stands whole in a slice: the bytes of it that are kept, as they stand, and how many it has.

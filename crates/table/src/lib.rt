@@ -11,6 +11,7 @@ ghost use Rattle.model.specs.Steps.{announces};
 ghost use Rattle.model.specs.World.{session-at, begun, uncounted, opens, hangs-up, hears, ticks, happens as happens-event, moved, next, emits};
 ghost use Rattle.model.specs.Calls.{bytes as call-bytes, moments, output, takers};
 ghost use Rattle.text.specs.Put.{Put};
+ghost use Rattle.run.specs.Area.{Ends};
 ghost use Rattle.notices.specs.Places.{place-size, event-in};
 ghost use Rattle.region.specs.Region.{Knows};
 ghost use Rattle.shared.specs.Shared.{settings-part};
@@ -200,30 +201,47 @@ pub fn happens(table: &mut [u8], out: &mut [u8], at: usize, kind: usize, place: 
 
 // ---- received bytes
 
-// Received bytes to session s alone. An identifier that they make known is put in `place`.
+// Received bytes, which are read up to `end`, to session s alone. An identifier that they make known is put in `place`.
 fn hear(
     table: &mut [u8],
     out: &mut [u8],
     at: usize,
     s: u64,
     bytes: &[u8],
+    end: usize,
     place: &mut [u8],
 ) -> Received
-    requires { ⌜ Table (now table) × (s < 4) × (at + 298 ≤ length (now out)) × (length (now place) ≡ 25) ⌝ }
+    requires { ⌜ Table (now table) × (s < 4) × (at + 298 ≤ length (now out)) × (length (now place) ≡ 25) × Ends (now bytes) end ⌝ }
     ensures { λ r. ⌜ (r .at ≤ at + 298) × Went (now (table .entry)) (now (out .entry)) at (hears s (cut (now (bytes .entry))) ∷ []) (r .at) (now (table .exit)) (now (out .exit)) × Knows (announces (decode (now (table .entry)) .settings) (cut (now (bytes .entry))) (session-at (decode (now (table .entry))) s)) (now (place .entry)) (r .identified) (now (place .exit)) ⌝ }
 {
     let settings = settings_apart(table);
     let a = 1024 + s as usize * 1024;
-    region::receive(&mut table[a..a + 1024], out, at, s, &settings, bytes, place)
+    region::receive(
+        &mut table[a..a + 1024],
+        out,
+        at,
+        s,
+        &settings,
+        bytes,
+        end,
+        place,
+    )
 }
 
-// Received bytes to session s, up to the first NUL. An identifier that they make known is an event to every session.
-pub fn receive(table: &mut [u8], out: &mut [u8], at: usize, s: u64, bytes: &[u8]) -> usize
-    requires { ⌜ Table (now table) × (s < 4) × (at + 1_242 ≤ length (now out)) ⌝ }
+// Received bytes, which are read up to `end`, to session s. An identifier that they make known is an event to every session.
+pub fn receive(
+    table: &mut [u8],
+    out: &mut [u8],
+    at: usize,
+    s: u64,
+    bytes: &[u8],
+    end: usize,
+) -> usize
+    requires { ⌜ Table (now table) × (s < 4) × (at + 1_242 ≤ length (now out)) × Ends (now bytes) end ⌝ }
     ensures { λ r. ⌜ (r ≤ at + 1_242) × Went (now (table .entry)) (now (out .entry)) at (moments (decode (now (table .entry))) (call-bytes s (now (bytes .entry)))) r (now (table .exit)) (now (out .exit)) ⌝ }
 {
     let mut place = [0; 25];
-    let heard = hear(table, out, at, s, bytes, &mut place);
+    let heard = hear(table, out, at, s, bytes, end, &mut place);
     if heard.identified {
         let told = happens(table, out, heard.at, message::IDENTIFIERS, &place);
         return told.at;

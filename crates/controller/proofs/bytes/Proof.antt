@@ -17,17 +17,17 @@ returns c =
 
 receive-requires : tie.Need-receive-requires
 receive-requires c κs =
-    let i = c .before .before in
+    let i = c .before .before .before in
     let n = i .before in
     let a = n .before .before .before .before .before .args in
     let p = hang-up-passes (a .table .now) (length (a .output .now)) (a .session) (sym (n .hang-up .ensures) ∙ i .if1 .left) in
     let h = p .0 .room in
-    (p .0 .table, p .1, omega arith)
+    (p .0 .table, p .1, omega arith, c .before .before .ends-at .ensures)
 
 returns-2 : tie.Need-returns-2
 returns-2 c =
     let d = c .before .before .before .before .before .before in
-    let i = d .before .before .before in
+    let i = d .before .before .before .before in
     let n = i .before in
     let a = n .before .before .before .before .before .args in
     finish (bytes (a .session) (a .slice .now)) (a .table .now) (a .output .now) (d .receive .result) (c .before .consumed .result) 0
@@ -42,8 +42,9 @@ bytes-spec =
     (λ c κs. search needs)
     (λ c. search needs)
     returns
-    receive-requires
     (λ c κs. search needs)
+    receive-requires
+    (λ c κs. c .before .before .before .before .before .before .before .ends-at .ensures)
     (λ c κs. search needs)
     (λ c. search needs)
     (λ c. search needs)

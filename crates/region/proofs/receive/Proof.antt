@@ -12,26 +12,23 @@ returns : tie.Need-returns
 returns c =
     let y = c .before .before .before .before .before .before in
     let t = y .before .before .before .before .before in
-    let i = t .before in
-    let s = i .before .before .before .before .before .before in
+    let s = t .before .before .before .before .before .before in
     let a = s .args in
-    hears-as (piece-is (a .bytes .now) (i .ends-at .result) (i .ends-at .ensures) (t .if1 .taken)) (y .end-run .ensures)
+    hears-as (piece-is (a .bytes .now) (a .end) (s .pre .5) (t .if1 .taken)) (y .end-run .ensures)
 
 returns-2 : tie.Need-returns-2
 returns-2 c =
     let n = c .before .before in
     let t = n .before .before in
-    let i = t .before in
-    let s = i .before .before .before .before .before .before in
+    let s = t .before .before .before .before .before .before in
     let a = s .args in
-    let e = piece-goes-on (a .bytes .now) (i .ends-at .result) (i .ends-at .ensures) (t .if1 .left) in
+    let e = piece-goes-on (a .bytes .now) (a .end) (s .pre .5) (t .if1 .left) in
     goes-on (a .s) (settings-of (a .settings .now)) (a .region .now) (n .lengthen .last .0) (a .out .now) (a .at) (a .place .now) (a .bytes .now) (cut (a .bytes .now)) (e .0) (e .1) (n .lengthen .ensures)
 
 pub receive-spec : {M : Type 1} → statement M
 receive-spec =
     tie.close
     (tie.spec
-    (λ c κs. search needs)
     (λ c. search needs)
     (λ c. search needs)
     (λ c. search needs)

@@ -8,7 +8,6 @@ pub consumed-spec : {M : Type 1} → statement M
 consumed-spec =
     tie.close
     (tie.spec
-    (λ c κs. search needs)
     (λ c. search needs)
-    (λ c. with-NUL _ _ (c .before .ends-at .ensures) (c .if1 .taken))
-    (λ c. without-NUL _ _ (c .before .ends-at .ensures) (c .if1 .left)))
+    (λ c. with-NUL _ _ (c .before .pre) (c .if1 .taken))
+    (λ c. without-NUL _ _ (c .before .pre) (c .if1 .left)))

@@ -12,7 +12,7 @@ receive-requires c κs =
     let s = c .before .before .before .before .before .before .before .before .before .before in
     let p = s .pre in
     let few = p .1 in
-    (p .2, omega arith, search needs, part-good (s .args .table .now) (s .args .s) (p .0) few, p .3)
+    (p .2, omega arith, search needs, part-good (s .args .table .now) (s .args .s) (p .0) few, p .3, p .4)
 
 returns : tie.Need-returns
 returns c =
