@@ -329,5 +329,5 @@ int main(void)
     for (unsigned k = 0; k < KIND_COUNT; k++)
         good &= measure(&KINDS[k], nothing, bare);
     printf("bench: %s\n", good ? "all within what is asked" : "NOT all within what is asked");
-    return 0;
+    return good ? 0 : 1;
 }

@@ -1,17 +1,22 @@
 /* Compares two libraries call by call over histories of house records.
 
-       calls LIBRARY_A PREFIX_A LIBRARY_B PREFIX_B < history
+       calls LIBRARY_A PREFIX_A LIBRARY_B PREFIX_B < histories
        linked < histories
 
-   Both libraries get the same calls. After each the four numbers, the returned number
-   and the output bytes must be equal; output past the written bytes, the table past
-   16,384 and the answer past 32 must be untouched, and a refused call must alter
-   nothing. Between the history's calls refused ones are tried: every slice too short,
-   sessions far too high, records that no call takes. Exit status 0: all equal.
+   Both libraries get the same calls, now the one first and now the other. After each the
+   four numbers, the returned number and the output bytes must be equal; output past the
+   written bytes, the table past 16,384 and the answer past 32 must be untouched, and a
+   refused call must alter nothing. Between the history's calls refused ones are tried:
+   every slice too short, a table without its mark, sessions far too high, slices that are
+   not exactly one record. So are pieces longer than a house record can hold; the
+   tables are put back behind them.
+
+   Standard input holds any number of histories, each behind its length and its seed, which
+   is the seed of the dice too; both are 4 bytes, little-endian. It says how many calls it
+   made and how often it reached what is rare. Exit status 0: all equal; 1: a difference.
 
    The second form is built with -DLINKED: the independent implementation and the product
-   are linked in, and standard input holds any number of histories, a 4-byte length
-   (little-endian) before each. It says how many calls it made. */
+   are linked in. */
 #ifdef LINKED
 #include "../../include/serifladder.h"
 #include "../independent/independent.h"
@@ -31,6 +36,7 @@ enum {
     SPARE = 64, /* room behind each lent slice, filled with MARK */
     HEADER = 4,
     PAYLOAD_GREATEST = 8192,
+    PIECE_GREATEST = 140000,
     MARK = 0xA5
 };
 
@@ -56,7 +62,7 @@ struct side {
     uint64_t returned;
 };
 
-enum what { START, OPEN, HANG_UP, BYTES, TICK, RECORD };
+enum what { START, OPEN, HANG_UP, BYTES, TICK, RECORD, CALLS };
 
 /* One call: what to call, and how long the lent slices are. */
 struct call {
@@ -67,8 +73,16 @@ struct call {
     size_t table_length, output_length, answer_length;
 };
 
+/* The fullest output of a call, and how often it was as full. */
+struct fullest {
+    uint64_t written;
+    unsigned long times;
+};
+
 static struct side sides[2];
-static unsigned long history_count, record_count, call_count, refused_count;
+static unsigned long history_count, record_count, call_count, refused_count, first_count[2];
+static unsigned long unmarked_and_short, lies_low, lies_high, slices_longer, long_pieces;
+static struct fullest fullest[CALLS];
 static uint32_t dice;
 
 static unsigned roll(unsigned below)
@@ -166,12 +180,22 @@ static void remember(struct side *side)
     memcpy(side->answer_before, side->answer, sizeof side->answer);
 }
 
-/* The same call on both sides, and all comparisons. */
+static void note_written(enum what what, uint64_t written)
+{
+    if (written > fullest[what].written)
+        fullest[what] = (struct fullest){ written, 0 };
+    fullest[what].times += written == fullest[what].written;
+}
+
+/* The same call on both sides, and all comparisons. Both run on the same stack: the dice say which goes first. */
 static uint64_t both(const struct call *call)
 {
-    for (unsigned i = 0; i < 2; i++) {
-        remember(&sides[i]);
-        sides[i].returned = make_call(&sides[i], call);
+    unsigned first = roll(2);
+    first_count[first] += 1;
+    for (unsigned k = 0; k < 2; k++) {
+        struct side *side = &sides[first ^ k];
+        remember(side);
+        side->returned = make_call(side, call);
     }
     for (unsigned i = 0; i < 2; i++)
         check_side(&sides[i], call);
@@ -184,28 +208,71 @@ static uint64_t both(const struct call *call)
         different(call, "output differs");
     call_count += 1;
     refused_count += sides[0].returned != 0;
+    if (sides[0].returned == 0)
+        note_written(call->what, answered(&sides[0], 2));
     return sides[0].returned;
 }
 
 /* What may be spoilt in a call, one or several. */
-enum { SPOIL_TABLE = 1, SPOIL_OUTPUT = 2, SPOIL_SESSION = 4, SPOIL_ANSWER = 8, SPOIL_GIVEN = 16 };
+enum {
+    SPOIL_TABLE = 1,
+    SPOIL_MARK = 2,
+    SPOIL_OUTPUT = 4,
+    SPOIL_SESSION = 8,
+    SPOIL_ANSWER = 16,
+    SPOIL_GIVEN = 32,
+    SPOILS = 6
+};
 
-static bool surely_refused(unsigned spoil, enum what what, bool cut)
+static bool takes_record(enum what what)
+{
+    return what == START || what == RECORD;
+}
+
+static bool surely_refused(unsigned spoil, enum what what)
 {
     if (spoil & (SPOIL_TABLE | SPOIL_ANSWER))
         return true;
-    if ((spoil & SPOIL_OUTPUT) && what != START)
+    if ((spoil & (SPOIL_MARK | SPOIL_OUTPUT)) && what != START)
         return true;
     if ((spoil & SPOIL_SESSION) && (what == OPEN || what == HANG_UP || what == BYTES))
         return true;
-    return cut && (what == START || what == RECORD); /* its length field now lies */
+    return (spoil & SPOIL_GIVEN) && takes_record(what);
 }
 
-/* Calls that must be refused by their lengths or their session, tried on the way. */
+/* A copy of the record that is one no more: the slice too short or too long, or a byte of its length altered. */
+static void spoil_record(struct call *call)
+{
+    static uint8_t copy[HEADER + PAYLOAD_GREATEST + SPARE];
+    unsigned way = roll(4);
+    memset(copy, (int)roll(256), sizeof copy);
+    memcpy(copy, call->given, call->given_length);
+    call->given = copy;
+    if (way == 0) {
+        call->given_length = roll((unsigned)call->given_length);
+    } else if (way == 1) {
+        call->given_length += 1 + roll(SPARE);
+        slices_longer += 1;
+    } else {
+        copy[way - 2] ^= (uint8_t)(1 + roll(255));
+        *(way == 2 ? &lies_low : &lies_high) += 1;
+    }
+}
+
+/* No table is well formed without its mark, which both begin with. */
+static void spoil_marks(uint8_t by)
+{
+    sides[0].table[0] ^= by;
+    sides[1].table[0] ^= by;
+}
+
+/* Calls that must be refused by what is lent or by their session, tried on the way. */
 static void try_refused(struct call call)
 {
     static const uint64_t HIGH[] = { 4, 5, 255, 256, UINT64_C(1) << 32, UINT64_MAX };
-    unsigned spoil = roll(2) ? 1u << roll(5) : 1 + roll(31);
+    unsigned spoil = roll(2) ? 1u << roll(SPOILS) : 1 + roll((1u << SPOILS) - 1);
+    if (!surely_refused(spoil, call.what))
+        return;
     if (spoil & SPOIL_TABLE)
         call.table_length = roll(2) ? TABLE - 1 : roll(TABLE);
     if (spoil & SPOIL_OUTPUT)
@@ -214,13 +281,15 @@ static void try_refused(struct call call)
         call.session = HIGH[roll(6)];
     if (spoil & SPOIL_ANSWER)
         call.answer_length = roll(2) ? ANSWER - 1 : roll(ANSWER);
-    bool cut = (spoil & SPOIL_GIVEN) && call.given_length > 0;
-    if (cut)
-        call.given_length = roll((unsigned)call.given_length);
-    if (!surely_refused(spoil, call.what, cut))
-        return;
-    if (both(&call) == 0)
+    if ((spoil & SPOIL_GIVEN) && takes_record(call.what))
+        spoil_record(&call);
+    uint8_t by = spoil & SPOIL_MARK ? (uint8_t)(1 + roll(255)) : 0;
+    spoil_marks(by);
+    uint64_t number = both(&call);
+    spoil_marks(by);
+    if (number == 0)
         different(&call, "a call was done that must be refused");
+    unmarked_and_short += number == 2 && call.output_length < OUTPUT;
 }
 
 /* A call of the history, sometimes with longer slices than needed. */
@@ -237,9 +306,42 @@ static uint64_t history_call(enum what what, uint64_t session, const uint8_t *gi
     return both(&call);
 }
 
+/* A run that is longer than a house record can hold, in one piece or two, and a message behind it; then
+   both tables are as they were. It begins like a message whose length is the run's, the run's less 10,000
+   or 65,536, or 20. */
+static void try_long_piece(uint64_t session)
+{
+    static const unsigned LENGTHS[] = { 9998, 9999, 10000, 10001, 10020, 19999, 65535, 65536, 65556, 75576, 131092 };
+    static const unsigned LESS[] = { 0, 10000, 65536 };
+    static const char MESSAGE[] = "00209999001         ";
+    static uint8_t kept[2][TABLE], run[PIECE_GREATEST];
+    unsigned length = LENGTHS[roll(sizeof LENGTHS / sizeof *LENGTHS)], less = LESS[roll(3)];
+    unsigned told = roll(2) && less < length ? (length - less) % 10000 : 20;
+    unsigned first = roll(2) ? length + 1 : roll(2) ? roll(length) : roll(60);
+    for (unsigned i = 0; i < 2; i++)
+        memcpy(kept[i], sides[i].table, TABLE);
+    memset(run, 'x', length);
+    snprintf((char *)run, 5, "%04u", told);
+    memcpy(run + 4, MESSAGE + 4, sizeof MESSAGE - 5);
+    run[length] = 0;
+    struct call calls[] = {
+        { BYTES, session, (const uint8_t *)"", 1, TABLE, OUTPUT, ANSWER }, /* ends the run that stands there */
+        { BYTES, session, run, first, TABLE, OUTPUT, ANSWER },
+        { BYTES, session, run + first, length + 1 - first, TABLE, OUTPUT, ANSWER },
+        { BYTES, session, (const uint8_t *)MESSAGE, sizeof MESSAGE, TABLE, OUTPUT, ANSWER },
+    };
+    for (unsigned k = roll(2); k < sizeof calls / sizeof *calls; k++)
+        both(&calls[k]);
+    for (unsigned i = 0; i < 2; i++)
+        memcpy(sides[i].table, kept[i], TABLE);
+    long_pieces += first > 10000 || length + 1 - first > 10000;
+}
+
 static void receive(uint64_t session, const uint8_t *bytes, size_t length)
 {
     size_t at = 0;
+    if (roll(100) == 0)
+        try_long_piece(session);
     do {
         if (history_call(BYTES, session, bytes + at, length - at) != 0)
             return;
@@ -270,14 +372,14 @@ static void serve(const uint8_t *record, size_t length)
 }
 
 /* A whole history: the tables begin as zeros, which are not well formed. */
-static void serve_history(const uint8_t *data, size_t size)
+static void serve_history(const uint8_t *data, size_t size, uint32_t seed)
 {
     size_t at = 0;
     for (unsigned i = 0; i < 2; i++) {
         memset(sides[i].table, 0, TABLE);
         memset(sides[i].table + TABLE, MARK, SPARE);
     }
-    dice = 12345;
+    dice = seed * 2654435761u;
     history_count += 1;
     record_count = 0;
     while (size - at >= HEADER) {
@@ -290,26 +392,46 @@ static void serve_history(const uint8_t *data, size_t size)
     }
 }
 
-/* What is left of standard input, at most `most` bytes of it. */
-static uint8_t *take_input(size_t most, size_t *size)
+/* As many bytes of standard input, or fewer at its end. */
+static uint8_t *take_input(size_t wanted, size_t *size)
 {
-    size_t room = 4096;
-    uint8_t *data = malloc(room);
-    *size = 0;
-    while (data != NULL && *size < most) {
-        size_t wanted = (most < room ? most : room) - *size;
-        size_t got = fread(data + *size, 1, wanted, stdin);
-        *size += got;
-        if (got < wanted)
-            break;
-        if (*size == room)
-            data = realloc(data, room *= 2);
-    }
+    uint8_t *data = malloc(wanted + 1);
     if (data == NULL) {
         fprintf(stderr, "no memory\n");
         exit(2);
     }
+    *size = fread(data, 1, wanted, stdin);
     return data;
+}
+
+static uint32_t four_bytes(const uint8_t *bytes)
+{
+    return bytes[0] | (uint32_t)bytes[1] << 8 | (uint32_t)bytes[2] << 16 | (uint32_t)bytes[3] << 24;
+}
+
+static void report(void)
+{
+    printf("%lu calls of %lu histories equal, %lu of them refused, %lu and %lu first\n", call_count,
+           history_count, refused_count, first_count[0], first_count[1]);
+    printf("table without its mark and output short %lu, length field lies %lu and in its upper byte %lu,\n"
+           "slice longer than its record %lu, a piece of more than 10,000 bytes %lu\n",
+           unmarked_and_short, lies_low, lies_high, slices_longer, long_pieces);
+    printf("fullest output: received bytes %llu (%lu times), tick %llu (%lu), tool record %llu (%lu)\n",
+           (unsigned long long)fullest[BYTES].written, fullest[BYTES].times,
+           (unsigned long long)fullest[TICK].written, fullest[TICK].times,
+           (unsigned long long)fullest[RECORD].written, fullest[RECORD].times);
+}
+
+static void serve_input(void)
+{
+    uint8_t head[8];
+    while (fread(head, 1, sizeof head, stdin) == sizeof head) {
+        size_t size = 0;
+        uint8_t *data = take_input(four_bytes(head), &size);
+        serve_history(data, size, four_bytes(head + 4));
+        free(data);
+    }
+    report();
 }
 
 #ifdef LINKED
@@ -321,19 +443,9 @@ static uint8_t *take_input(size_t most, size_t *size)
 
 int main(void)
 {
-    uint8_t length[4];
     BIND(&sides[0], independent);
     BIND(&sides[1], serifladder);
-    while (fread(length, 1, sizeof length, stdin) == sizeof length) {
-        size_t size = 0;
-        size_t wanted = length[0] | (size_t)length[1] << 8 | (size_t)length[2] << 16
-                        | (size_t)length[3] << 24;
-        uint8_t *data = take_input(wanted, &size);
-        serve_history(data, size);
-        free(data);
-    }
-    printf("%lu calls of %lu histories equal, %lu of them refused\n", call_count, history_count,
-           refused_count);
+    serve_input();
     return 0;
 }
 
@@ -369,16 +481,13 @@ static void load(struct side *side, const char *path, const char *prefix)
 
 int main(int count, char **arguments)
 {
-    size_t size = 0;
     if (count != 5) {
-        fprintf(stderr, "calls LIBRARY_A PREFIX_A LIBRARY_B PREFIX_B < history\n");
+        fprintf(stderr, "calls LIBRARY_A PREFIX_A LIBRARY_B PREFIX_B < histories\n");
         return 2;
     }
     load(&sides[0], arguments[1], arguments[2]);
     load(&sides[1], arguments[3], arguments[4]);
-    uint8_t *data = take_input(SIZE_MAX, &size);
-    serve_history(data, size);
-    free(data);
+    serve_input();
     return 0;
 }
 

@@ -1279,6 +1279,8 @@ static uint64_t enter(const uint8_t *table, size_t table_len, size_t output_len,
 {
     if (table_len < INDEPENDENT_TABLE_BYTES)
         return TABLE_SHORT;
+    if (FAULT == OUTPUT_BEFORE_TABLE && output_len < INDEPENDENT_OUTPUT_BYTES)
+        return OUTPUT_SHORT;
     if (!load(table, state))
         return TABLE_NOT_WELL_FORMED;
     if (output_len < INDEPENDENT_OUTPUT_BYTES)
