@@ -11,9 +11,8 @@
    not exactly one record. So are pieces longer than a house record can hold; the
    tables are put back behind them.
 
-   Standard input holds any number of histories, each behind its length and its seed, which
-   is the seed of the dice too; both are 4 bytes, little-endian. It says how many calls it
-   made and how often it reached what is rare. Exit status 0: all equal; 1: a difference.
+   A history's seed is that of the dice too. It says how many calls it made and how often it
+   reached what is rare. Exit status 0: all equal; 1: a difference.
 
    The second form is built with -DLINKED: the independent implementation and the product
    are linked in. */
@@ -23,10 +22,8 @@
 #else
 #include <dlfcn.h>
 #endif
-#include <stdbool.h>
-#include <stdint.h>
-#include <stdio.h>
-#include <stdlib.h>
+#include "histories.h"
+
 #include <string.h>
 
 enum {
@@ -34,8 +31,6 @@ enum {
     OUTPUT = 2048,
     ANSWER = 32,
     SPARE = 64, /* room behind each lent slice, filled with MARK */
-    HEADER = 4,
-    PAYLOAD_GREATEST = 8192,
     PIECE_GREATEST = 140000,
     MARK = 0xA5
 };
@@ -62,14 +57,9 @@ struct side {
     uint64_t returned;
 };
 
-enum what { START, OPEN, HANG_UP, BYTES, TICK, RECORD, CALLS };
-
-/* One call: what to call, and how long the lent slices are. */
+/* One call, and how long the lent slices are. */
 struct call {
-    enum what what;
-    uint64_t session;
-    const uint8_t *given;
-    size_t given_length;
+    struct asked asked;
     size_t table_length, output_length, answer_length;
 };
 
@@ -95,8 +85,8 @@ static void different(const struct call *call, const char *why)
 {
     static const char *const NAMES[] = { "start", "open", "hang_up", "bytes", "tick", "record" };
     printf("history %lu, record %lu, call %s, session %llu, lengths %zu table, %zu output, %zu given, %zu answer: %s\n",
-           history_count, record_count, NAMES[call->what], (unsigned long long)call->session, call->table_length,
-           call->output_length, call->given_length, call->answer_length, why);
+           history_count, record_count, NAMES[call->asked.what], (unsigned long long)call->asked.session, call->table_length,
+           call->output_length, call->asked.given_length, call->answer_length, why);
     for (unsigned i = 0; i < 2; i++) {
         printf("%c returned %llu, answer", 'A' + (int)i, (unsigned long long)sides[i].returned);
         for (unsigned k = 0; k < 4; k++) {
@@ -122,19 +112,19 @@ static uint64_t make_call(struct side *side, const struct call *call)
 {
     uint8_t *t = side->table, *o = side->output, *a = side->answer;
     size_t tl = call->table_length, ol = call->output_length, al = call->answer_length;
-    switch (call->what) {
+    switch (call->asked.what) {
     case START:
-        return side->start(t, tl, call->given, call->given_length, a, al);
+        return side->start(t, tl, call->asked.given, call->asked.given_length, a, al);
     case OPEN:
-        return side->open(t, tl, o, ol, call->session, a, al);
+        return side->open(t, tl, o, ol, call->asked.session, a, al);
     case HANG_UP:
-        return side->hang_up(t, tl, o, ol, call->session, a, al);
+        return side->hang_up(t, tl, o, ol, call->asked.session, a, al);
     case BYTES:
-        return side->bytes(t, tl, o, ol, call->session, call->given, call->given_length, a, al);
+        return side->bytes(t, tl, o, ol, call->asked.session, call->asked.given, call->asked.given_length, a, al);
     case TICK:
         return side->tick(t, tl, o, ol, a, al);
     default:
-        return side->record(t, tl, o, ol, call->given, call->given_length, a, al);
+        return side->record(t, tl, o, ol, call->asked.given, call->asked.given_length, a, al);
     }
 }
 
@@ -209,7 +199,7 @@ static uint64_t both(const struct call *call)
     call_count += 1;
     refused_count += sides[0].returned != 0;
     if (sides[0].returned == 0)
-        note_written(call->what, answered(&sides[0], 2));
+        note_written(call->asked.what, answered(&sides[0], 2));
     return sides[0].returned;
 }
 
@@ -246,12 +236,12 @@ static void spoil_record(struct call *call)
     static uint8_t copy[HEADER + PAYLOAD_GREATEST + SPARE];
     unsigned way = roll(4);
     memset(copy, (int)roll(256), sizeof copy);
-    memcpy(copy, call->given, call->given_length);
-    call->given = copy;
+    memcpy(copy, call->asked.given, call->asked.given_length);
+    call->asked.given = copy;
     if (way == 0) {
-        call->given_length = roll((unsigned)call->given_length);
+        call->asked.given_length = roll((unsigned)call->asked.given_length);
     } else if (way == 1) {
-        call->given_length += 1 + roll(SPARE);
+        call->asked.given_length += 1 + roll(SPARE);
         slices_longer += 1;
     } else {
         copy[way - 2] ^= (uint8_t)(1 + roll(255));
@@ -271,17 +261,17 @@ static void try_refused(struct call call)
 {
     static const uint64_t HIGH[] = { 4, 5, 255, 256, UINT64_C(1) << 32, UINT64_MAX };
     unsigned spoil = roll(2) ? 1u << roll(SPOILS) : 1 + roll((1u << SPOILS) - 1);
-    if (!surely_refused(spoil, call.what))
+    if (!surely_refused(spoil, call.asked.what))
         return;
     if (spoil & SPOIL_TABLE)
         call.table_length = roll(2) ? TABLE - 1 : roll(TABLE);
     if (spoil & SPOIL_OUTPUT)
         call.output_length = roll(2) ? OUTPUT - 1 : roll(OUTPUT);
     if (spoil & SPOIL_SESSION)
-        call.session = HIGH[roll(6)];
+        call.asked.session = HIGH[roll(6)];
     if (spoil & SPOIL_ANSWER)
         call.answer_length = roll(2) ? ANSWER - 1 : roll(ANSWER);
-    if ((spoil & SPOIL_GIVEN) && takes_record(call.what))
+    if ((spoil & SPOIL_GIVEN) && takes_record(call.asked.what))
         spoil_record(&call);
     uint8_t by = spoil & SPOIL_MARK ? (uint8_t)(1 + roll(255)) : 0;
     spoil_marks(by);
@@ -293,9 +283,9 @@ static void try_refused(struct call call)
 }
 
 /* A call of the history, sometimes with longer slices than needed. */
-static uint64_t history_call(enum what what, uint64_t session, const uint8_t *given, size_t length)
+static uint64_t history_call(const struct asked *asked)
 {
-    struct call call = { what, session, given, length, TABLE, OUTPUT, ANSWER };
+    struct call call = { *asked, TABLE, OUTPUT, ANSWER };
     if (roll(4) == 0)
         try_refused(call);
     if (roll(2) == 0) {
@@ -324,14 +314,14 @@ static void try_long_piece(uint64_t session)
     snprintf((char *)run, 5, "%04u", told);
     memcpy(run + 4, MESSAGE + 4, sizeof MESSAGE - 5);
     run[length] = 0;
-    struct call calls[] = {
-        { BYTES, session, (const uint8_t *)"", 1, TABLE, OUTPUT, ANSWER }, /* ends the run that stands there */
-        { BYTES, session, run, first, TABLE, OUTPUT, ANSWER },
-        { BYTES, session, run + first, length + 1 - first, TABLE, OUTPUT, ANSWER },
-        { BYTES, session, (const uint8_t *)MESSAGE, sizeof MESSAGE, TABLE, OUTPUT, ANSWER },
+    struct asked pieces[] = {
+        { BYTES, session, (const uint8_t *)"", 1 }, /* ends the run that stands there */
+        { BYTES, session, run, first },
+        { BYTES, session, run + first, length + 1 - first },
+        { BYTES, session, (const uint8_t *)MESSAGE, sizeof MESSAGE },
     };
-    for (unsigned k = roll(2); k < sizeof calls / sizeof *calls; k++)
-        both(&calls[k]);
+    for (unsigned k = roll(2); k < sizeof pieces / sizeof *pieces; k++)
+        both(&(struct call){ pieces[k], TABLE, OUTPUT, ANSWER });
     for (unsigned i = 0; i < 2; i++)
         memcpy(sides[i].table, kept[i], TABLE);
     long_pieces += first > 10000 || length + 1 - first > 10000;
@@ -343,38 +333,20 @@ static void receive(uint64_t session, const uint8_t *bytes, size_t length)
     if (roll(100) == 0)
         try_long_piece(session);
     do {
-        if (history_call(BYTES, session, bytes + at, length - at) != 0)
+        struct asked rest = { BYTES, session, bytes + at, length - at };
+        if (history_call(&rest) != 0)
             return;
         size_t consumed = (size_t)answered(&sides[0], 1);
-        if (consumed == 0 && at < length) {
-            struct call call = { BYTES, session, bytes, length, TABLE, OUTPUT, ANSWER };
-            different(&call, "nothing consumed");
-        }
+        if (consumed == 0 && at < length)
+            different(&(struct call){ rest, TABLE, OUTPUT, ANSWER }, "nothing consumed");
         at += consumed;
     } while (at < length);
-}
-
-static void serve(const uint8_t *record, size_t length)
-{
-    unsigned kind = record[2] | (unsigned)record[3] << 8;
-    if (kind == 3)
-        history_call(START, 0, record, length);
-    else if (kind >= 16 && kind < 32)
-        history_call(OPEN, kind - 16, NULL, 0);
-    else if (kind >= 32 && kind < 48)
-        history_call(HANG_UP, kind - 32, NULL, 0);
-    else if (kind >= 48 && kind < 64)
-        receive(kind - 48, record + HEADER, length - HEADER);
-    else if (kind == 64)
-        history_call(TICK, 0, NULL, 0);
-    else
-        history_call(RECORD, 0, record, length);
 }
 
 /* A whole history: the tables begin as zeros, which are not well formed. */
 static void serve_history(const uint8_t *data, size_t size, uint32_t seed)
 {
-    size_t at = 0;
+    struct asked asked;
     for (unsigned i = 0; i < 2; i++) {
         memset(sides[i].table, 0, TABLE);
         memset(sides[i].table + TABLE, MARK, SPARE);
@@ -382,31 +354,13 @@ static void serve_history(const uint8_t *data, size_t size, uint32_t seed)
     dice = seed * 2654435761u;
     history_count += 1;
     record_count = 0;
-    while (size - at >= HEADER) {
-        size_t payload = data[at] | (size_t)data[at + 1] << 8;
-        if (payload > PAYLOAD_GREATEST || payload > size - at - HEADER)
-            return;
+    for (size_t at = 0; next_asked(data, size, &at, &asked);) {
         record_count += 1;
-        serve(data + at, HEADER + payload);
-        at += HEADER + payload;
+        if (asked.what == BYTES)
+            receive(asked.session, asked.given, asked.given_length);
+        else
+            history_call(&asked);
     }
-}
-
-/* As many bytes of standard input, or fewer at its end. */
-static uint8_t *take_input(size_t wanted, size_t *size)
-{
-    uint8_t *data = malloc(wanted + 1);
-    if (data == NULL) {
-        fprintf(stderr, "no memory\n");
-        exit(2);
-    }
-    *size = fread(data, 1, wanted, stdin);
-    return data;
-}
-
-static uint32_t four_bytes(const uint8_t *bytes)
-{
-    return bytes[0] | (uint32_t)bytes[1] << 8 | (uint32_t)bytes[2] << 16 | (uint32_t)bytes[3] << 24;
 }
 
 static void report(void)
@@ -422,18 +376,6 @@ static void report(void)
            (unsigned long long)fullest[RECORD].written, fullest[RECORD].times);
 }
 
-static void serve_input(void)
-{
-    uint8_t head[8];
-    while (fread(head, 1, sizeof head, stdin) == sizeof head) {
-        size_t size = 0;
-        uint8_t *data = take_input(four_bytes(head), &size);
-        serve_history(data, size, four_bytes(head + 4));
-        free(data);
-    }
-    report();
-}
-
 #ifdef LINKED
 
 #define BIND(side, prefix) \
@@ -445,7 +387,8 @@ int main(void)
 {
     BIND(&sides[0], independent);
     BIND(&sides[1], serifladder);
-    serve_input();
+    serve_input(serve_history);
+    report();
     return 0;
 }
 
@@ -487,7 +430,8 @@ int main(int count, char **arguments)
     }
     load(&sides[0], arguments[1], arguments[2]);
     load(&sides[1], arguments[3], arguments[4]);
-    serve_input();
+    serve_input(serve_history);
+    report();
     return 0;
 }
 

@@ -16,7 +16,6 @@ import argparse
 import multiprocessing
 import os
 import re
-import struct
 import subprocess
 import sys
 import time
@@ -72,15 +71,11 @@ class Calls:
     def __init__(self, *command):
         self.command = list(command)
 
-    @staticmethod
-    def framed(data, seed):
-        return struct.pack("<II", len(data), seed) + data
-
     def judge(self, data, seed):
-        return {0: EQUAL, 1: DIFFERENT}.get(run(self.command, self.framed(data, seed))[1], BROKEN)
+        return {0: EQUAL, 1: DIFFERENT}.get(run(self.command, generate.framed(data, seed))[1], BROKEN)
 
     def show(self, data, seed):
-        return run(self.command, self.framed(data, seed))[0].decode("latin-1")
+        return run(self.command, generate.framed(data, seed))[0].decode("latin-1")
 
 
 def shared_libraries(first, second):
@@ -102,10 +97,10 @@ def all_in_one(pair, seeds, records, progress):
             subprocess.Popen(pair.command, stdin=subprocess.PIPE, stdout=subprocess.PIPE) as process:
         try:
             for _, seed, data in given:
-                process.stdin.write(pair.framed(data, seed))
+                process.stdin.write(generate.framed(data, seed))
             work = ((seed, records) for seed in seeds)
             for done, (_, seed, data) in enumerate(pool.imap(generated, work, chunksize=4), 1):
-                process.stdin.write(pair.framed(data, seed))
+                process.stdin.write(generate.framed(data, seed))
                 progress(done)
             process.stdin.close()
         except BrokenPipeError:

@@ -1,13 +1,15 @@
 #!/usr/bin/env python3
 """Prints a history as house records, for a seed.
 
-    generate.py SEED [--records N]
+    generate.py SEED [--records N] [--framed COUNT]
 
 The history is aimed at deep states. It is made of stretches, each of one sort, so that
 long orderly ones (which reach clocks of 120 and full queues) alternate with disorder.
 The generator keeps a rough idea of what stands at the other end (is the session up, how
 long was it silent) to stay in deep states; it does not know the rules, and its idea
-may be wrong. The same seed always gives the same history."""
+may be wrong. The same seed always gives the same history.
+
+--framed writes those of COUNT seeds, SEED and on, as the programs of tests/compare read them."""
 
 import argparse
 import random
@@ -750,12 +752,20 @@ def generate(seed, count=500):
     return History(seed, count).make()
 
 
+def framed(data, seed):
+    """A history behind its length and its seed, for programs that read many: compare/histories.h."""
+    return struct.pack("<II", len(data), seed) + data
+
+
 def main():
     parser = argparse.ArgumentParser(description=__doc__.splitlines()[0])
     parser.add_argument("seed", type=int)
     parser.add_argument("--records", type=int, default=500)
+    parser.add_argument("--framed", type=int, metavar="COUNT")
     arguments = parser.parse_args()
-    sys.stdout.buffer.write(generate(arguments.seed, arguments.records))
+    for seed in range(arguments.seed, arguments.seed + (arguments.framed or 1)):
+        data = generate(seed, arguments.records)
+        sys.stdout.buffer.write(framed(data, seed) if arguments.framed else data)
 
 
 if __name__ == "__main__":
