@@ -25,7 +25,7 @@ import compare
 
 HERE = os.path.dirname(os.path.abspath(__file__))
 SOURCE = os.path.join(HERE, "..", "independent")
-FLAGS = ["-std=c11", "-Wall", "-Wextra", "-Werror", "-O1"]
+FLAGS = ["-std=c11", "-Wall", "-Wextra", "-Werror", "-O0"]
 
 
 def all_faults():

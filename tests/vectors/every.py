@@ -28,7 +28,7 @@ def framed(mid, data, revision=1, twelve=b" "):
 
 
 def is_text(text):
-    return all(0x20 <= byte <= 0x7E for byte in text)
+    return min(text, default=0x20) >= 0x20 and max(text, default=0x20) <= 0x7E
 
 
 def is_time(text):
@@ -39,9 +39,9 @@ def is_time(text):
 def read_header(run):
     """The message number, the revision and whether no acknowledge is asked; None for a run that is no message."""
     digits, revision, twelve = run[:8], run[8:11], run[11:12]
-    if not 20 <= len(run) <= 9999 or any(byte not in DIGITS for byte in digits) or int(digits[:4]) != len(run):
+    if not 20 <= len(run) <= 9999 or not digits.isdigit() or int(digits[:4]) != len(run):
         return None
-    if (revision != b"   " and any(byte not in DIGITS for byte in revision)) or twelve not in (b"0", b"1", b" "):
+    if (revision != b"   " and not revision.isdigit()) or twelve not in (b"0", b"1", b" "):
         return None
     return int(digits[4:]), (0 if revision == b"   " else int(revision)) or 1, twelve == b"1"
 
@@ -111,7 +111,7 @@ class Alone(Case):
 
     def __init__(self, granted=1):
         super().__init__(granted)
-        self.started, self.subscribed, self.waiting = False, {}, []
+        self.started, self.subscribed, self.waiting = False, {}, b""
         self.put(history.OPEN)
 
     # ---- sent
@@ -119,15 +119,15 @@ class Alone(Case):
     def send(self, *runs):
         """Runs to the session, as few records as hold them."""
         for run in runs:
-            if sum(len(part) for part in self.waiting) + len(run) + 1 > 8192:
+            if len(self.waiting) + len(run) + 1 > 8192:
                 self.flush()
-            self.waiting.append(run + b"\0")
+            self.waiting += run + b"\0"
             for part in run.split(b"\0"):
                 self.hear(part)
 
     def flush(self):
-        self.put(history.BYTES, b"".join(self.waiting))
-        self.waiting = []
+        self.put(history.BYTES, self.waiting)
+        self.waiting = b""
 
     def begin(self, *subscriptions):
         self.send(message(1), *subscriptions)
@@ -342,6 +342,46 @@ def settings():
     return case.named("every byte value in the settings")
 
 
+def record_lengths():
+    """Good payloads of the three kinds with every length about them; only the whole record is taken."""
+    case = Alone()
+    case.begin(*FREE)
+    case.flush()
+    fields = tightening_fields(identifier=b"T")
+    payload = tightening_payload(fields)
+    for size in [*range(700), *(len(payload) + 256 * times for times in range(3, 32))]:
+        if size == len(payload):
+            case.tighten(fields)
+        else:
+            case.put(history.TIGHTENING, (payload + b" " * size)[:size])
+            case.refused(7)
+    for size in [*range(600), *(25 + 256 * times for times in range(3, 32))]:
+        if size == 25:
+            case.scan(b"S".ljust(25))
+        else:
+            case.put(history.SCANNED, b"S".ljust(size)[:size])
+            case.refused(7)
+    for size in [*range(33), *range(34, 600), *(33 + 256 * times for times in range(3, 32))]:
+        case.put(history.SETTINGS, (history.SETTINGS_FORM.pack(CELL, CHANNEL, 1, NAME, 0) + b" " * size)[:size])
+        case.refused(9)
+    return case.named("every length of a record")
+
+
+def record_kinds():
+    """Kinds that no call takes, with payloads of those that are taken and with none."""
+    case = Case()
+    payloads = {history.TIGHTENING: tightening_payload(tightening_fields()), history.SCANNED: SPACES,
+                history.SETTINGS: history.SETTINGS_FORM.pack(CELL, CHANNEL, 1, NAME, 0)}
+    for kind, payload in payloads.items():
+        for other in [0, *range(4, 16), *range(65, 600), *(kind + 256 * times for times in range(3, 256)), 65535]:
+            case.put(other, payload)
+            case.refused(7)
+    for kind in [0, *range(4, 16), *range(65, 1100)]:
+        case.put(kind)
+        case.refused(7)
+    return case.named("kinds that no call takes")
+
+
 # ---- cases of four sessions
 
 def four_subscribed(case, byte_12=b"0"):
@@ -413,4 +453,4 @@ def nothing_acknowledged():
 
 def cases():
     return [message_numbers(), header_bytes(), revisions(), *downloads(), tool_texts(), tool_numbers(), settings(),
-            fullest_output(), nothing_acknowledged()]
+            record_lengths(), record_kinds(), fullest_output(), nothing_acknowledged()]
