@@ -92,7 +92,7 @@ def generated(arguments):
 
 def all_in_one(pair, seeds, records, progress):
     """One process over the vectors and all the histories: (the history that tells the two apart or None, what it said)."""
-    given = [(name, 0, data) for name, data, _ in vectors.all_cases()]
+    given = [(name, number, data) for number, (name, data, _) in enumerate(vectors.all_cases())]
     with multiprocessing.Pool() as pool, \
             subprocess.Popen(pair.command, stdin=subprocess.PIPE, stdout=subprocess.PIPE) as process:
         try:

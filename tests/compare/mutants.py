@@ -15,6 +15,7 @@ import collections
 import multiprocessing
 import os
 import re
+import resource
 import subprocess
 import sys
 import tempfile
@@ -26,7 +27,7 @@ import generate
 HERE = os.path.dirname(os.path.abspath(__file__))
 SOURCE = os.path.join(HERE, "..", "independent", "independent.c")
 FLAGS = ["-std=c11", "-O1", "-w", "-I", os.path.dirname(SOURCE)]
-SECONDS = 60
+SECONDS = 6  # of the processor: more than what all of it needs
 GARBAGE_HISTORIES = 30
 
 OTHERWISE = {"<": ["<=", ">"], "<=": ["<", "=="], ">": [">=", "<"], ">=": [">", "=="], "==": ["!="], "!=": ["=="], "&&": ["||"],
@@ -73,6 +74,10 @@ def mutants(text):
     return [Mutant(text.count("\n", 0, start) + 1, start, end, other) for start, end, other in sorted(found)]
 
 
+def bound_time():
+    resource.setrlimit(resource.RLIMIT_CPU, (SECONDS, SECONDS))
+
+
 class Judge:
     """What every mutant is linked with and run over, made once in a folder."""
 
@@ -82,7 +87,7 @@ class Judge:
             self.text = file.read()
         self.calls, self.garbage = (self.compiled(name, more) for name, more in (("calls", ["-DLINKED"]), ("garbage", [])))
         self.plain = self.assembly(self.text, "plain")
-        cases = [(data, 0) for _, data, _ in compare.vectors.all_cases()]
+        cases = [(data, number) for number, (_, data, _) in enumerate(compare.vectors.all_cases())]
         histories = [(generate.generate(seed), seed) for seed in range(1, options.count + 1)]
         self.histories = self.written("histories", histories[:20] + cases + histories[20:])
         self.near = self.written("near", histories[:GARBAGE_HISTORIES])
@@ -116,11 +121,8 @@ class Judge:
     def ends(self, program, given):
         """How the program ends over a file of histories."""
         with open(given, "rb") as file:
-            try:
-                done = subprocess.run([*self.options.runner, program], stdin=file, stdout=subprocess.DEVNULL,
-                                      stderr=subprocess.DEVNULL, timeout=SECONDS, check=False)
-            except subprocess.TimeoutExpired:
-                return "broken"
+            done = subprocess.run([*self.options.runner, program], stdin=file, stdout=subprocess.DEVNULL,
+                                  stderr=subprocess.DEVNULL, preexec_fn=bound_time, check=False)
         return {0: "survives", 1: "found"}.get(done.returncode, "broken")
 
     def judge(self, number, mutant):
