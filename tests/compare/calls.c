@@ -365,7 +365,7 @@ static void serve_history(const uint8_t *data, size_t size, uint32_t seed)
 
 static void report(void)
 {
-    printf("%lu calls of %lu histories equal, %lu of them refused, %lu and %lu first\n", call_count,
+    printf("%lu calls of %lu histories equal, %lu of them refused; A ran first in %lu, B in %lu\n", call_count,
            history_count, refused_count, first_count[0], first_count[1]);
     printf("table without its mark and output short %lu, length field lies %lu and in its upper byte %lu,\n"
            "slice longer than its record %lu, a piece of more than 10,000 bytes %lu\n",

@@ -47,7 +47,7 @@ static const unsigned HELD_AT_MOST[KINDS] = { 2, 8 };
 
 #ifdef PREFIX
 
-enum { USED = 5120, MARK_SIZE = 8, FIRST_SESSION = 1024, SESSION_SIZE = 1024, RUN_COUNT = 32, CONTROL_SIZE = 10 };
+enum { USED = 5120, MARK_SIZE = 8, FIRST_SESSION = 1024, SESSION_SIZE = 1024, RUN_COUNT = 32, CONTROL_SIZE = 10, SHARED_SIZE = 81 };
 static const unsigned CONTROL[CONTROL_SIZE] = { 0, 1, 2, 3, 4, 5, 6, 7, RUN_COUNT, RUN_COUNT + 1 };
 static const unsigned SUBSCRIBED[KINDS] = { 2, 5 }, COUNT[KINDS] = { 4, 7 };
 
@@ -69,7 +69,8 @@ static bool shared_formed(const uint8_t *table)
 
 #else
 
-enum { USED = 7254, MARK_SIZE = 8, FIRST_SESSION = 66, SESSION_SIZE = 1797, RUN_COUNT = 2, CONTROL_SIZE = 14, TEXT = 25, RESULT = 211 };
+enum { USED = 7254, MARK_SIZE = 8, FIRST_SESSION = 66, SESSION_SIZE = 1797, RUN_COUNT = 2, CONTROL_SIZE = 14, SHARED_SIZE = 66 };
+enum { TEXT = 25, RESULT = 211 };
 static const unsigned CONTROL[CONTROL_SIZE] = { 0, 1, RUN_COUNT, RUN_COUNT + 1, 49, 50, 51, 52, 53, 54, 55, 56, 57, 58 };
 static const unsigned SUBSCRIBED[KINDS] = { 49, 54 }, COUNT[KINDS] = { 52, 57 };
 
@@ -265,8 +266,34 @@ static struct asked any_call(void)
     }
 }
 
-/* Mostly a byte of a session's control, by one or a little, or to what no control holds; else any byte that is used;
-   seldom everything, or everything but the mark. */
+/* A run that is being received, of a length at an edge. */
+static void spoil_run(uint8_t *session)
+{
+    static const unsigned LENGTHS[] = { 0, 1, 44, 45, 46, 9999, 10000, 10001, 65535 };
+    unsigned length = LENGTHS[roll(sizeof LENGTHS / sizeof *LENGTHS)];
+    session[RUN_COUNT] = (uint8_t)(length & 255);
+    session[RUN_COUNT + 1] = (uint8_t)(length >> 8);
+    memset(session + RUN_COUNT + 2, 'x', 45);
+    if (roll(4) == 0)
+        session[RUN_COUNT + 2 + roll(45)] = 0;
+}
+
+/* Another value for a byte: near its own, at an edge of what controls and texts hold, or any. */
+static uint8_t another(uint8_t byte)
+{
+    static const uint8_t EDGES[] = { 0, 1, 2, 3, 8, 9, 14, 15, 16, 17, 31, 32, 39, 40, 99, 100, 119, 120, 126, 127, 255 };
+    switch (roll(4)) {
+    case 0:
+        return (uint8_t)roll(256);
+    case 1:
+        return EDGES[roll(sizeof EDGES)];
+    default:
+        return (uint8_t)(byte + roll(8) - 3);
+    }
+}
+
+/* Mostly a byte of a session's control; else one of what all share, a run, or any byte that is used; seldom everything, or
+   everything but the mark. */
 static void spoil(void)
 {
     unsigned sort = roll(200);
@@ -277,8 +304,12 @@ static void spoil(void)
     }
     for (unsigned i = roll(3) + 1; i > 0; i--) {
         uint8_t *session = table + FIRST_SESSION + roll(SESSIONS) * SESSION_SIZE;
-        uint8_t *byte = roll(8) ? session + CONTROL[roll(CONTROL_SIZE)] : table + roll(USED);
-        *byte = (uint8_t)(roll(3) ? *byte + roll(8) - 3 : roll(2) ? roll(12) : roll(256));
+        unsigned where = roll(12);
+        uint8_t *byte = where == 0 ? table + roll(USED) : where == 1 ? table + roll(SHARED_SIZE) : session + CONTROL[roll(CONTROL_SIZE)];
+        if (where == 2)
+            spoil_run(session);
+        else
+            *byte = another(*byte);
     }
 }
 

@@ -6,9 +6,10 @@
 A mutant has one constant by one more or less, one comparison, sign or connective another, one
 'not' left out or one statement left out. Those whose machine code is the unaltered one's are
 left out: they mean the same. Each other is linked with the product and runs over the vectors
-and COUNT histories, call by call (calls.c), then over tables of garbage (garbage.c). One that
-answers alike to the end survives and is listed. --lines tries those of these lines of
-independent.c only. No part of the gate: it takes an hour of one processor."""
+and COUNT histories, call by call (calls.c), then, built with the sanitizers, over tables of garbage
+(garbage.c). One that answers alike to the end survives and is listed. The control is the
+program itself, which must survive. --lines tries those of these lines of independent.c only.
+No part of the gate: it takes an hour of one processor."""
 
 import argparse
 import collections
@@ -26,9 +27,11 @@ import generate
 
 HERE = os.path.dirname(os.path.abspath(__file__))
 SOURCE = os.path.join(HERE, "..", "independent", "independent.c")
-FLAGS = ["-std=c11", "-O1", "-w", "-I", os.path.dirname(SOURCE)]
+# A function that ends without its answer is no program, and what nobody has written is no lucky zero.
+FLAGS = ["-std=c11", "-O1", "-Werror=return-type", "-ftrivial-auto-var-init=pattern", "-I", os.path.dirname(SOURCE)]
+SANITIZE = ["-fsanitize=address,undefined", "-fno-sanitize-recover=all"]
 SECONDS = 6  # of the processor: more than what all of it needs
-GARBAGE_HISTORIES = 30
+GARBAGE_HISTORIES = 100
 
 OTHERWISE = {"<": ["<=", ">"], "<=": ["<", "=="], ">": [">=", "<"], ">=": [">", "=="], "==": ["!="], "!=": ["=="], "&&": ["||"],
              "||": ["&&"], "+": ["-"], "-": ["+"], "*": ["+"], "%": ["/"], "/": ["%"], "+=": ["-="], "-=": ["+="],
@@ -74,8 +77,19 @@ def mutants(text):
     return [Mutant(text.count("\n", 0, start) + 1, start, end, other) for start, end, other in sorted(found)]
 
 
+def made(*command):
+    return subprocess.run(command, capture_output=True, check=False).returncode == 0
+
+
 def bound_time():
     resource.setrlimit(resource.RLIMIT_CPU, (SECONDS, SECONDS))
+
+
+def ends(command, given):
+    """How a program ends over a file of histories."""
+    with open(given, "rb") as file:
+        return subprocess.run(command, stdin=file, stdout=subprocess.DEVNULL, stderr=subprocess.DEVNULL, preexec_fn=bound_time,
+                              env=dict(os.environ, ASAN_OPTIONS="detect_leaks=0"), check=False).returncode
 
 
 class Judge:
@@ -85,22 +99,20 @@ class Judge:
         self.options, self.folder = options, folder
         with open(SOURCE, encoding="ascii") as file:
             self.text = file.read()
-        self.calls, self.garbage = (self.compiled(name, more) for name, more in (("calls", ["-DLINKED"]), ("garbage", [])))
+        self.calls = self.compiled("calls", [options.compiler, *FLAGS, "-DLINKED"])
+        self.garbage = self.compiled("garbage", ["gcc", *FLAGS, *SANITIZE])
         self.plain = self.assembly(self.text, "plain")
         cases = [(data, number) for number, (_, data, _) in enumerate(compare.vectors.all_cases())]
-        histories = [(generate.generate(seed), seed) for seed in range(1, options.count + 1)]
-        self.histories = self.written("histories", histories[:20] + cases + histories[20:])
+        histories = [(generate.generate(seed), seed) for seed in range(1, max(options.count, GARBAGE_HISTORIES) + 1)]
+        self.histories = self.written("histories", histories[:20] + cases + histories[20:options.count])
         self.near = self.written("near", histories[:GARBAGE_HISTORIES])
 
     def path(self, name):
         return os.path.join(self.folder, name)
 
-    def run(self, *command):
-        return subprocess.run(command, capture_output=True, check=False)
-
-    def compiled(self, name, more):
+    def compiled(self, name, words):
         path = self.path(name + ".o")
-        subprocess.run([self.options.compiler, *FLAGS, *more, "-c", "-o", path, os.path.join(HERE, name + ".c")], check=True)
+        subprocess.run([*words, "-c", "-o", path, os.path.join(HERE, name + ".c")], check=True)
         return path
 
     def written(self, name, histories):
@@ -112,18 +124,11 @@ class Judge:
         """The machine code in words, or None where the text is no program."""
         source, path = self.path(name + ".c"), self.path(name + ".s")
         with open(source, "w", encoding="ascii") as file:
-            file.write(text)
-        if self.run(self.options.compiler, *FLAGS, "-S", "-o", path, source).returncode != 0:
+            file.write('#line 1 "independent.c"\n' + text)  # which an assertion names
+        if not made(self.options.compiler, *FLAGS, "-S", "-o", path, source):
             return None
         with open(path, encoding="latin-1") as file:
             return "".join(line for line in file if not line.lstrip().startswith((".file", ".ident")))
-
-    def ends(self, program, given):
-        """How the program ends over a file of histories."""
-        with open(given, "rb") as file:
-            done = subprocess.run([*self.options.runner, program], stdin=file, stdout=subprocess.DEVNULL,
-                                  stderr=subprocess.DEVNULL, preexec_fn=bound_time, check=False)
-        return {0: "survives", 1: "found"}.get(done.returncode, "broken")
 
     def judge(self, number, mutant):
         """One of: no program, the same, found, broken, found by garbage, survives."""
@@ -131,15 +136,18 @@ class Judge:
         code = self.assembly(self.text[:mutant.start] + mutant.text + self.text[mutant.end:], name)
         if code is None or code == self.plain:
             return "no program" if code is None else "the same"
-        for with_object, given, found in ((self.calls, self.histories, "found"), (self.garbage, self.near, "found by garbage")):
-            linked = [self.options.archive] if with_object == self.calls else []
-            done = self.run(self.options.compiler, "-static", "-o", self.path(name), self.path(name + ".s"), with_object, *linked)
-            if done.returncode != 0:
-                return "no program"
-            end = self.ends(self.path(name), given)
-            if end != "survives":
-                return found if end == "found" else end
-        return "survives"
+        return self.judge_program(name)
+
+    def judge_program(self, name):
+        program = self.path(name)
+        if not made(self.options.compiler, "-static", "-o", program, program + ".s", self.calls, self.options.archive):
+            return "no program"
+        status = ends([*self.options.runner, program], self.histories)
+        if status != 0:
+            return "found" if status == 1 else "broken"
+        if not made("gcc", *FLAGS, *SANITIZE, "-o", program, program + ".c", self.garbage):
+            return "no program"
+        return "survives" if ends([program], self.near) == 0 else "found by garbage"
 
     def judged(self, work):
         number, mutant = work
@@ -171,6 +179,8 @@ def main():
     began, counts = time.monotonic(), collections.Counter()
     with tempfile.TemporaryDirectory(dir=compare.BUILD) as folder:
         judge = Judge(options, folder)
+        if judge.judge_program("plain") != "survives":
+            sys.exit("mutants: the control does not hold: the unaltered program is %s" % judge.judge_program("plain"))
         work = [one for one in enumerate(mutants(judge.text)) if not options.lines or one[1].line in options.lines]
         with multiprocessing.Pool(options.jobs) as pool:
             for done, (mutant, judgement) in enumerate(pool.imap(judge.judged, work), 1):
