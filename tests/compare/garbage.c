@@ -347,7 +347,7 @@ int main(void)
     answer = fenced(ANSWER);
     given = fenced(2 * PAYLOAD_GREATEST);
     serve_input(serve_history);
-    printf("%lu calls over altered tables: %lu of them well formed, %lu with a count over its bound in a\n"
+    printf("garbage: %lu calls over altered tables: %lu of them well formed, %lu with a count over its bound in a\n"
            "started, subscribed session; in all %lu done, %lu answered 2, %lu answered 5 or 6, no crash\n",
            aside_count, near_count, over_count, numbers[0], numbers[2], numbers[5] + numbers[6]);
     return over_count < LEAST_OVER || near_count < LEAST_NEAR;
