@@ -33,7 +33,7 @@ SECONDS = 60  # more than any history needs
 EQUAL, DIFFERENT, BROKEN = "equal", "different", "broken"
 
 # The fullest outputs that the rules allow: 0005 and four 0052 of revision 2; two notices to each session; four 0061.
-FULLEST = "fullest output: received bytes 561 (%s times), tick 1476 (%s), tool record 944 (%s)"
+FULLEST = {"received bytes": 561, "tick": 1476, "tool record": 944}
 
 
 def run(command, data):
@@ -171,9 +171,8 @@ def too_little(said, least):
     """What a comparison call by call, which found no difference, did not reach: a sentence, or none."""
     if int(said.split()[0]) < least:
         return "too few calls, %d were asked for" % least
-    if not re.search(re.escape(FULLEST).replace("%s", r"\d+"), said):
-        return "not as full as %s" % FULLEST.replace(" (%s times)", "").replace(" (%s)", "")
-    return None
+    missing = ["%s %d" % full for full in FULLEST.items() if "%s %d (" % full not in said]
+    return "an output as full as the rules allow was not reached: " + ", ".join(missing) if missing else None
 
 
 def main():
