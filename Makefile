@@ -74,14 +74,14 @@ proved: tools
 
 # The layout, and that the must-fail edits fit; then the gate itself, then the comparison over what the gate built and left, three parts at
 # a time, since the host's tests mostly wait. The gate's own last line is said again at the end: it is the last line of a run in which
-# nothing failed.
+# nothing failed. What fails behind the gate says so in the last line.
 test: tools
 	@rt fmt --check
 	@python3 tests/wrong/check.py
 	@said=$$(mktemp); trap 'rm -f "$$said"' EXIT; \
 	rt ci | tee "$$said"; \
-	rt staticlib serifladder | tail -n 1; \
-	$(MAKE) --silent --no-print-directory -j 3 -C tests product; \
+	rt staticlib serifladder | tail -n 1 || { echo "test: failed, rt staticlib serifladder"; exit 1; }; \
+	$(MAKE) --silent --no-print-directory -j 3 -C tests product || { echo "test: failed, make -C tests product"; exit 1; }; \
 	tail -n 1 "$$said"
 
 # The program and the archive for C, proved.

@@ -515,5 +515,5 @@ int main(int argument_count, char **arguments)
     bool good = measure_times(kinds, count);
     good &= measure_works(kinds, count);
     printf("bench: %s\n", good ? "all within what is asked" : "NOT all within what is asked");
-    return 0;
+    return good ? 0 : 1;
 }

@@ -7,8 +7,9 @@
 
 The first form compares what the programs print. The second calls two shared libraries
 side by side and compares each call's four numbers and output bytes (see calls.c). The
-third does the same with the program that has both libraries linked in, in one process;
-as many calls as said must be made at least.
+third does the same with the program that has both libraries linked in, in one process,
+over the vectors and the histories; as many calls as said must be made at least, and every
+call's output must have been as full as the rules let it be.
 The first difference is kept, made small and shown. Exit status 0: all equal."""
 
 import argparse
@@ -26,8 +27,13 @@ sys.path.insert(0, os.path.join(HERE, "..", "vectors"))
 
 import generate  # noqa: E402
 import history  # noqa: E402
+import run as vectors  # noqa: E402
 
 SECONDS = 60  # more than any history needs
+EQUAL, DIFFERENT, BROKEN = "equal", "different", "broken"
+
+# The fullest outputs that the rules allow: 0005 and four 0052 of revision 2; two notices to each session; four 0061.
+FULLEST = {"received bytes": 561, "tick": 1476, "tool record": 944}
 
 
 def run(command, data):
@@ -45,11 +51,13 @@ class Programs:
     def __init__(self, first, second):
         self.first, self.second = first, second
 
-    def differ(self, data):
+    def judge(self, data, _seed):
         first, second = run([self.first], data), run([self.second], data)
-        return first != second or first[1] != 0
+        if first[1] != 0 or second[1] != 0:
+            return BROKEN
+        return EQUAL if first == second else DIFFERENT
 
-    def show(self, data):
+    def show(self, data, _seed):
         out = []
         for name, program in (("A", self.first), ("B", self.second)):
             text, status = run([program], data)
@@ -58,50 +66,41 @@ class Programs:
 
 
 class Calls:
-    """Two libraries that should answer the same, call by call."""
-
-    def __init__(self, first, second):
-        self.command = [os.path.join(BUILD, "calls")]
-        for library in (first, second):
-            path, _, prefix = library.rpartition(":")
-            self.command += [os.path.abspath(path), prefix]
-
-    def differ(self, data):
-        return run(self.command, data)[1] != 0
-
-    def show(self, data):
-        return run(self.command, data)[0].decode("latin-1")
-
-
-class Linked:
-    """The program that has two libraries linked in, with the words that run it."""
+    """A program of calls.c, with the words that run it: two libraries that should answer the same, call by call."""
 
     def __init__(self, *command):
         self.command = list(command)
 
-    @staticmethod
-    def framed(data):
-        return len(data).to_bytes(4, "little") + data
+    def judge(self, data, seed):
+        return {0: EQUAL, 1: DIFFERENT}.get(run(self.command, generate.framed(data, seed))[1], BROKEN)
 
-    def differ(self, data):
-        return run(self.command, self.framed(data))[1] != 0
-
-    def show(self, data):
-        return run(self.command, self.framed(data))[0].decode("latin-1")
+    def show(self, data, seed):
+        return run(self.command, generate.framed(data, seed))[0].decode("latin-1")
 
 
-def make_history(arguments):
-    return generate.generate(*arguments)
+def shared_libraries(first, second):
+    """The pair of two shared libraries, each given as PATH:PREFIX."""
+    words = [word for library in (first, second) for word in library.rsplit(":", 1)]
+    return Calls(os.path.join(BUILD, "calls"), os.path.abspath(words[0]), words[1], os.path.abspath(words[2]), words[3])
+
+
+def generated(arguments):
+    """The history of a seed, by the seed's name."""
+    seed, records = arguments
+    return "seed %d" % seed, seed, generate.generate(seed, records)
 
 
 def all_in_one(pair, seeds, records, progress):
-    """One process over all the histories: (the seed that tells the two apart or None, its last line)."""
+    """One process over the vectors and all the histories: (the history that tells the two apart or None, what it said)."""
+    given = [(name, number, data) for number, (name, data, _) in enumerate(vectors.all_cases())]
     with multiprocessing.Pool() as pool, \
             subprocess.Popen(pair.command, stdin=subprocess.PIPE, stdout=subprocess.PIPE) as process:
-        histories = pool.imap(make_history, ((seed, records) for seed in seeds), chunksize=4)
         try:
-            for done, data in enumerate(histories, 1):
-                process.stdin.write(pair.framed(data))
+            for _, seed, data in given:
+                process.stdin.write(generate.framed(data, seed))
+            work = ((seed, records) for seed in seeds)
+            for done, (_, seed, data) in enumerate(pool.imap(generated, work, chunksize=4), 1):
+                process.stdin.write(generate.framed(data, seed))
                 progress(done)
             process.stdin.close()
         except BrokenPipeError:
@@ -112,7 +111,8 @@ def all_in_one(pair, seeds, records, progress):
     found = re.match(r"history (\d+), ", said)
     if not found:
         sys.exit("%s ended with status %d: %s" % (pair.command[0], process.returncode, said))
-    return seeds[int(found.group(1)) - 1], said
+    number = int(found.group(1)) - 1
+    return given[number] if number < len(given) else generated((seeds[number - len(given)], records)), said
 
 
 def pieces(data):
@@ -140,32 +140,39 @@ def shrink(parts, differ):
 
 def judge(arguments):
     pair, seed, records = arguments
-    return seed, pair.differ(generate.generate(seed, records))
+    return seed, pair.judge(generate.generate(seed, records), seed)
 
 
-def first_difference(pair, seeds, records, progress=None):
-    """The first seed (in the order of the seeds) whose history tells the two apart, or None."""
+def first_difference(pair, seeds, records, progress):
+    """The first history (in the order of the seeds) that tells the two apart, or None."""
     work = ((pair, seed, records) for seed in seeds)
     with multiprocessing.Pool() as pool:
-        for done, (seed, different) in enumerate(pool.imap(judge, work, chunksize=4), 1):
-            if different:
+        for done, (seed, judgement) in enumerate(pool.imap(judge, work, chunksize=4), 1):
+            if judgement != EQUAL:
                 pool.terminate()
-                return seed
-            if progress:
-                progress(done)
+                return generated((seed, records))
+            progress(done)
     return None
 
 
-def show_difference(pair, seed, records):
-    data = generate.generate(seed, records)
-    parts = shrink(pieces(data), pair.differ)
+def show_difference(pair, case):
+    name, seed, data = case
+    parts = shrink(pieces(data), lambda part: pair.judge(part, seed) != EQUAL)
     small = b"".join(parts)
     path = os.path.join(BUILD, "difference-%d.records" % seed)
     with open(path, "wb") as file:
         file.write(small)
-    print("seed %d differs; %d of its %d records are enough (kept as %s):"
-          % (seed, len(parts), len(pieces(data)), os.path.relpath(path)))
-    print(history.to_lines(small) + pair.show(small))
+    print("%s differs; %d of its %d records are enough (kept as %s):"
+          % (name, len(parts), len(pieces(data)), os.path.relpath(path)))
+    print(history.to_lines(small) + pair.show(small, seed))
+
+
+def too_little(said, least):
+    """What a comparison call by call, which found no difference, did not reach: a sentence, or none."""
+    if int(said.split()[0]) < least:
+        return "too few calls, %d were asked for" % least
+    missing = ["%s %d" % full for full in FULLEST.items() if "%s %d (" % full not in said]
+    return "an output as full as the rules allow was not reached: " + ", ".join(missing) if missing else None
 
 
 def main():
@@ -178,7 +185,7 @@ def main():
     parser.add_argument("--first-seed", type=int, default=1)
     parser.add_argument("--records", type=int, default=500)
     options = parser.parse_args()
-    pair = (Linked if options.linked else Calls if options.calls else Programs)(*options.compared)
+    pair = (Calls if options.linked else shared_libraries if options.calls else Programs)(*options.compared)
     seeds = range(options.first_seed, options.first_seed + options.count)
     began = time.monotonic()
 
@@ -189,17 +196,18 @@ def main():
 
     said = ""
     if options.linked:
-        seed, said = all_in_one(pair, seeds, options.records, progress)
+        found, said = all_in_one(pair, seeds, options.records, progress)
     else:
-        seed = first_difference(pair, seeds, options.records, progress)
-    if seed is not None:
-        show_difference(pair, seed, options.records)
-        print("compare: DIFFERENT at seed %d" % seed)
+        found = first_difference(pair, seeds, options.records, progress)
+    if found:
+        show_difference(pair, found)
+        print("compare: DIFFERENT at %s" % found[0])
         return 1
     if options.linked:
         print("compare: " + said)
-        if int(said.split()[0]) < options.least:
-            print("compare: too few calls, %d were asked for" % options.least)
+        missing = too_little(said, options.least)
+        if missing:
+            print("compare: " + missing)
             return 1
     print("compare: equal, %d histories of %d records, seeds %d to %d, %.0f s"
           % (options.count, options.records, seeds[0], seeds[-1], time.monotonic() - began))

@@ -8,7 +8,10 @@ Builds the test program once with each fault of independent/faults.h and compare
 the faultless one over the histories; faults that its lines do not show are compared
 call by call. In the second form it is compared with the product: with the lines of that
 program, or call by call with that archive, linked in by the compiler and run by the runner.
---only says which faults, by their numbers. Exit status 0: every one was found."""
+The control comes first: built without a fault it must agree over every one of these
+histories. A fault is found by a history that both sides answer to the end, differently; a
+program that breaks finds nothing. --only says which faults, by their numbers. Exit status 0:
+the control agreed and every fault was found."""
 
 import argparse
 import multiprocessing
@@ -22,7 +25,7 @@ import compare
 
 HERE = os.path.dirname(os.path.abspath(__file__))
 SOURCE = os.path.join(HERE, "..", "independent")
-FLAGS = ["-std=c11", "-Wall", "-Wextra", "-Werror", "-O1"]
+FLAGS = ["-std=c11", "-Wall", "-Wextra", "-Werror", "-O0"]
 
 
 def all_faults():
@@ -51,19 +54,32 @@ def pair_with(number, seen, options):
     if options.archive:
         more = ["-DLINKED", "-static", os.path.join(HERE, "calls.c"), options.archive]
         path = compile_fault(number, "linked-fault-%d" % number, more, options.compiler)
-        return compare.Linked(options.runner, path), path
+        return compare.Calls(options.runner, path), path
     path = compile_fault(number, "libfault-%d.so" % number, ["-fPIC", "-shared"])
     right = os.path.join(compare.BUILD, "libindependent.so:independent")
-    return compare.Calls(right, path + ":independent"), path
+    return compare.shared_libraries(right, path + ":independent"), path
 
 
-def find(arguments):
-    (name, number, seen), options = arguments
-    pair, path = pair_with(number, seen, options)
-    seeds = range(options.first_seed, options.first_seed + options.count)
-    finding = [seed for seed in seeds if compare.judge((pair, seed, options.records))[1]]
+def judged(arguments):
+    """The fault, with the seeds of each judgement."""
+    fault, options = arguments
+    pair, path = pair_with(*fault[1:], options)
+    seeds = {compare.EQUAL: [], compare.DIFFERENT: [], compare.BROKEN: []}
+    for seed in range(options.first_seed, options.first_seed + options.count):
+        seeds[compare.judge((pair, seed, options.records))[1]].append(seed)
     os.remove(path)
-    return name, number, finding
+    return fault, seeds
+
+
+def control_holds(pool, seen, options):
+    """Does the faultless program agree wherever a fault is looked for?"""
+    control = [("the faultless program's " + way, 0, way) for way in seen]
+    holds = True
+    for (name, _, _), seeds in pool.imap(judged, ((fault, options) for fault in control)):
+        print("control: %s: %d equal, %d different, %d broken"
+              % (name, *(len(seeds[way]) for way in (compare.EQUAL, compare.DIFFERENT, compare.BROKEN))), flush=True)
+        holds = holds and len(seeds[compare.EQUAL]) == options.count
+    return holds
 
 
 def main():
@@ -79,16 +95,19 @@ def main():
     options = parser.parse_args()
     began, missed = time.monotonic(), 0
     faults = [fault for fault in all_faults() if not options.only or fault[1] in options.only]
-    print("%3s  %-32s %-10s %s" % ("n", "fault", "first seed", "of %d histories find it" % options.count))
     with multiprocessing.Pool() as pool:
-        work = ((fault, options) for fault in faults)
-        for name, number, finding in pool.imap(find, work):
+        if not control_holds(pool, sorted({seen for _, _, seen in faults}), options):
+            print("faults: the control does not hold, so that nothing is found")
+            return 1
+        print("%3s  %-32s %-10s %s" % ("n", "fault", "first seed", "of %d histories find it" % options.count))
+        for (name, number, _), seeds in pool.imap(judged, ((fault, options) for fault in faults)):
+            finding, broken = seeds[compare.DIFFERENT], len(seeds[compare.BROKEN])
             missed += not finding
-            print("%3d  %-32s %-10s %d" % (number, name, finding[0] if finding else "NOT FOUND",
-                                           len(finding)), flush=True)
+            print("%3d  %-32s %-10s %d%s" % (number, name, finding[0] if finding else "NOT FOUND", len(finding),
+                                             ", %d broken" % broken if broken else ""), flush=True)
     print("faults: %d of %d found within %d histories, %.0f s"
           % (len(faults) - missed, len(faults), options.count, time.monotonic() - began))
-    return 1 if missed else 0
+    return 1 if missed or not faults else 0
 
 
 if __name__ == "__main__":

@@ -1,7 +1,15 @@
-/* Tables of garbage: random tables, and well-formed tables with some bytes altered, kept
-   through further calls. No call may crash; the number is one of the ten; a refused call
-   alters nothing. For the independent implementation, to be run under the sanitizers; built
-   with -DPREFIX=serifladder for the product. */
+/* Tables of garbage that is near: the tables of real histories with a few bytes altered, mostly where the control of a
+   session stands, and further calls over them. For the independent implementation, to be run under the sanitizers; built
+   with -DPREFIX=serifladder for the product.
+
+       garbage < histories
+
+   A call answers 2 exactly where the table is not well formed, by the rule that stands in docs/TABLE.md and, of the
+   independent implementation, in tests/README.md; both are said again here. A refused call alters no byte of table or
+   output; one that is done leaves the output past its written bytes, and a table that is well formed. Pages that may not
+   be touched lie behind all that is lent, and before the table. Exit status 0: all so, and a count over its bound in a
+   started, subscribed session was met often enough. */
+#define _DEFAULT_SOURCE /* MAP_ANONYMOUS */
 #include "../independent/independent.h"
 
 #ifdef PREFIX
@@ -16,24 +24,121 @@
 #define independent_record NAMED(PREFIX, record)
 #endif
 
-#include <stdio.h>
-#include <stdlib.h>
+#include "histories.h"
+
 #include <string.h>
+#include <sys/mman.h>
 
-enum { ROUNDS = 20000, CALLS = 40 };
+enum {
+    TABLE = INDEPENDENT_TABLE_BYTES,
+    OUTPUT = INDEPENDENT_OUTPUT_BYTES,
+    ANSWER = INDEPENDENT_ANSWER_BYTES,
+    SESSIONS = 4,
+    KINDS = 2,
+    CALLS_ASIDE = 4,
+    PAGE = 4096,
+    LEAST_OVER = 1000, /* calls over a table with a count over its bound in a started, subscribed session */
+    LEAST_NEAR = 5000  /* calls over an altered table that is well formed */
+};
 
-/* Where the counts of a session stand in the table: independent.c, docs/TABLE.md. */
+static const unsigned HELD_AT_MOST[KINDS] = { 2, 8 };
+
+/* ---- where a table's control stands, and which tables are well formed */
+
 #ifdef PREFIX
-enum { USED = 5120, FIRST_SESSION = 1024, SESSION_SIZE = 1024, COUNTS = 80 };
+
+enum { USED = 5120, MARK_SIZE = 8, FIRST_SESSION = 1024, SESSION_SIZE = 1024, RUN_COUNT = 32, CONTROL_SIZE = 10, SHARED_SIZE = 81 };
+static const unsigned CONTROL[CONTROL_SIZE] = { 0, 1, 2, 3, 4, 5, 6, 7, RUN_COUNT, RUN_COUNT + 1 };
+static const unsigned SUBSCRIBED[KINDS] = { 2, 5 }, COUNT[KINDS] = { 4, 7 };
+
+static bool session_formed(const uint8_t *session)
+{
+    static const uint8_t GREATEST[] = { 2, 14, 2, 119, 2, 2, 119, 8 };
+    for (unsigned i = 0; i < sizeof GREATEST; i++)
+        if (session[i] > GREATEST[i])
+            return false;
+    if (session[RUN_COUNT] + 256 * session[RUN_COUNT + 1] > 10000)
+        return false;
+    return session[0] == 2 || (session[SUBSCRIBED[0]] == 0 && session[SUBSCRIBED[1]] == 0);
+}
+
+static bool shared_formed(const uint8_t *table)
+{
+    return memcmp(table, "SERIFLAD", MARK_SIZE) == 0;
+}
+
 #else
-enum { USED = 7400, FIRST_SESSION = 66, SESSION_SIZE = 1797, COUNTS = 59 };
+
+enum { USED = 7254, MARK_SIZE = 8, FIRST_SESSION = 66, SESSION_SIZE = 1797, RUN_COUNT = 2, CONTROL_SIZE = 14, SHARED_SIZE = 66 };
+enum { TEXT = 25, RESULT = 211 };
+static const unsigned CONTROL[CONTROL_SIZE] = { 0, 1, RUN_COUNT, RUN_COUNT + 1, 49, 50, 51, 52, 53, 54, 55, 56, 57, 58 };
+static const unsigned SUBSCRIBED[KINDS] = { 49, 54 }, COUNT[KINDS] = { 52, 57 };
+
+static bool is_text(const uint8_t *bytes, size_t count)
+{
+    for (size_t i = 0; i < count; i++)
+        if (bytes[i] < ' ' || bytes[i] > '~')
+            return false;
+    return true;
+}
+
+/* Of a kind: subscribed, free, revision, count and clock. */
+static bool subscription_formed(const uint8_t *part, unsigned kind, bool started)
+{
+    if (part[0] > 1 || part[1] > 1 || part[3] > HELD_AT_MOST[kind] || part[4] > 119)
+        return false;
+    if (part[0] == 0)
+        return part[1] == 0 && part[2] == 0 && part[3] == 0 && part[4] == 0;
+    return started && part[2] >= 1 && part[2] <= 2 - kind && (part[1] == 0 || part[3] == 0)
+        && (part[3] > 0 || part[4] == 0);
+}
+
+static bool session_formed(const uint8_t *session)
+{
+    unsigned run = session[RUN_COUNT] + 256u * session[RUN_COUNT + 1], kept = run < 45 ? run : 45;
+    if (session[0] > 2 || session[1] > 14 || run > 10000 || memchr(session + 4, 0, kept) != NULL)
+        return false;
+    if (session[0] == 0 && (session[1] > 0 || run > 0))
+        return false;
+    for (unsigned kind = 0; kind < KINDS; kind++)
+        if (!subscription_formed(session + SUBSCRIBED[kind], kind, session[0] == 2))
+            return false;
+    return is_text(session + 59, TEXT * session[COUNT[0]]) && is_text(session + 109, RESULT * session[COUNT[1]]);
+}
+
+static bool shared_formed(const uint8_t *table)
+{
+    return memcmp(table, "op-indep", MARK_SIZE) == 0 && table[8] + 256 * table[9] <= 9999 && table[10] <= 99
+        && table[11] <= 1 && is_text(table + 12, TEXT) && is_text(table + 41, TEXT);
+}
+
 #endif
 
-static uint8_t table[INDEPENDENT_TABLE_BYTES], before[INDEPENDENT_TABLE_BYTES];
-static uint8_t output[INDEPENDENT_OUTPUT_BYTES];
-static uint8_t answer[INDEPENDENT_ANSWER_BYTES];
-static uint64_t dice = 88172645463325252u;
-static unsigned long numbers[11]; /* how often each was answered */
+static bool table_formed(const uint8_t *table)
+{
+    for (unsigned s = 0; s < SESSIONS; s++)
+        if (!session_formed(table + FIRST_SESSION + s * SESSION_SIZE))
+            return false;
+    return shared_formed(table);
+}
+
+static bool count_over_its_bound(const uint8_t *table)
+{
+    for (unsigned s = 0; s < SESSIONS; s++) {
+        const uint8_t *session = table + FIRST_SESSION + s * SESSION_SIZE;
+        for (unsigned kind = 0; kind < KINDS; kind++)
+            if (session[0] == 2 && session[SUBSCRIBED[kind]] != 0 && session[COUNT[kind]] > HELD_AT_MOST[kind])
+                return true;
+    }
+    return false;
+}
+
+/* ---- the calls */
+
+static uint8_t *table, *output, *answer, *given; /* what is lent */
+static uint8_t before[TABLE], output_before[OUTPUT], kept[TABLE];
+static uint64_t dice;
+static unsigned long numbers[11], aside_count, over_count, near_count;
 
 static unsigned roll(unsigned below)
 {
@@ -43,27 +148,78 @@ static unsigned roll(unsigned below)
     return (unsigned)(dice >> 33) % below;
 }
 
-static void note(uint64_t number)
+/* As many bytes, with a page that may not be touched behind them, and one before the page that they begin in. */
+static uint8_t *fenced(size_t size)
 {
-    if (number > 10)
-        abort();
-    numbers[number] += 1;
-    if (number != 0 && memcmp(table, before, sizeof table) != 0) {
-        fprintf(stderr, "refused with %u, but the table altered\n", (unsigned)number);
-        abort();
+    size_t room = (size + PAGE - 1) / PAGE * PAGE;
+    uint8_t *pages = mmap(NULL, room + 2 * PAGE, PROT_NONE, MAP_PRIVATE | MAP_ANONYMOUS, -1, 0);
+    if (pages == MAP_FAILED || mprotect(pages + PAGE, room, PROT_READ | PROT_WRITE) != 0) {
+        perror("mmap");
+        exit(2);
+    }
+    return pages + PAGE + room - size;
+}
+
+static void wrong(const char *why, uint64_t number)
+{
+    printf("garbage: answered %u: %s\n", (unsigned)number, why);
+    exit(1);
+}
+
+static uint64_t answered(unsigned which)
+{
+    uint64_t value = 0;
+    for (unsigned b = 8; b > 0; b--)
+        value = value << 8 | answer[8 * which + b - 1];
+    return value;
+}
+
+static uint64_t make_call(const struct asked *asked)
+{
+    uint8_t *slice = given + 2 * PAYLOAD_GREATEST - asked->given_length;
+    if (asked->given_length > 0)
+        memcpy(slice, asked->given, asked->given_length);
+    switch (asked->what) {
+    case START:
+        return independent_start(table, TABLE, slice, asked->given_length, answer, ANSWER);
+    case OPEN:
+        return independent_open(table, TABLE, output, OUTPUT, asked->session, answer, ANSWER);
+    case HANG_UP:
+        return independent_hang_up(table, TABLE, output, OUTPUT, asked->session, answer, ANSWER);
+    case BYTES:
+        return independent_bytes(table, TABLE, output, OUTPUT, asked->session, slice, asked->given_length, answer, ANSWER);
+    case TICK:
+        return independent_tick(table, TABLE, output, OUTPUT, answer, ANSWER);
+    default:
+        return independent_record(table, TABLE, output, OUTPUT, slice, asked->given_length, answer, ANSWER);
     }
 }
 
-static void begin(void)
+/* A call, and whether it kept to what stands above. */
+static void checked_call(const struct asked *asked)
 {
-    uint8_t settings[37] = { 33, 0, 3, 0, 1, 0, 1, 1 };
-    memset(settings + 8, 'n', 25);
-    settings[33] = (uint8_t)roll(256);
-    memcpy(before, table, sizeof table);
-    note(independent_start(table, sizeof table, settings, sizeof settings, answer, sizeof answer));
+    bool formed = asked->what == START || table_formed(table);
+    memcpy(before, table, TABLE);
+    memset(output, (int)roll(256), OUTPUT);
+    memcpy(output_before, output, OUTPUT);
+    uint64_t number = make_call(asked);
+    if (number > 9 || number != answered(0))
+        wrong("not one of the numbers, or not the one returned", number);
+    if ((number == 2) == formed)
+        wrong(formed ? "but the table is well formed" : "but the table is not well formed", number);
+    numbers[number] += 1;
+    uint64_t written = answered(2);
+    if (number != 0 && (memcmp(table, before, TABLE) != 0 || (answered(1) | written | answered(3)) != 0))
+        wrong("refused, but the table altered, or the answer not 0", number);
+    if (written > OUTPUT || memcmp(output + written, output_before + written, OUTPUT - written) != 0)
+        wrong("output past the written bytes altered", number);
+    if (number == 0 && !table_formed(table))
+        wrong("the table is left not well formed", number);
 }
 
-static void send(uint64_t session)
+/* ---- garbage */
+
+static struct asked a_message(uint64_t session)
 {
     static const char *const MESSAGES[] = {
         "00200001001         ", "00200051002         ", "002000600010        ",
@@ -71,89 +227,128 @@ static void send(uint64_t session)
         "00300050            ABCDEFGHIJ", "00200003            ", "00200063            ", "0020",
     };
     const char *text = MESSAGES[roll(10)];
-    size_t length = strlen(text) + roll(2);
-    note(independent_bytes(table, sizeof table, output, sizeof output, session,
-                           (const uint8_t *)text, length, answer, sizeof answer));
+    return (struct asked){ BYTES, session, (const uint8_t *)text, strlen(text) + roll(2) };
 }
 
-static void tighten(void)
+static struct asked a_tightening(void)
 {
-    uint8_t record[110] = { 106, 0, 1, 0 };
+    static uint8_t record[110] = { 106, 0, 1, 0 };
     memset(record + 4, ' ', 25);
     memcpy(record + 71, "2024-01-02:03:04:05", 19);
     memcpy(record + 90, "2024-01-02:03:04:05", 19);
-    note(independent_record(table, sizeof table, output, sizeof output, record, sizeof record,
-                            answer, sizeof answer));
+    return (struct asked){ RECORD, 0, record, sizeof record };
 }
 
-static void scan(void)
+static struct asked a_scan(void)
 {
-    uint8_t record[29] = { 25, 0, 2, 0 };
+    static uint8_t record[29] = { 25, 0, 2, 0 };
     memset(record + 4, 'i', 25);
-    note(independent_record(table, sizeof table, output, sizeof output, record, sizeof record,
-                            answer, sizeof answer));
+    return (struct asked){ RECORD, 0, record, sizeof record };
 }
 
-static void any_call(void)
+static struct asked any_call(void)
 {
     uint64_t session = roll(4);
-    memcpy(before, table, sizeof table);
     switch (roll(8)) {
     case 0:
-        note(independent_open(table, sizeof table, output, sizeof output, session,
-                              answer, sizeof answer));
-        break;
+        return (struct asked){ OPEN, session, NULL, 0 };
     case 1:
-        if (roll(8) == 0)
-            note(independent_hang_up(table, sizeof table, output, sizeof output, session,
-                                     answer, sizeof answer));
-        break;
+        return (struct asked){ HANG_UP, session, NULL, 0 };
     case 2:
-        tighten();
-        break;
+        return a_tightening();
     case 3:
-        scan();
-        break;
+        return a_scan();
     case 4:
-        note(independent_tick(table, sizeof table, output, sizeof output, answer, sizeof answer));
-        break;
+    case 5:
+        return (struct asked){ TICK, 0, NULL, 0 };
     default:
-        send(session);
-        break;
+        return a_message(session);
     }
 }
 
-/* A place in the table: half the time anywhere, else where a session's counts stand.
-   Should the layout change, the aim is only worse. */
-static unsigned place(void)
+/* A run that is being received, of a length at an edge. */
+static void spoil_run(uint8_t *session)
 {
-    if (roll(2))
-        return roll(USED);
-    return FIRST_SESSION + roll(4) * SESSION_SIZE + roll(COUNTS);
+    static const unsigned LENGTHS[] = { 0, 1, 44, 45, 46, 9999, 10000, 10001, 65535 };
+    unsigned length = LENGTHS[roll(sizeof LENGTHS / sizeof *LENGTHS)];
+    session[RUN_COUNT] = (uint8_t)(length & 255);
+    session[RUN_COUNT + 1] = (uint8_t)(length >> 8);
+    memset(session + RUN_COUNT + 2, 'x', 45);
+    if (roll(4) == 0)
+        session[RUN_COUNT + 2 + roll(45)] = 0;
 }
 
-/* A few bytes of a table in use become something else. */
+/* Another value for a byte: near its own, at an edge of what controls and texts hold, or any. */
+static uint8_t another(uint8_t byte)
+{
+    static const uint8_t EDGES[] = { 0, 1, 2, 3, 8, 9, 14, 15, 16, 17, 31, 32, 39, 40, 99, 100, 119, 120, 126, 127, 255 };
+    switch (roll(4)) {
+    case 0:
+        return (uint8_t)roll(256);
+    case 1:
+        return EDGES[roll(sizeof EDGES)];
+    default:
+        return (uint8_t)(byte + roll(8) - 3);
+    }
+}
+
+/* Mostly a byte of a session's control; else one of what all share, a run, or any byte that is used; seldom everything, or
+   everything but the mark. */
 static void spoil(void)
 {
-    for (unsigned i = roll(3) + 1; i > 0; i--)
-        table[place()] = (uint8_t)(roll(3) ? roll(12) : roll(256));
+    unsigned sort = roll(200);
+    if (sort < 2) {
+        for (unsigned i = sort ? MARK_SIZE : 0; i < USED; i++)
+            table[i] = (uint8_t)roll(256);
+        return;
+    }
+    for (unsigned i = roll(3) + 1; i > 0; i--) {
+        uint8_t *session = table + FIRST_SESSION + roll(SESSIONS) * SESSION_SIZE;
+        unsigned where = roll(12);
+        uint8_t *byte = where == 0 ? table + roll(USED) : where == 1 ? table + roll(SHARED_SIZE) : session + CONTROL[roll(CONTROL_SIZE)];
+        if (where == 2)
+            spoil_run(session);
+        else
+            *byte = another(*byte);
+    }
+}
+
+/* Calls over the spoilt table, which afterwards is as it was. */
+static void aside(const struct asked *asked)
+{
+    memcpy(kept, table, TABLE);
+    spoil();
+    for (unsigned i = 0; i < CALLS_ASIDE; i++) {
+        struct asked call = i == 0 && asked->what != START ? *asked : any_call();
+        over_count += count_over_its_bound(table);
+        near_count += table_formed(table);
+        aside_count += 1;
+        checked_call(&call);
+    }
+    memcpy(table, kept, TABLE);
+}
+
+static void serve_history(const uint8_t *data, size_t size, uint32_t seed)
+{
+    struct asked asked;
+    dice = seed * 2654435761u + 88172645463325252u;
+    memset(table, 0, TABLE);
+    for (size_t at = 0; next_asked(data, size, &at, &asked);) {
+        checked_call(&asked);
+        if (roll(2))
+            aside(&asked);
+    }
 }
 
 int main(void)
 {
-    for (unsigned round = 0; round < ROUNDS; round++) {
-        if (round % 50 == 0)
-            for (unsigned i = 0; i < sizeof table; i++)
-                table[i] = (uint8_t)roll(256);
-        else
-            begin();
-        for (unsigned call = 0; call < CALLS; call++) {
-            any_call();
-            if (roll(12) == 0)
-                spoil();
-        }
-    }
-    printf("garbage: %lu calls done, %lu answered 2, %lu answered 5 or 6, no crash\n",
-           numbers[0], numbers[2], numbers[5] + numbers[6]);
-    return 0;
+    table = fenced(TABLE);
+    output = fenced(OUTPUT);
+    answer = fenced(ANSWER);
+    given = fenced(2 * PAYLOAD_GREATEST);
+    serve_input(serve_history);
+    printf("garbage: %lu calls over altered tables: %lu of them well formed, %lu with a count over its bound in a\n"
+           "started, subscribed session; in all %lu done, %lu answered 2, %lu answered 5 or 6, no crash\n",
+           aside_count, near_count, over_count, numbers[0], numbers[2], numbers[5] + numbers[6]);
+    return over_count < LEAST_OVER || near_count < LEAST_NEAR;
 }

@@ -1,13 +1,15 @@
 #!/usr/bin/env python3
 """Prints a history as house records, for a seed.
 
-    generate.py SEED [--records N]
+    generate.py SEED [--records N] [--framed COUNT]
 
 The history is aimed at deep states. It is made of stretches, each of one sort, so that
 long orderly ones (which reach clocks of 120 and full queues) alternate with disorder.
 The generator keeps a rough idea of what stands at the other end (is the session up, how
 long was it silent) to stay in deep states; it does not know the rules, and its idea
-may be wrong. The same seed always gives the same history."""
+may be wrong. The same seed always gives the same history.
+
+--framed writes those of COUNT seeds, SEED and on, as the programs of tests/compare read them."""
 
 import argparse
 import random
@@ -18,6 +20,7 @@ TIGHTENING, SCANNED, SETTINGS = 1, 2, 3
 OPEN, HANG_UP, BYTES, TICK = 16, 32, 48, 64
 GREATEST_NUMBER = 4294967295
 GREATEST_PAYLOAD = 8192
+LONG_EVERY = 25  # of as many seeds one gives a history three times as long, in which a whole queue is given up
 
 KNOWN = (1, 3, 50, 51, 53, 54, 60, 62, 63, 9999)
 OTHERS = (0, 2, 4, 5, 6, 10, 49, 52, 55, 59, 61, 64, 65, 70, 71, 72, 73, 100, 999, 1001,
@@ -27,6 +30,7 @@ REVISIONS = (b"001", b"000", b"   ", b"002", b"003", b"004", b"010", b"011", b"1
 GOOD_REVISIONS = (b"001", b"001", b"000", b"   ")
 BAD_REVISIONS = (b"0  ", b"  1", b"00 ", b" 01", b"1  ", b"0 1", b"00a", b"/00", b"00:", b"-01",
                  b"\xb0\xb01", b"  \x1f")
+NO_DIGITS = (0x20, 0x2F, 0x3A, 0x3B, 0x3C, 0x3D, 0x3E, 0x3F, 0x2B, 0x2D, 0x41, 0xB0, 0x1F)
 TICK_RECORD = struct.pack("<HH", 0, TICK)
 
 
@@ -53,7 +57,8 @@ class Session:
 class History:
     def __init__(self, seed, count):
         self.random = random.Random(seed)
-        self.count = count
+        self.long = seed % LONG_EVERY == 0
+        self.count = 3 * count if self.long else count
         self.records = []
         self.sessions = [Session() for _ in range(4)]
         self.manner = "whole"  # how messages are cut into records
@@ -219,6 +224,14 @@ class History:
     def twelve(self):
         return self.pick((b" ", b" ", b"0", b"1"))
 
+    def any_revision(self):
+        """Mostly one at an edge, else any of the thousand."""
+        return b"%03d" % self.between(0, 999) if self.chance(0.4) else self.pick(REVISIONS)
+
+    def other_number(self):
+        """A message number that is not known, mostly one near those that are."""
+        return self.between(0, 9999) if self.chance(0.6) else self.pick(OTHERS)
+
     def begin(self, s):
         self.send(s, message(1, self.pick(GOOD_REVISIONS), self.twelve(), self.rest()))
         session = self.sessions[s]
@@ -232,7 +245,7 @@ class History:
         twelve = b"1" if free else self.pick((b"0", b" "))
         revision = self.pick(GOOD_REVISIONS if mid == 60 else GOOD_REVISIONS + (b"002", b"002"))
         if self.chance(0.05):  # first one that may be too high
-            self.send(s, message(mid, self.pick(REVISIONS), twelve, self.rest()))
+            self.send(s, message(mid, self.any_revision(), twelve, self.rest()))
         self.send(s, message(mid, revision, twelve, self.rest()))
 
     def acknowledge(self, s, mid=None):
@@ -254,7 +267,7 @@ class History:
         if sort < 0.6:
             self.send(s, message(9999, self.pick(REVISIONS), self.twelve(), self.rest()))
         elif sort < 0.7:
-            self.send(s, message(self.pick(OTHERS), self.pick(REVISIONS), self.twelve()))
+            self.send(s, message(self.other_number(), self.any_revision(), self.twelve()))
         elif sort < 0.8:
             self.subscribe(s, self.pick((51, 60)))
         elif sort < 0.9:
@@ -264,8 +277,8 @@ class History:
 
     def any_message(self, s):
         """A message with every part near an edge."""
-        mid = self.pick(KNOWN) if self.chance(0.85) else self.pick(OTHERS)
-        revision = self.pick(GOOD_REVISIONS) if self.chance(0.6) else self.pick(REVISIONS)
+        mid = self.pick(KNOWN) if self.chance(0.85) else self.other_number()
+        revision = self.pick(GOOD_REVISIONS) if self.chance(0.6) else self.any_revision()
         usual = self.between(1, 25) if mid == 50 else 0
         if self.chance(0.3):
             usual = self.pick((0, 1, 2, 24, 25, 26, 27, 80))
@@ -281,9 +294,11 @@ class History:
         return self.odd_byte(data) if data and self.chance(0.25) else data
 
     def odd_byte(self, data):
-        """The same with one byte at or past an end of the range of texts."""
+        """The same with one byte at or past an end of the range of texts, or any."""
         where = self.between(0, len(data) - 1)
         byte = self.pick((0x1F, 0x20, 0x7E, 0x7F, 0x7F, 0x80, 0xFF, 1, 10))
+        if self.chance(0.3):
+            byte = self.between(1, 255)
         return data[:where] + bytes([byte]) + data[where + 1:]
 
     def near_miss(self, s):
@@ -294,11 +309,16 @@ class History:
             lie = self.pick((19, 21, 0, 20, 120, 2000, 22))
             good[0:4] = b"%04d" % lie
         elif sort == 1:  # no digit in length or MID
-            good[self.between(0, 7)] = self.pick((0x20, 0x2F, 0x3A, 0x2B, 0x2D, 0x41, 0xB0, 0x1F))
+            good[self.between(0, 7)] = self.pick(NO_DIGITS)
         elif sort == 2:
             good[8:11] = self.pick(BAD_REVISIONS)
+            if self.chance(0.5):
+                good[8:11] = b"001"
+                good[self.between(8, 10)] = self.pick(NO_DIGITS)
         elif sort == 3:
             good[11] = self.pick((0x2F, 0x32, 0x33, 0x39, 0x21, 0x1F, 0x41, 0xB0, 0x20, 0x30, 0x31))
+            if self.chance(0.4):
+                good[11] = self.between(1, 255)
         elif sort == 4:  # short runs that tell their length truly
             size = self.between(0, 19)
             good = bytearray((b"%04d" % size + bytes(good[4:]))[:size] + b"\0")
@@ -330,7 +350,7 @@ class History:
             if place == 0:
                 text[where] = self.pick((0x1F, 0x7F, 0, 0x80, 0xFF))
             else:
-                text[where] = self.pick((0x2F, 0x3A, 0x2D, 0x30, 0x20, 0x39, 0x2C, 0x2E))
+                text[where] = self.pick((0x2F, 0x3A, 0x2D, 0x30, 0x20, 0x39, 0x2C, 0x2E, self.between(0, 255)))
             fields[place] = bytes(text)
         return self.tightening_payload(fields)
 
@@ -350,6 +370,9 @@ class History:
         return bytes(payload)
 
     def wrong_size(self, payload):
+        """One byte too few or too many, or so many that only the upper byte of the length is another."""
+        if self.chance(0.3):
+            return bytes(payload) + b" " * 256 * self.pick((1, 1, 2, 16))
         return bytes(payload[:-1]) if self.chance(0.5) else bytes(payload) + b" "
 
     def bad_record(self):
@@ -663,6 +686,38 @@ class History:
         self.bring_up(s)
         self.event()
 
+    def all_anew(self):
+        """All four links made anew, subscribed to identifiers in revision 2 and to tightenings, with acknowledges."""
+        self.manner = "whole"
+        for s in range(4):
+            self.hang_up(s)
+            self.open(s)
+            self.begin(s)
+            self.send(s, message(51, b"002") + message(60))
+
+    def fullest(self):
+        """As much output as a call can have: a 0050 and a tightening that go to all, and two copies to each."""
+        self.all_anew()
+        self.send(self.between(0, 3), message(50, data=self.text().replace(b" ", b".")))
+        self.tightening()
+        self.watch(self.pick((19, 20, 20, 21, 41)))
+        if self.chance(0.3):
+            for s in range(4):
+                self.acknowledge(s, self.pick((53, 62)))
+
+    def all_given_up(self):
+        """Eight tightenings and two identifiers, none of them acknowledged: one after the other is given up."""
+        self.all_anew()
+        for _ in range(self.between(8, 10)):
+            self.tightening()
+        for _ in range(self.between(1, 3)):
+            self.scan()
+        for tick in range(self.pick((840, 841, 960, 965))):
+            if tick % 13 == 0:
+                for s in range(4):
+                    self.send(s, message(62, data=b"x"))
+            self.tick()
+
     def unstarted(self):
         """An opened session that talks but does not start."""
         self.manner = self.pick(("whole", "cut"))
@@ -724,13 +779,15 @@ class History:
         (10, "long_watch"), (10, "steady"), (6, "flood"), (6, "identifiers"), (9, "chatter"),
         (6, "ladder"), (4, "bad_records"), (10, "lifecycle"), (7, "resubscribe"), (1.5, "long_run"),
         (7, "idle_edge"), (4, "time_out_in_step"), (4, "unstarted"), (1.5, "second_start"),
-        (1, "numbers_end"),
+        (1, "numbers_end"), (2, "fullest"),
     )
 
     def make(self):
         if self.chance(0.08):
             self.before_start()
         self.start()
+        if self.long:
+            self.all_given_up()
         weights = [weight for weight, _ in self.STRETCHES]
         names = [name for _, name in self.STRETCHES]
         while not self.full():
@@ -750,12 +807,20 @@ def generate(seed, count=500):
     return History(seed, count).make()
 
 
+def framed(data, seed):
+    """A history behind its length and its seed, for programs that read many: compare/histories.h."""
+    return struct.pack("<II", len(data), seed) + data
+
+
 def main():
     parser = argparse.ArgumentParser(description=__doc__.splitlines()[0])
     parser.add_argument("seed", type=int)
     parser.add_argument("--records", type=int, default=500)
+    parser.add_argument("--framed", type=int, metavar="COUNT")
     arguments = parser.parse_args()
-    sys.stdout.buffer.write(generate(arguments.seed, arguments.records))
+    for seed in range(arguments.seed, arguments.seed + (arguments.framed or 1)):
+        data = generate(seed, arguments.records)
+        sys.stdout.buffer.write(framed(data, seed) if arguments.framed else data)
 
 
 if __name__ == "__main__":

@@ -225,11 +225,11 @@ struct tightening {
     const uint8_t *identifier;
     uint32_t job, set, batch_size, batch_counter;
     uint32_t status, torque_status, angle_status;
+    uint32_t batch_status;
     uint32_t torque[4]; /* min, max, target, torque */
     uint32_t angle[4];  /* min, max, target, angle */
     const uint8_t *time;
     const uint8_t *change_time;
-    uint32_t batch_status;
 };
 
 /* Is the slice exactly one record of this kind with a payload of this size? */
@@ -1279,6 +1279,8 @@ static uint64_t enter(const uint8_t *table, size_t table_len, size_t output_len,
 {
     if (table_len < INDEPENDENT_TABLE_BYTES)
         return TABLE_SHORT;
+    if (FAULT == OUTPUT_BEFORE_TABLE && output_len < INDEPENDENT_OUTPUT_BYTES)
+        return OUTPUT_SHORT;
     if (!load(table, state))
         return TABLE_NOT_WELL_FORMED;
     if (output_len < INDEPENDENT_OUTPUT_BYTES)

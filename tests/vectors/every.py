@@ -1,0 +1,456 @@
+"""Vectors by rule: every value of a byte or a number, where a file of lines would be too long.
+
+Each case is house records and the lines that document 01 asks for, reckoned here from its
+rules for one session that talks alone, and from its arithmetic of ticks for several."""
+
+import struct
+
+import history
+
+CELL, CHANNEL, NAME, LAST = 12, 3, b"LINE4".ljust(25), 41
+NUMBER_GREATEST = 4294967295
+DIGITS = b"0123456789"
+SPACES = b" " * 25
+
+# Of each message: least and greatest length, greatest revision (none: not read).
+RULES = {1: (20, 20, 1), 3: (20, 20, None), 50: (21, 45, 1), 51: (20, 20, 2), 53: (20, 20, None), 54: (20, 20, None),
+         60: (20, 20, 1), 62: (20, 20, None), 63: (20, 20, None), 9999: (20, 20, None)}
+SUBSCRIBED, NOT_SUBSCRIBED = {51: 6, 60: 9}, {54: 7, 63: 10}
+SUBSCRIPTION = {51: 51, 54: 51, 60: 60, 63: 60}
+
+
+def message(mid, revision=b"001", twelve=b" ", data=b""):
+    return b"%04d%04d" % (20 + len(data), mid) + revision + twelve + b" " * 8 + data
+
+
+def framed(mid, data, revision=1, twelve=b" "):
+    return b"%04d%04d%03d" % (20 + len(data), mid, revision) + twelve + b" " * 8 + data
+
+
+def is_text(text):
+    return min(text, default=0x20) >= 0x20 and max(text, default=0x20) <= 0x7E
+
+
+def is_time(text):
+    marks = dict(zip((4, 7, 10, 13, 16), b"--:::"))
+    return all(byte == marks[place] if place in marks else byte in DIGITS for place, byte in enumerate(text))
+
+
+def read_header(run):
+    """The message number, the revision and whether no acknowledge is asked; None for a run that is no message."""
+    digits, revision, twelve = run[:8], run[8:11], run[11:12]
+    if not 20 <= len(run) <= 9999 or not digits.isdigit() or int(digits[:4]) != len(run):
+        return None
+    if (revision != b"   " and not revision.isdigit()) or twelve not in (b"0", b"1", b" "):
+        return None
+    return int(digits[4:]), (0 if revision == b"   " else int(revision)) or 1, twelve == b"1"
+
+
+def identifier_frame(subscription, identifier):
+    revision, free = subscription
+    data = b"01" + identifier + (b"02%s03%s04%s" % (SPACES, SPACES, SPACES) if revision == 2 else b"")
+    return framed(52, data, revision, b"1" if free else b"0")
+
+
+def result_frame(subscription, fields, identifier, number):
+    """0061 of a tightening, its fields by the names of history.FIELDS."""
+    texts = [b"%04d" % CELL, b"%02d" % CHANNEL, NAME, identifier, b"%02d" % fields["job"], b"%03d" % fields["set"],
+             b"%04d" % fields["size"], b"%04d" % fields["counter"]]
+    texts += [b"%d" % fields[name] for name in ("status", "torque_status", "angle_status")]
+    texts += [b"%06d" % fields[name] for name in ("torque_min", "torque_max", "torque_target", "torque")]
+    texts += [b"%05d" % fields[name] for name in ("angle_min", "angle_max", "angle_target", "angle")]
+    texts += [fields["time"], fields["change"], b"%d" % fields["batch_status"], b"%010d" % number]
+    data = b"".join(b"%02d%s" % (place, text) for place, text in enumerate(texts, 1))
+    return framed(61, data, 1, b"1" if subscription[1] else b"0")
+
+
+LIMITS = {"job": 99, "set": 999, "size": 9999, "counter": 9999, "status": 1, "torque_status": 2, "angle_status": 2,
+          "batch_status": 2}
+LIMITS.update({name: 999999 for name in ("torque_min", "torque_max", "torque_target", "torque")})
+LIMITS.update({name: 99999 for name in ("angle_min", "angle_max", "angle_target", "angle")})
+
+
+def tightening_fields(**named):
+    fields = {name: value for name, _, value in history.FIELDS}
+    fields.update(named)
+    fields["identifier"] = fields["identifier"].ljust(25)
+    return fields
+
+
+def tightening_payload(fields):
+    return history.TIGHTENING_FORM.pack(*(fields[name] for name in history.NAMES))
+
+
+def tightening_good(fields):
+    return is_text(fields["identifier"]) and is_time(fields["time"]) and is_time(fields["change"]) \
+        and all(fields[name] <= limit for name, limit in LIMITS.items())
+
+
+class Case:
+    """Records and the lines expected of them."""
+
+    def __init__(self, granted=1):
+        self.records, self.lines, self.last, self.in_force, self.granted = [], [], LAST, SPACES, granted
+        self.put(history.SETTINGS, history.SETTINGS_FORM.pack(CELL, CHANNEL, granted, NAME, LAST))
+
+    def put(self, kind, payload=b""):
+        self.records.append(history.record(kind, payload))
+
+    def expect(self, frame, s=0):
+        self.lines.append("%d S %s" % (s, frame.decode("latin-1").replace(" ", "_")))
+
+    def refused(self, number):
+        self.lines.append("R %d" % number)
+
+    def named(self, name):
+        return "every.py: " + name, b"".join(self.records), "".join(line + "\n" for line in self.lines)
+
+
+class Alone(Case):
+    """Session 0, which talks alone, and what it hears."""
+
+    def __init__(self, granted=1):
+        super().__init__(granted)
+        self.started, self.subscribed, self.waiting = False, {}, b""
+        self.put(history.OPEN)
+
+    # ---- sent
+
+    def send(self, *runs):
+        """Runs to the session, as few records as hold them."""
+        for run in runs:
+            if len(self.waiting) + len(run) + 1 > 8192:
+                self.flush()
+            self.waiting += run + b"\0"
+            for part in run.split(b"\0"):
+                self.hear(part)
+
+    def flush(self):
+        self.put(history.BYTES, self.waiting)
+        self.waiting = b""
+
+    def begin(self, *subscriptions):
+        self.send(message(1), *subscriptions)
+
+    def scan(self, text):
+        self.flush()
+        self.put(history.SCANNED, text)
+        if len(text) == 25 and is_text(text):
+            self.identified(text)
+        else:
+            self.refused(7)
+
+    def tighten(self, fields):
+        self.flush()
+        self.put(history.TIGHTENING, tightening_payload(fields))
+        if not tightening_good(fields):
+            self.refused(7)
+            return
+        self.last += 1
+        if 60 in self.subscribed:
+            own = fields["identifier"]
+            self.expect(result_frame(self.subscribed[60], fields, self.in_force if own == SPACES else own, self.last))
+
+    # ---- heard
+
+    def accept(self, mid):
+        self.expect(framed(5, b"%04d" % mid))
+
+    def turn_down(self, mid, error):
+        self.expect(framed(4, b"%04d%02d" % (mid, error)))
+
+    def form_error(self, run, mid, revision):
+        least, greatest, revisions = RULES[mid]
+        return 1 if not least <= len(run) <= greatest else 97 if revisions and revision > revisions else 0
+
+    def hear(self, run):
+        header = read_header(run)
+        if header is None:
+            return
+        mid, revision, free = header
+        if not self.started:
+            if mid == 1:
+                self.hear_start(self.form_error(run, mid, revision))
+        elif mid not in RULES:
+            self.turn_down(mid, 99)
+        elif mid == 1:
+            self.turn_down(mid, 96)
+        elif mid not in (53, 62):
+            error = self.form_error(run, mid, revision)
+            if error:
+                self.turn_down(mid, error)
+            else:
+                self.hear_good(run, mid, (revision, free))
+
+    def hear_start(self, error):
+        if error:
+            self.turn_down(1, error)
+            return
+        self.started = True
+        self.expect(framed(2, b"01%04d02%02d03%s" % (CELL, CHANNEL, NAME)))
+
+    def hear_good(self, run, mid, subscription):
+        if mid == 3:
+            self.started, self.subscribed = False, {}
+            self.accept(mid)
+        elif mid == 9999:
+            self.expect(run)
+        elif mid == 50:
+            self.hear_download(run[20:])
+        elif (SUBSCRIPTION[mid] in self.subscribed) == (mid in SUBSCRIBED):
+            self.turn_down(mid, (SUBSCRIBED if mid in SUBSCRIBED else NOT_SUBSCRIBED)[mid])
+        else:
+            self.subscribed.pop(SUBSCRIPTION[mid], None)
+            if mid in SUBSCRIBED:
+                self.subscribed[mid] = subscription
+            self.accept(mid)
+
+    def hear_download(self, data):
+        if not is_text(data):
+            self.turn_down(50, 1)
+        elif not self.granted:
+            self.turn_down(50, 8)
+        else:
+            self.accept(50)
+            self.identified(data.ljust(25))
+
+    def identified(self, identifier):
+        self.in_force = identifier
+        if 51 in self.subscribed:
+            self.expect(identifier_frame(self.subscribed[51], identifier))
+
+    def named(self, name):
+        self.flush()
+        return super().named(name)
+
+
+# ---- cases of one session
+
+FREE = (message(51, twelve=b"1"), message(60, twelve=b"1"))
+
+
+def altered(text, values=range(256)):
+    """The text with every value at every place."""
+    for place in range(len(text)):
+        for value in values:
+            yield text[:place] + bytes([value]) + text[place + 1:]
+
+
+def message_numbers():
+    """All 10,000, before the start and after it, of 20 bytes and of 21."""
+    case = Alone()
+    case.send(*(message(mid) for mid in range(10000) if mid != 1))
+    for data in (b"", b"x"):
+        for mid in range(10000):
+            if not case.started:
+                case.begin()
+            case.send(message(mid, data=data))
+    return case.named("all message numbers")
+
+
+def header_bytes():
+    """Every byte value at every place of a header, twelve and the digits among them."""
+    case = Alone()
+    case.begin()
+    for mid, undo in ((9999, None), (60, 63), (51, 54), (1234, None)):
+        for run in altered(message(mid)):
+            case.send(run)
+            if undo and SUBSCRIPTION[undo] in case.subscribed:
+                case.send(message(undo))
+    return case.named("every byte value in a header")
+
+
+def revisions():
+    """0 to 999 of each message that has a greatest one, with each byte 12; a notice shows what was subscribed to."""
+    case = Alone()
+    for revision in [b"%03d" % number for number in range(1000)] + [b"   "]:
+        for twelve in (b" ", b"0", b"1"):
+            case.send(message(1, revision, twelve))
+            if not case.started:
+                case.begin()
+            case.send(message(51, revision, twelve), message(60, revision, twelve), message(50, revision, twelve, b"D" + revision))
+            if revision == b"002":  # a 0050 of that revision makes nothing known
+                case.scan(b"SCANNED".ljust(25))
+            case.tighten(tightening_fields())
+            case.send(message(3, revision, twelve))
+    return case.named("every revision")
+
+
+def downloads():
+    """Every byte value at every place of 0050's data, and every length; granted and not."""
+    cases = []
+    for granted in (1, 0):
+        case = Alone(granted)
+        case.begin(*FREE)
+        for size in range(0, 90):
+            case.send(message(50, data=(b"0123456789abcdefghijklmnopqrstuvwxyz" * 3)[:size]))
+        for data in altered(b"ABCDEFGHIJKLMNOPQRSTUVWXY"):
+            case.send(message(50, data=data))
+        case.tighten(tightening_fields())
+        cases.append(case.named("every byte value in 0050's data, %sgranted" % ("" if granted else "not ")))
+    return cases
+
+
+def tool_texts():
+    """Every byte value at every place of the tool's texts and times."""
+    case = Alone()
+    case.begin(*FREE)
+    for text in altered(b"IDENTIFIER OF THE TOOL 25"):
+        case.scan(text)
+        case.tighten(tightening_fields(identifier=text))
+    for name in ("time", "change"):
+        for text in altered(b"2024-01-02:03:04:05"):
+            case.tighten(tightening_fields(**{name: text}))
+    case.tighten(tightening_fields())
+    return case.named("every byte value in the tool's texts")
+
+
+def near(limit, bits):
+    """Numbers about a limit, and those that look good when bytes of them are left out."""
+    small = {0, 1, 9, 10, limit - 1, limit, limit + 1, limit * 2}
+    far = {limit + (1 << shift) for shift in range(0, bits)} | {1 << shift for shift in range(bits)} | {(1 << bits) - 1}
+    return sorted(number for number in small | far if 0 <= number < 1 << bits)
+
+
+def tool_numbers():
+    case = Alone()
+    case.begin(*FREE)
+    case.scan(b"IN FORCE".ljust(25))
+    bits = {"B": 8, "H": 16, "I": 32}
+    for name, form, _ in history.FIELDS:
+        for number in near(LIMITS[name], bits[form]) if name in LIMITS else ():
+            case.tighten(tightening_fields(**{name: number}))
+    return case.named("numbers of the tool at their limits")
+
+
+def settings():
+    """Every byte value at every place of the name, and numbers at their limits. A start done shows in 0002."""
+    case = Case()
+    good = {"cell": 1, "channel": 2, "granted": 1, "name": b"NAME OF THE CONTROLLER 25", "last": 0}
+    tried = [dict(good, name=text) for text in altered(good["name"])]
+    tried += [dict(good, cell=number) for number in near(9999, 16)]
+    tried += [dict(good, channel=number) for number in range(256)] + [dict(good, granted=number) for number in range(256)]
+    tried += [dict(good, last=number) for number in near(NUMBER_GREATEST - 1, 32)]
+    for one in tried:
+        case.put(history.SETTINGS, history.SETTINGS_FORM.pack(*(one[name] for name in good)))
+        if one["cell"] > 9999 or one["channel"] > 99 or one["granted"] > 1 or not is_text(one["name"]):
+            case.refused(9)
+            continue
+        case.put(history.OPEN)
+        case.put(history.BYTES, message(1) + b"\0")
+        case.expect(framed(2, b"01%04d02%02d03%s" % (one["cell"], one["channel"], one["name"])))
+    return case.named("every byte value in the settings")
+
+
+def record_lengths():
+    """Good payloads of the three kinds with every length about them; only the whole record is taken."""
+    case = Alone()
+    case.begin(*FREE)
+    case.flush()
+    fields = tightening_fields(identifier=b"T")
+    payload = tightening_payload(fields)
+    for size in [*range(700), *(len(payload) + 256 * times for times in range(3, 32))]:
+        if size == len(payload):
+            case.tighten(fields)
+        else:
+            case.put(history.TIGHTENING, (payload + b" " * size)[:size])
+            case.refused(7)
+    for size in [*range(600), *(25 + 256 * times for times in range(3, 32))]:
+        if size == 25:
+            case.scan(b"S".ljust(25))
+        else:
+            case.put(history.SCANNED, b"S".ljust(size)[:size])
+            case.refused(7)
+    for size in [*range(33), *range(34, 600), *(33 + 256 * times for times in range(3, 32))]:
+        case.put(history.SETTINGS, (history.SETTINGS_FORM.pack(CELL, CHANNEL, 1, NAME, 0) + b" " * size)[:size])
+        case.refused(9)
+    return case.named("every length of a record")
+
+
+def record_kinds():
+    """Kinds that no call takes, with payloads of those that are taken and with none."""
+    case = Case()
+    payloads = {history.TIGHTENING: tightening_payload(tightening_fields()), history.SCANNED: SPACES,
+                history.SETTINGS: history.SETTINGS_FORM.pack(CELL, CHANNEL, 1, NAME, 0)}
+    for kind, payload in payloads.items():
+        for other in [0, *range(4, 16), *range(65, 600), *(kind + 256 * times for times in range(3, 256)), 65535]:
+            case.put(other, payload)
+            case.refused(7)
+    for kind in [0, *range(4, 16), *range(65, 1100)]:
+        case.put(kind)
+        case.refused(7)
+    return case.named("kinds that no call takes")
+
+
+# ---- cases of four sessions
+
+def four_subscribed(case, byte_12=b"0"):
+    """All four started and subscribed, to identifiers in revision 2."""
+    for s in range(4):
+        case.put(history.OPEN + s)
+        case.put(history.BYTES + s, b"".join(run + b"\0" for run in (message(1), message(51, b"002", byte_12),
+                                                                      message(60, b"001", byte_12))))
+        case.expect(framed(2, b"01%04d02%02d03%s" % (CELL, CHANNEL, NAME)), s)
+        case.expect(framed(5, b"0051"), s)
+        case.expect(framed(5, b"0060"), s)
+
+
+def keep_alive(case, sessions=range(4)):
+    """A message that is answered in no way: an acknowledge of the wrong length."""
+    for s in sessions:
+        case.put(history.BYTES + s, message(62, data=b"x") + b"\0")
+
+
+def fullest_output():
+    """A 0050 that all four hear, a tightening to all four, and ticks with two copies to each."""
+    case = Case()
+    four_subscribed(case)
+    case.put(history.BYTES + 3, message(50, data=b"I" * 25) + b"\0")
+    case.expect(framed(5, b"0050"), 3)
+    for s in range(4):
+        case.expect(identifier_frame((2, False), b"I" * 25), s)
+    fields = tightening_fields(identifier=b"T" * 25)
+    case.put(history.TIGHTENING, tightening_payload(fields))
+    for s in range(4):
+        case.expect(result_frame((1, False), fields, fields["identifier"], LAST + 1), s)
+    for tick in range(1, 122):
+        if tick % 14 == 0:
+            keep_alive(case)
+        case.put(history.TICK)
+        for s in range(4 if tick in (20, 40, 60, 80, 100) else 0):
+            case.expect(identifier_frame((2, False), b"I" * 25), s)
+            case.expect(result_frame((1, False), fields, fields["identifier"], LAST + 1), s)
+    return case.named("the fullest output of every call")
+
+
+def nothing_acknowledged():
+    """Eight tightenings and two identifiers held by each session, and 960 ticks: all are given up in a row."""
+    case = Case()
+    four_subscribed(case)
+    results = []
+    for number in range(LAST + 1, LAST + 10):
+        fields = tightening_fields(identifier=b"T%d" % number, torque=number)
+        case.put(history.TIGHTENING, tightening_payload(fields))
+        results.append(result_frame((1, False), fields, fields["identifier"], number))
+        for s in range(4 if number == LAST + 1 else 0):
+            case.expect(results[0], s)
+    identifiers = [identifier_frame((2, False), text.ljust(25)) for text in (b"OPEN", b"REPLACED", b"WAITING")]
+    for number, text in enumerate((b"OPEN", b"REPLACED", b"WAITING")):
+        case.put(history.SCANNED, text.ljust(25))
+        for s in range(4 if number == 0 else 0):
+            case.expect(identifiers[0], s)
+    queues = ([identifiers[0], identifiers[2]], results[:8])
+    for tick in range(1, 1000):
+        if tick % 14 == 0:
+            keep_alive(case)
+        case.put(history.TICK)
+        for s in range(4):
+            for queue in queues:
+                if tick % 20 == 0 and tick // 120 < len(queue):
+                    case.expect(queue[tick // 120], s)
+    return case.named("960 ticks with nothing acknowledged")
+
+
+def cases():
+    return [message_numbers(), header_bytes(), revisions(), *downloads(), tool_texts(), tool_numbers(), settings(),
+            record_lengths(), record_kinds(), fullest_output(), nothing_acknowledged()]
