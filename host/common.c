@@ -135,6 +135,13 @@ void unblock(int descriptor)
         fail("a descriptor cannot be made non-blocking: %s", strerror(errno));
 }
 
+int64_t now(void)
+{
+    struct timespec time;
+    clock_gettime(CLOCK_MONOTONIC, &time);
+    return (int64_t)time.tv_sec * SECOND + time.tv_nsec;
+}
+
 bool waiting_add(struct waiting *waiting, const void *bytes, size_t length)
 {
     if (length > sizeof waiting->bytes - waiting->length)
