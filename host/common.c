@@ -6,6 +6,7 @@
 #include <stdlib.h>
 #include <string.h>
 #include <sys/socket.h>
+#include <time.h>
 #include <unistd.h>
 
 uint64_t little(const uint8_t *bytes, size_t size)
@@ -89,6 +90,13 @@ void unblock(int descriptor)
 {
     if (fcntl(descriptor, F_SETFL, fcntl(descriptor, F_GETFL) | O_NONBLOCK) != 0)
         fail("a descriptor cannot be made non-blocking: %s", strerror(errno));
+}
+
+int64_t now(void)
+{
+    struct timespec time;
+    clock_gettime(CLOCK_MONOTONIC, &time);
+    return (int64_t)time.tv_sec * SECOND + time.tv_nsec;
 }
 
 bool waiting_add(struct waiting *waiting, const void *bytes, size_t length)

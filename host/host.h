@@ -74,6 +74,10 @@ int open_folder(const char *path);
 /* Makes a descriptor non-blocking. */
 void unblock(int descriptor);
 
+/* The time that has passed, in nanoseconds; no clock that is set alters it. */
+enum { MILLISECOND = 1000000, SECOND = 1000000000 };
+int64_t now(void);
+
 /* Bytes that wait to be sent, in order. */
 struct waiting {
     uint8_t bytes[WAITING_GREATEST];
@@ -158,6 +162,7 @@ const char *meaning(uint64_t number);
 void links_listen(const struct sockaddr_in *address); /* takes the address; fails where it is taken */
 void links_ready(void);                               /* says it; who has connected meanwhile is let in from now on */
 void links_poll(struct pollfd set[LINKS_POLLED]);
+int64_t links_heard_again(void); /* when a link is polled again that has brought its share; INT64_MAX where none has */
 void links_serve(const struct pollfd set[LINKS_POLLED]);
 void links_send(unsigned session, const uint8_t *frame, size_t length);
 void links_close(unsigned session);  /* the library has closed the session */

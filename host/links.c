@@ -12,16 +12,25 @@
 
 enum {
     RECEIVED_AT_ONCE = 8192,
-    HEAD = 8,
-    SYSTEM_ROOM = 16384 /* so much the system keeps to be sent, so that it shows soon who does not read */
+    RUNS_AT_ONCE = 16,        /* of a link in a turn: what else has come waits for the next */
+    BYTES_A_SECOND = 262144,  /* so much may come over a link; */
+    BYTES_OF_A_CALL = 64,     /* a call counts as so many more, since a run of no bytes costs one too */
+    HEADER = 20,              /* bytes of the shortest message */
+    RUN_KEPT = 45,            /* so many bytes of a run are kept, for the log */
+    TOO_LONG = 10000,         /* a run of so many bytes is no message */
+    TOO_LONG_GREATEST = 5,    /* so many times that length, with no message between, is too much */
+    SYSTEM_ROOM = 16384       /* so much the system keeps to be sent, so that it shows soon who does not read */
 };
 
 static struct link {
     int socket; /* -1: no link */
     char peer[INET_ADDRSTRLEN + 8];
-    uint8_t head[HEAD]; /* of the run that is being received: its length and MID, for the log */
+    uint8_t run[RUN_KEPT]; /* the beginning of the run that is being received, or has ended last */
     size_t run_length;
-    const char *failed; /* why nothing can be sent to it any more */
+    bool ended;
+    unsigned overlong;  /* how many times TOO_LONG bytes came without a NUL since the last message */
+    const char *failed; /* why it is to be hung up */
+    int64_t paid;       /* up to when its time is used up by what came; it stays so for the next link of the session */
     struct waiting waiting;
 } links[SERIFLADDER_SESSIONS];
 
@@ -125,39 +134,88 @@ void links_send(unsigned session, const uint8_t *frame, size_t length)
 
 /* ---- receiving */
 
-/* Says which message ends with the bytes that the next call will consume; nothing where none ends. */
-static void say_received(struct link *link, const uint8_t *bytes, size_t length)
+static bool are_digits(const uint8_t *bytes, size_t count)
+{
+    while (count > 0 && isdigit(bytes[count - 1]))
+        count--;
+    return count == 0;
+}
+
+/* Whether the run that has ended is a message, by the header rule of document 01. */
+static bool is_message(const struct link *link)
+{
+    char length[5];
+    snprintf(length, sizeof length, "%04zu", link->run_length % TOO_LONG);
+    return link->run_length >= HEADER && link->run_length < TOO_LONG && memcmp(link->run, length, 4) == 0 && are_digits(link->run + 4, 4)
+           && (are_digits(link->run + 8, 3) || memcmp(link->run + 8, "   ", 3) == 0) && memchr("01 ", link->run[11], 3) != NULL;
+}
+
+/* Keeps of the run what the next call will consume, and says which message ends with it; nothing where none ends. */
+static void note_received(struct link *link, const uint8_t *bytes, size_t length)
 {
     const uint8_t *nul = memchr(bytes, 0, length);
     size_t more = nul == NULL ? length : (size_t)(nul - bytes);
-    for (size_t i = 0; i < more && link->run_length + i < HEAD; i++)
-        link->head[link->run_length + i] = bytes[i];
+    if (link->ended)
+        link->run_length = 0;
+    for (size_t i = 0; i < more && link->run_length + i < RUN_KEPT; i++)
+        link->run[link->run_length + i] = bytes[i];
+    link->overlong += (unsigned)((link->run_length % TOO_LONG + more) / TOO_LONG);
     link->run_length += more;
-    if (nul == NULL)
+    link->ended = nul != NULL;
+    if (link->overlong >= TOO_LONG_GREATEST)
+        link->failed = "it sends runs that are too long again and again";
+    if (!link->ended)
         return;
-    bool digits = link->run_length >= HEAD;
-    for (size_t i = 4; digits && i < HEAD; i++)
-        digits = isdigit(link->head[i]);
-    if (digits)
-        say("session %td %s < %.4s", link - links, link->peer, (const char *)link->head + 4);
-    else
+    if (is_message(link)) {
+        link->overlong = 0;
+        say("session %td %s < %.4s", link - links, link->peer, (const char *)link->run + 4);
+    } else {
         say("session %td %s < no message, %zu bytes", link - links, link->peer, link->run_length);
-    link->run_length = 0;
+    }
 }
 
+/* How many of the bytes are the link's share of a turn. */
+static size_t share_of(const uint8_t *bytes, size_t length)
+{
+    size_t share = 0;
+    for (unsigned runs = 0; runs < RUNS_AT_ONCE && share < length; runs++) {
+        const uint8_t *nul = memchr(bytes + share, 0, length - share);
+        share = nul == NULL ? length : (size_t)(nul - bytes) + 1;
+    }
+    return share;
+}
+
+/* The time that a second's share of bytes allows for so many. */
+static int64_t time_for(size_t bytes)
+{
+    return (int64_t)bytes * SECOND / BYTES_A_SECOND;
+}
+
+static bool may_be_heard(const struct link *link)
+{
+    return link->paid - now() < SECOND;
+}
+
+/* Takes the link's share of a turn; what else has come stays with the system, and so does all of it while a second's share is used up. */
 static void receive(struct link *link)
 {
     uint8_t bytes[RECEIVED_AT_ONCE];
-    ssize_t length = recv(link->socket, bytes, sizeof bytes, 0);
+    ssize_t length = recv(link->socket, bytes, sizeof bytes, MSG_PEEK);
+    if (length > 0)
+        length = recv(link->socket, bytes, share_of(bytes, (size_t)length), 0);
     if (length < 0 && (errno == EAGAIN || errno == EWOULDBLOCK || errno == EINTR))
         return;
     if (length <= 0) {
         hang_up(link, length == 0 ? "the peer left" : strerror(errno));
         return;
     }
+    if (link->paid < now())
+        link->paid = now();
     for (size_t at = 0; at < (size_t)length && link->socket >= 0;) {
-        say_received(link, bytes + at, (size_t)length - at);
-        at += call_bytes((unsigned)(link - links), bytes + at, (size_t)length - at);
+        note_received(link, bytes + at, (size_t)length - at);
+        size_t consumed = call_bytes((unsigned)(link - links), bytes + at, (size_t)length - at);
+        link->paid += time_for(consumed + BYTES_OF_A_CALL);
+        at += consumed;
     }
 }
 
@@ -190,6 +248,8 @@ static void take_in(void)
     memcpy(link->peer, peer, sizeof peer);
     link->socket = socket;
     link->run_length = 0;
+    link->overlong = 0;
+    link->ended = false;
     link->failed = NULL;
     link->waiting.length = 0;
     call_open(s);
@@ -199,8 +259,19 @@ static void take_in(void)
 void links_poll(struct pollfd set[LINKS_POLLED])
 {
     set[0] = (struct pollfd){ .fd = door, .events = POLLIN };
+    for (unsigned s = 0; s < SERIFLADDER_SESSIONS; s++) {
+        short events = (short)((may_be_heard(&links[s]) ? POLLIN : 0) | (links[s].waiting.length > 0 ? POLLOUT : 0));
+        set[1 + s] = (struct pollfd){ .fd = events == 0 ? -1 : links[s].socket, .events = events };
+    }
+}
+
+int64_t links_heard_again(void)
+{
+    int64_t first = INT64_MAX;
     for (unsigned s = 0; s < SERIFLADDER_SESSIONS; s++)
-        set[1 + s] = (struct pollfd){ .fd = links[s].socket, .events = POLLIN | (links[s].waiting.length > 0 ? POLLOUT : 0) };
+        if (links[s].socket >= 0 && !may_be_heard(&links[s]) && links[s].paid - SECOND < first)
+            first = links[s].paid - SECOND;
+    return first;
 }
 
 void links_serve(const struct pollfd set[LINKS_POLLED])

@@ -149,31 +149,36 @@ static void keep_standard_streams(void)
 
 /* ---- the loop */
 
-static const int64_t MILLISECOND = 1000000, SECOND = 1000000000;
+enum { MADE_UP_GREATEST = 3 }; /* so many times that were missed are made up for, one a turn; the host could not hear in the others */
 
-static int64_t now(void)
-{
-    struct timespec time;
-    clock_gettime(CLOCK_MONOTONIC, &time);
-    return (int64_t)time.tv_sec * SECOND + time.tv_nsec;
-}
-
-/* Something that is done again and again; a time that was missed is made up for. */
+/* Something that is done again and again. */
 struct timer {
+    const char *what;
     int64_t next, period;
 };
 
 static bool is_due(struct timer *timer)
 {
-    if (timer->period == 0 || now() < timer->next)
+    int64_t late = now() - timer->next;
+    if (timer->period == 0 || late < 0)
         return false;
+    int64_t left_out = late / timer->period - MADE_UP_GREATEST;
+    if (left_out > 0) {
+        say("the host stood still for %lld ms: %lld %s left out", (long long)(late / MILLISECOND), (long long)left_out, timer->what);
+        timer->next += left_out * timer->period;
+    }
     timer->next += timer->period;
     return true;
 }
 
-static int milliseconds_until(const struct timer *tick, const struct timer *demo)
+static int64_t earlier(int64_t one, int64_t other)
 {
-    int64_t next = demo->period > 0 && demo->next < tick->next ? demo->next : tick->next, left = next - now();
+    return one < other ? one : other;
+}
+
+static int milliseconds_until(int64_t next)
+{
+    int64_t left = next - now();
     return left <= 0 ? 0 : (int)((left + MILLISECOND - 1) / MILLISECOND);
 }
 
@@ -182,21 +187,21 @@ static void run(struct timer tick, struct timer demo)
     enum { LINKS = 1, TOOL_SET = LINKS + LINKS_POLLED, ALL = TOOL_SET + TOOL_POLLED };
     struct pollfd set[ALL];
     for (;;) {
+        bool ticks = is_due(&tick); /* asked before the links are: bytes that have arrived count before the tick that follows them */
+        int64_t next = earlier(links_heard_again(), demo.period > 0 ? earlier(demo.next, tick.next) : tick.next);
         set[0] = (struct pollfd){ .fd = signals_descriptor(), .events = POLLIN };
         links_poll(set + LINKS);
         tool_poll(set + TOOL_SET);
-        if (poll(set, ALL, milliseconds_until(&tick, &demo)) < 0) {
+        while (poll(set, ALL, ticks ? 0 : milliseconds_until(next)) < 0)
             if (errno != EINTR)
                 fail("poll: %s", strerror(errno));
-            continue;
-        }
         if (set[0].revents != 0 && signals_end())
             return;
         if (signals_reopen())
             log_reopen();
         links_serve(set + LINKS);
         tool_serve(set + TOOL_SET);
-        while (is_due(&tick))
+        if (ticks)
             call_tick();
         if (is_due(&demo))
             demo_step();
@@ -227,8 +232,8 @@ int main(int count, char **arguments)
         .size = number_of(JOURNAL_SIZE, 1, INT64_MAX, 16 << 20),
         .keep = number_of(JOURNAL_KEEP, 1, UINT32_MAX, 7),
     };
-    struct timer tick = { .period = (int64_t)number_of(TICK_MILLISECONDS, 1, 3600000, 1000) * MILLISECOND };
-    struct timer demo = { .period = given[DEMO] == NULL ? 0 : (int64_t)number_of(DEMO_SECONDS, 1, 86400, 3) * SECOND };
+    struct timer tick = { .what = "ticks", .period = (int64_t)number_of(TICK_MILLISECONDS, 1, 3600000, 1000) * MILLISECOND };
+    struct timer demo = { .what = "bolts", .period = given[DEMO] == NULL ? 0 : (int64_t)number_of(DEMO_SECONDS, 1, 86400, 3) * SECOND };
     struct sockaddr_in address = address_of(given[LISTEN] == NULL ? "127.0.0.1:4545" : given[LISTEN]);
 
     keep_standard_streams();

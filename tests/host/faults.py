@@ -30,6 +30,9 @@ STARTED = ("    links_listen(&address); /* before a file is made or renamed: a s
            "    uint32_t kept = state_open(given[STATE], given[NEW_STATE] == NULL ? NULL : &fresh), last = last_of_both(kept, &journal);\n"
            "    state_keep(last);\n")
 
+SHARES = ("RUNS_AT_ONCE = 16,        /* of a link in a turn: what else has come waits for the next */\n"
+          "    BYTES_A_SECOND = 262144,")
+
 # The fault, the test that finds it, the file, what stands there, and what is put in its place.
 FAULTS = [
     ("state not written", "killed-between-results", "calls.c", "state_keep(++last);", "++last;"),
@@ -47,6 +50,11 @@ FAULTS = [
     ("output of one session to another", "four-servers-and-a-fifth", "calls.c",
      "links_send(kind - SERIFLADDER_FRAME,", "links_send((kind - SERIFLADDER_FRAME) & 2,"),
     ("ticks not made up for", "ticks-are-made-up-for", "main.c", "timer->next += timer->period;", "timer->next = now() + timer->period;"),
+    ("all missed ticks made up for", "a-stall-of-the-host", "main.c", "late / timer->period - MADE_UP_GREATEST;", "0;"),
+    ("a flood heard to its end", "the-tools-answer-beside-flooders", "links.c", SHARES, "RUNS_AT_ONCE = 8192,\n    BYTES_A_SECOND = 1 << 30,"),
+    ("a link that may bring anything", "what-a-link-may-bring", "links.c", "BYTES_A_SECOND = 262144,", "BYTES_A_SECOND = 1 << 30,"),
+    ("runs too long borne with", "runs-too-long-again-and-again", "links.c", "link->overlong >= TOO_LONG_GREATEST",
+     "link->overlong > 100 * TOO_LONG_GREATEST"),
     ("stale output kept over a hang-up", "a-peer-that-stops-reading", "links.c", "    link->waiting.length = 0;\n", ""),
     ("a hang-up that the library is not told", "a-link-cut-with-a-notice-open", "links.c",
      "    call_hang_up((unsigned)(link - links));\n    close_link(link, why);", "    close_link(link, why);"),
@@ -83,6 +91,7 @@ FAULTS = [
 ]
 if tracing.possible():
     FAULTS += [
+        ("ticks before the links are heard", "a-slow-disk", "main.c", "        if (ticks)\n", "        while (is_due(&tick))\n"),
         ("state not synced", "killed-before-every-call-of-the-system", "state.c", " || fsync(file) != 0", ""),
         ("folder of the state not synced", "killed-before-every-call-of-the-system", "state.c", " || fsync(folder) != 0", ""),
         ("the end of a FIFO's writer not sought", "a-fifo-writer-that-is-not-told", "tool.c",

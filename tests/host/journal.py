@@ -8,8 +8,8 @@ import socket
 import time
 
 import generate
-from harness import (BYTES, HANG_UP, OPEN, SCANNED, SETTINGS, TICK, TIGHTENING, check, content, equal, history, identifier_record, in_memory,
-                     openprotocol, record, test, tightening_fields, tightening_record)
+from harness import (BYTES, HANG_UP, OPEN, SCANNED, SETTINGS, TICK, TIGHTENING, InTime, check, content, equal, history, identifier_record,
+                     in_memory, openprotocol, record, test, tightening_fields, tightening_record)
 
 TICK_SECONDS = 0.03
 
@@ -30,7 +30,8 @@ class Play:
         server = self.place.server(self.host)
         with contextlib.suppress(ConnectionError):
             server.tell(openprotocol.START)
-        while not server.seen and server.take():
+        in_time = InTime("an answer to a 0001, or the end")
+        while in_time() and not server.seen and server.take():
             pass
         if server.seen:
             self.servers.append(server)
@@ -50,7 +51,8 @@ class Play:
         mark = openprotocol.message(openprotocol.KEEP_ALIVE, rest=b"%08d" % len(server.seen))[:-1]
         with contextlib.suppress(ConnectionError):
             server.send(b"\0" + mark + b"\0")
-        while server.open and mark not in server.seen:
+        in_time = InTime("the mirror of a 9999, or the end")
+        while server.open and mark not in server.seen and in_time():
             server.take()
         return server.open
 
@@ -65,7 +67,8 @@ class Play:
         if not self.here():
             self.enter()
         silent = self.source.choice(self.here())
-        while silent.open:
+        in_time = InTime("a silent one is closed")
+        while silent.open and in_time():
             for server in self.here():
                 if server is not silent:
                     self.settle(server)
@@ -150,7 +153,8 @@ class Generated:
         elif BYTES <= kind < TICK and server is not None:
             with contextlib.suppress(ConnectionError):
                 server.send(payload)
-            while server.open and select.select([server.link], [], [], 0)[0]:
+            in_time = InTime("what was sent is read")
+            while server.open and in_time() and select.select([server.link], [], [], 0)[0]:
                 server.take()
             if not server.open:
                 self.now.pop(session)

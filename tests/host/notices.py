@@ -4,7 +4,7 @@ import re
 import time
 
 import harness
-from harness import check, equal, in_memory, openprotocol, tell_and_acknowledge, test, tightening_fields
+from harness import InTime, check, equal, in_memory, openprotocol, tell_and_acknowledge, test, tightening_fields
 
 
 @test
@@ -86,8 +86,8 @@ def a_notice_that_is_not_acknowledged(place):
     tool.tighten(tightening_fields(1), "0")
     tool.tighten(tightening_fields(2), "0")
     before = place.ticks()
-    runs = []
-    while place.ticks() < before + 123:
+    runs, in_time = [], InTime("123 ticks", more=200 * tick)
+    while place.ticks() < before + 123 and in_time():
         runs += server.fence()
         time.sleep(tick)
     runs += server.fence()
@@ -124,7 +124,8 @@ def the_demo(place):
     host = place.host("--demo", "--demo-seconds", 1, tool=False)
     server = place.server(host).subscribe()
     numbers, identifiers = [], []
-    while len(numbers) < 3 or not identifiers:
+    in_time = InTime("three results and an identifier")
+    while in_time() and (len(numbers) < 3 or not identifiers):
         frame = openprotocol.read(server.next())
         if frame.mid == openprotocol.IDENTIFIER:
             server.tell(openprotocol.ACKNOWLEDGE_IDENTIFIER)

@@ -9,7 +9,7 @@ import struct
 
 import harness
 import tracing
-from harness import (BYTES, GOOD_SETTINGS, HANG_UP, OPEN, TICK, TIGHTENING, check, equal, history, identifier_record,
+from harness import (BYTES, GOOD_SETTINGS, HANG_UP, OPEN, TICK, TIGHTENING, InTime, check, equal, history, identifier_record,
                      openprotocol, record, tell_and_acknowledge, test, tightening_fields, tightening_record)
 
 BAD = "7 tool record bad"
@@ -104,7 +104,7 @@ def tool_records_that_end_the_connection(place):
         tool = place.tool()
         tool.send(whole[:at])
         tool.link.shutdown(1)
-        while (answer := tool.answer()) is not None:
+        for answer in tool.answers():
             check(not answer.startswith("0"), "answer to a cut record: %r", answer)
         number += 1
         steady.tighten(tightening_fields(number), "0")
@@ -161,7 +161,8 @@ def a_tool_that_does_not_read(place):
     number = 0
     for _ in range(20):
         with contextlib.suppress(BlockingIOError):
-            while sent < len(data):
+            in_time = InTime("a send that is not taken")
+            while sent < len(data) and in_time():
                 sent += deaf.link.send(data[sent:sent + 8192])
         number += 1
         steady.tighten(tightening_fields(number), "0")
@@ -170,9 +171,7 @@ def a_tool_that_does_not_read(place):
     check(sent < len(data), "%d bytes were taken: this shows nothing", sent)
     deaf.link.settimeout(harness.SECONDS)
     deaf.link.shutdown(socket.SHUT_WR)
-    answers = []
-    while (answer := deaf.answer()) is not None:
-        answers.append(answer)
+    answers = deaf.answers()
     whole, rest = divmod(sent, len(identifier_record("DEAF") + record(5)))
     wanted = ["0 done, taken by none", BAD] * whole
     wanted += ["0 done, taken by none"] if rest >= len(identifier_record("DEAF")) else []
@@ -212,12 +211,12 @@ def garbage_from_tools(place):
         with contextlib.suppress(ConnectionError):
             tool.send(data)
             tool.link.shutdown(socket.SHUT_WR)
-        while (answer := tool.answer()) is not None:
+        for answer in tool.answers():
             check(re.match(r"0 done, taken by|7 tool record bad$|record ", answer), "answer to garbage: %r", answer)
         tool.close()
     equal(place.tool().give(identifier_record("GOOD")), "0 done, taken by 0", "answer to a good record")
-    runs = server.fence()
-    while openprotocol.read(runs[-1]).fields.get("identifier") != "GOOD":
+    runs, in_time = server.fence(), InTime("the last identifier")
+    while in_time() and openprotocol.read(runs[-1]).fields.get("identifier") != "GOOD":
         server.tell(openprotocol.ACKNOWLEDGE_IDENTIFIER)
         runs += server.fence()
     place.finish(host, [server], place.replayed()[1])
@@ -302,7 +301,8 @@ def a_fifo_writer_that_is_not_told(place):
     server = place.server(host).subscribe()
     trace = tracing.Trace(host.process.pid)
     write_fifo(place, b"")
-    while trace.next_call() != "open":
+    in_time = InTime("the FIFO opened anew")
+    while trace.next_call() != "open" and in_time():
         pass
     write_fifo(place, tightening_record(tightening_fields(0))[:60])
     trace.end()
