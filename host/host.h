@@ -65,6 +65,20 @@ bool waiting_add(struct waiting *waiting, const void *bytes, size_t length);
 /* Sends what is taken now. False with errno where the peer is gone. */
 bool waiting_send(struct waiting *waiting, int socket);
 
+/* ---- door.c: sockets that listen */
+
+struct door {
+    const char *whose;
+    int socket;    /* -1: none */
+    int64_t rests; /* until then nobody is let in: where the system has no descriptor left, it has none either when it is asked at once again */
+};
+
+struct pollfd door_poll(const struct door *door);
+
+/* Takes a connection in, which does not block, and where the address is asked for, its peer's; -1 where there is none that can be kept. */
+int door_take(struct door *door, struct sockaddr_in *address);
+void door_close(struct door *door);
+
 /* ---- settings.c: the settings file as a settings record, its last number 0 */
 void settings_read(const char *path, uint8_t record[SETTINGS_RECORD]);
 
@@ -119,6 +133,7 @@ void links_end(void);
 void tool_open(const char *path);
 void tool_poll(struct pollfd set[TOOL_POLLED]);
 void tool_serve(const struct pollfd set[TOOL_POLLED]);
+void tool_tick(void); /* a tick has passed: tools may be silent for too long, and a FIFO may be gone */
 
 /* Gives a record to the library, says what came of it in the log and in `line`. */
 enum { ANSWER_LINE = 80 };

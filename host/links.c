@@ -34,7 +34,7 @@ static struct link {
     struct waiting waiting;
 } links[SERIFLADDER_SESSIONS];
 
-static int door; /* listens */
+static struct door door = { .whose = "links" };
 
 static void write_address(char text[INET_ADDRSTRLEN + 8], const struct sockaddr_in *address)
 {
@@ -56,11 +56,11 @@ void links_bind(const struct sockaddr_in *address)
     int on = 1;
     for (unsigned s = 0; s < SERIFLADDER_SESSIONS; s++)
         links[s].socket = -1;
-    door = socket(AF_INET, SOCK_STREAM, 0);
-    if (door < 0 || setsockopt(door, SOL_SOCKET, SO_REUSEADDR, &on, sizeof on) != 0
-        || bind(door, (const struct sockaddr *)address, sizeof *address) != 0)
+    door.socket = socket(AF_INET, SOCK_STREAM, 0);
+    if (door.socket < 0 || setsockopt(door.socket, SOL_SOCKET, SO_REUSEADDR, &on, sizeof on) != 0
+        || bind(door.socket, (const struct sockaddr *)address, sizeof *address) != 0)
         cannot_listen(address);
-    unblock(door);
+    unblock(door.socket);
 }
 
 void links_listen(void)
@@ -68,7 +68,7 @@ void links_listen(void)
     struct sockaddr_in address = { .sin_family = AF_INET };
     socklen_t size = sizeof address;
     char text[INET_ADDRSTRLEN + 8];
-    if (getsockname(door, (struct sockaddr *)&address, &size) != 0 || listen(door, SOMAXCONN) != 0)
+    if (getsockname(door.socket, (struct sockaddr *)&address, &size) != 0 || listen(door.socket, SOMAXCONN) != 0)
         cannot_listen(&address);
     write_address(text, &address);
     say("listening on %s", text);
@@ -108,7 +108,7 @@ void links_end(void)
     for (unsigned s = 0; s < SERIFLADDER_SESSIONS; s++)
         if (links[s].socket >= 0)
             hang_up(&links[s], "the host ends");
-    close(door);
+    door_close(&door);
 }
 
 /* ---- sending */
@@ -224,14 +224,10 @@ static void receive(struct link *link)
 static void take_in(void)
 {
     struct sockaddr_in address;
-    socklen_t size = sizeof address;
     char peer[INET_ADDRSTRLEN + 8];
-    int on = 1, room = SYSTEM_ROOM, socket = accept(door, (struct sockaddr *)&address, &size);
-    if (socket < 0) {
-        if (errno != EAGAIN && errno != EWOULDBLOCK && errno != EINTR && errno != ECONNABORTED)
-            say("a connection cannot be taken: %s", strerror(errno));
+    int on = 1, room = SYSTEM_ROOM, socket = door_take(&door, &address);
+    if (socket < 0)
         return;
-    }
     write_address(peer, &address);
     unsigned s = 0;
     while (s < SERIFLADDER_SESSIONS && links[s].socket >= 0)
@@ -241,7 +237,6 @@ static void take_in(void)
         close(socket);
         return;
     }
-    unblock(socket);
     setsockopt(socket, IPPROTO_TCP, TCP_NODELAY, &on, sizeof on);
     setsockopt(socket, SOL_SOCKET, SO_SNDBUF, &room, sizeof room);
     struct link *link = &links[s];
@@ -258,7 +253,7 @@ static void take_in(void)
 
 void links_poll(struct pollfd set[LINKS_POLLED])
 {
-    set[0] = (struct pollfd){ .fd = door, .events = POLLIN };
+    set[0] = door_poll(&door);
     for (unsigned s = 0; s < SERIFLADDER_SESSIONS; s++) {
         short events = (short)((may_be_heard(&links[s]) ? POLLIN : 0) | (links[s].waiting.length > 0 ? POLLOUT : 0));
         set[1 + s] = (struct pollfd){ .fd = events == 0 ? -1 : links[s].socket, .events = events };

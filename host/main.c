@@ -195,25 +195,43 @@ static int milliseconds_until(int64_t next)
     return left <= 0 ? 0 : (int)((left + MILLISECOND - 1) / MILLISECOND);
 }
 
+enum { LINKS = 1, TOOL_SET = LINKS + LINKS_POLLED, ALL = TOOL_SET + TOOL_POLLED }; /* places in what is polled */
+
+/* Polls what has a descriptor: the system takes no longer list than the process may have descriptors. */
+static int poll_open(struct pollfd set[ALL], int milliseconds)
+{
+    struct pollfd asked[ALL];
+    nfds_t count = 0;
+    for (unsigned i = 0; i < ALL; i++)
+        if (set[i].fd >= 0)
+            asked[count++] = set[i];
+    int ready = poll(asked, count, milliseconds);
+    for (unsigned i = ALL; i-- > 0;)
+        if (set[i].fd >= 0)
+            set[i].revents = asked[--count].revents;
+    return ready;
+}
+
 static void run(struct timer tick, struct timer demo)
 {
-    enum { LINKS = 1, TOOL_SET = LINKS + LINKS_POLLED, ALL = TOOL_SET + TOOL_POLLED };
     struct pollfd set[ALL];
     for (;;) {
         bool ticks = is_due(&tick); /* asked before the links are: bytes that have arrived count before the tick that follows them */
-        int64_t next = earlier(links_heard_again(), demo.period > 0 ? earlier(demo.next, tick.next) : tick.next);
+        int64_t next = earlier(earlier(links_heard_again(), now() + SECOND), demo.period > 0 ? earlier(demo.next, tick.next) : tick.next);
         set[0] = (struct pollfd){ .fd = signal_pipe[0], .events = POLLIN };
         links_poll(set + LINKS);
         tool_poll(set + TOOL_SET);
-        while (poll(set, ALL, ticks ? 0 : milliseconds_until(next)) < 0)
+        while (poll_open(set, ticks ? 0 : milliseconds_until(next)) < 0)
             if (errno != EINTR)
                 fail("poll: %s", strerror(errno));
         if (set[0].revents != 0)
             return;
         links_serve(set + LINKS);
         tool_serve(set + TOOL_SET);
-        if (ticks)
+        if (ticks) {
             call_tick();
+            tool_tick();
+        }
         if (is_due(&demo))
             demo_step();
     }

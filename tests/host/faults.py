@@ -54,6 +54,11 @@ FAULTS = [
     ("a link that may bring anything", "what-a-link-may-bring", "links.c", "BYTES_A_SECOND = 262144,", "BYTES_A_SECOND = 1 << 30,"),
     ("runs too long borne with", "runs-too-long-again-and-again", "links.c", "link->overlong >= TOO_LONG_GREATEST",
      "link->overlong > 100 * TOO_LONG_GREATEST"),
+    ("a file taken for the FIFO", "a-fifo-that-goes-away", "tool.c", "|| !S_ISFIFO(found.st_mode)) {", ") {"),
+    ("the FIFO not looked for", "a-fifo-that-goes-away", "tool.c", "else if (fifo_replaced())", "else if (fifo_replaced() && missing)"),
+    ("silent tools keep their places", "silent-tools", "tool.c", "most->silent < SILENT ?", "most->silent < 100 * SILENT ?"),
+    ("a door that never rests", "few-descriptors", "door.c", "door->rests = now() + SECOND;", "door->rests = 0;"),
+    ("no descriptor spared", "few-descriptors", "door.c", "taken >= 0 && is_spare(taken);", "taken >= 0 && is_spare(taken) && taken < 0;"),
     ("stale output kept over a hang-up", "a-peer-that-stops-reading", "links.c", "    link->waiting.length = 0;\n", ""),
     ("a hang-up that the library is not told", "a-link-cut-with-a-notice-open", "links.c",
      "    call_hang_up((unsigned)(link - links));\n    close_link(link, why);", "    close_link(link, why);"),
@@ -80,7 +85,7 @@ FAULTS = [
 ]
 if tracing.possible():
     FAULTS += [
-        ("ticks before the links are heard", "a-slow-disk", "main.c", "        if (ticks)\n", "        while (is_due(&tick))\n"),
+        ("ticks before the links are heard", "a-slow-disk", "main.c", "        if (ticks) {\n", "        while (is_due(&tick)) {\n"),
         ("state not synced", "killed-before-every-call-of-the-system", "state.c", " || fsync(file) != 0", ""),
         ("folder of the state not synced", "killed-before-every-call-of-the-system", "state.c", " || fsync(folder) != 0", ""),
         ("the end of a FIFO's writer not sought", "a-fifo-writer-that-is-not-told", "tool.c",
