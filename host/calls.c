@@ -98,6 +98,7 @@ size_t call_bytes(unsigned session, const uint8_t *bytes, size_t length)
 void call_tick(void)
 {
     settle_done("a tick", serifladder_tick(LENT, ANSWER), JOURNAL_TICK, NULL, 0);
+    sessions_ticked();
 }
 
 /* In the journal a record of a kind that stands for another call there gets kind 0, which is as bad a tool record. */
@@ -111,9 +112,12 @@ struct answer call_record(const uint8_t *record, size_t length)
     unsigned kind = (unsigned)little(record + 2, 2);
     uint64_t number = serifladder_record(LENT, record, length, ANSWER);
     struct answer answer = answered();
-    if (number == SERIFLADDER_DONE && kind == SERIFLADDER_TIGHTENING)
+    bool numbered = number == SERIFLADDER_DONE && kind == SERIFLADDER_TIGHTENING;
+    if (numbered)
         state_keep(++last);
     journal_record(journal_kind(kind), record + SERIFLADDER_RECORD_HEADER, length - SERIFLADDER_RECORD_HEADER);
+    if (numbered)
+        sessions_result(last, answer.taken);
     carry_out(answer.written);
     return answer;
 }

@@ -129,6 +129,40 @@ void links_close(unsigned session);  /* the library has closed the session */
 void links_hang_up_failed(void);     /* ends the links that could not be sent to */
 void links_end(void);
 
+/* The peer of a link, for the log. */
+const char *links_peer(unsigned session);
+
+/* A network that may connect, ADDRESS/BITS; without any, everybody may. False where the text is none, or there are too many. */
+bool links_allow(const char *text);
+void links_limit(unsigned links_of_an_address);
+uint64_t links_refused(void); /* so many were closed at once */
+
+/* ---- sessions.c: what each session is, and the results that it holds, told from what came and went */
+
+struct session_state {
+    bool open, started, identifiers, results; /* the last two: subscribed to them */
+    bool acknowledges;                        /* results are held until they are acknowledged */
+    unsigned held;
+    uint32_t numbers[8]; /* of the results that are held, the one that is sent first */
+};
+
+struct session_losses {
+    uint64_t not_taken, given_up, dropped; /* results */
+};
+
+void session_opened(unsigned session);
+void session_said(unsigned session, const uint8_t *message, size_t length); /* a message has come; `message` is its beginning */
+void session_sent(unsigned session, const uint8_t *frame, size_t length, bool waits); /* waits to be sent, or can't be */
+void session_ended(unsigned session, size_t waiting, const char *why); /* so many bytes were not given to the system yet */
+void sessions_result(uint32_t number, uint64_t taken);                 /* a tightening has that number, and these sessions took it */
+void sessions_ticked(void);
+void sessions_end(void); /* the host ends, in order or not */
+const struct session_state *session_state(unsigned session);
+const struct session_losses *session_losses(void);
+
+/* The number of a result, from its frame. */
+unsigned long result_number(const uint8_t *frame, size_t length);
+
 /* ---- tool.c: house records from a FIFO or over a Unix socket */
 void tool_open(const char *path);
 void tool_poll(struct pollfd set[TOOL_POLLED]);

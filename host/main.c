@@ -15,7 +15,7 @@
 static const char HELP[] =
     "serifladder-host --settings FILE --state FILE [--new-state NUMBER] [--listen ADDRESS:PORT]\n"
     "                 [--tool PATH | --demo [--demo-seconds N]] [--journal FILE] [--journal-size BYTES]\n"
-    "                 [--tick-milliseconds N] [--help]\n"
+    "                 [--allow ADDRESS/BITS].. [--links-of-an-address N] [--tick-milliseconds N] [--help]\n"
     "\n"
     "Keeps Open Protocol sessions with up to four line servers, and tells them what a tool does.\n"
     "\n"
@@ -24,6 +24,8 @@ static const char HELP[] =
     "  --state FILE           the last tightening number; kept on the disk before a result goes out\n"
     "  --new-state NUMBER     creates the state file with the last number given so far, 0 for a new controller\n"
     "  --listen ADDRESS:PORT  where line servers connect (IPv4); 127.0.0.1:4545 if not given; port 0: the system chooses\n"
+    "  --allow ADDRESS/BITS   who may connect, say 192.168.4.0/24; may be given several times; everybody if not given\n"
+    "  --links-of-an-address N  so many links one address may have at once, 1 to 4; 4 if not given\n"
     "  --tool PATH            house records come from the FIFO at PATH, or else over a Unix stream socket made at PATH,\n"
     "                         which answers a line for each: 0 done, taken by 0 2, or the number and meaning of a refusal\n"
     "  --demo                 a simulated tool\n"
@@ -38,7 +40,9 @@ static const char HELP[] =
     "The log goes to standard error: < is received from a session, > is sent to it. SIGTERM and SIGINT end the host in\n"
     "order, with status 0; status 1: it could not go on; status 2: wrong usage.\n";
 
-enum option { SETTINGS, STATE, NEW_STATE, LISTEN, TOOL, DEMO, DEMO_SECONDS, JOURNAL, JOURNAL_SIZE, TICK_MILLISECONDS, OPTION_COUNT };
+enum option {
+    SETTINGS, STATE, NEW_STATE, LISTEN, ALLOW, LINKS_OF_AN_ADDRESS, TOOL, DEMO, DEMO_SECONDS, JOURNAL, JOURNAL_SIZE, TICK_MILLISECONDS, OPTION_COUNT
+};
 
 static const struct {
     const char *name;
@@ -48,6 +52,8 @@ static const struct {
     [STATE] = { "--state", true },
     [NEW_STATE] = { "--new-state", true },
     [LISTEN] = { "--listen", true },
+    [ALLOW] = { "--allow", true },
+    [LINKS_OF_AN_ADDRESS] = { "--links-of-an-address", true },
     [TOOL] = { "--tool", true },
     [DEMO] = { "--demo", false },
     [DEMO_SECONDS] = { "--demo-seconds", true },
@@ -83,11 +89,13 @@ static void read_options(int count, char **arguments)
             o++;
         if (o == OPTION_COUNT)
             wrong_usage("there is no option %s", arguments[i]);
-        if (given[o] != NULL)
+        if (given[o] != NULL && o != ALLOW)
             wrong_usage("%s is given twice", OPTIONS[o].name);
         if (OPTIONS[o].has_value && (i + 1 == count || arguments[i + 1][0] == '\0'))
             wrong_usage("%s needs a value", OPTIONS[o].name);
         given[o] = OPTIONS[o].has_value ? arguments[++i] : OPTIONS[o].name;
+        if (o == ALLOW && !links_allow(given[o]))
+            wrong_usage("--allow is %s, but allowed is ADDRESS/BITS, as 192.168.4.0/24, 32 times at most", given[o]);
     }
     for (enum option o = SETTINGS; o <= STATE; o++)
         if (given[o] == NULL)
@@ -245,8 +253,10 @@ int main(int count, char **arguments)
     uint64_t journal_size = number_of(JOURNAL_SIZE, 1, INT64_MAX, 64 << 20);
     struct timer tick = { .what = "ticks", .period = (int64_t)number_of(TICK_MILLISECONDS, 1, 3600000, 1000) * MILLISECOND };
     struct timer demo = { .what = "bolts", .period = given[DEMO] == NULL ? 0 : (int64_t)number_of(DEMO_SECONDS, 1, 86400, 3) * SECOND };
+    links_limit((unsigned)number_of(LINKS_OF_AN_ADDRESS, 1, SERIFLADDER_SESSIONS, SERIFLADDER_SESSIONS));
     struct sockaddr_in address = address_of(given[LISTEN] == NULL ? "127.0.0.1:4545" : given[LISTEN]);
 
+    atexit(sessions_end);
     keep_standard_streams();
     catch_signals();
     settings_read(given[SETTINGS], settings);
