@@ -52,24 +52,24 @@ static _Noreturn void cannot_listen(const struct sockaddr_in *address)
     fail("cannot listen on %s: %s", text, why);
 }
 
-void links_bind(const struct sockaddr_in *address)
+void links_listen(const struct sockaddr_in *address)
 {
     int on = 1;
     for (unsigned s = 0; s < SERIFLADDER_SESSIONS; s++)
         links[s].socket = -1;
     door.socket = socket(AF_INET, SOCK_STREAM, 0);
     if (door.socket < 0 || setsockopt(door.socket, SOL_SOCKET, SO_REUSEADDR, &on, sizeof on) != 0
-        || bind(door.socket, (const struct sockaddr *)address, sizeof *address) != 0)
+        || bind(door.socket, (const struct sockaddr *)address, sizeof *address) != 0 || listen(door.socket, SOMAXCONN) != 0)
         cannot_listen(address);
     unblock(door.socket);
 }
 
-void links_listen(void)
+void links_ready(void)
 {
     struct sockaddr_in address = { .sin_family = AF_INET };
     socklen_t size = sizeof address;
     char text[INET_ADDRSTRLEN + 8];
-    if (getsockname(door.socket, (struct sockaddr *)&address, &size) != 0 || listen(door.socket, SOMAXCONN) != 0)
+    if (getsockname(door.socket, (struct sockaddr *)&address, &size) != 0)
         cannot_listen(&address);
     write_address(text, &address);
     say("listening on %s", text);

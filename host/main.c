@@ -4,7 +4,6 @@
 #include <arpa/inet.h>
 #include <errno.h>
 #include <fcntl.h>
-#include <signal.h>
 #include <stdarg.h>
 #include <stdio.h>
 #include <stdlib.h>
@@ -14,15 +13,19 @@
 
 static const char HELP[] =
     "serifladder-host --settings FILE --state FILE [--new-state NUMBER] [--listen ADDRESS:PORT]\n"
-    "                 [--tool PATH | --demo [--demo-seconds N]] [--journal FILE] [--journal-size BYTES]\n"
-    "                 [--allow ADDRESS/BITS].. [--links-of-an-address N] [--tick-milliseconds N] [--help]\n"
+    "                 [--allow ADDRESS/BITS].. [--links-of-an-address N] [--tool PATH | --demo [--demo-seconds N]]\n"
+    "                 [--journal FILE] [--journal-size BYTES] [--journal-keep N] [--state-behind]\n"
+    "                 [--tick-milliseconds N] [--version] [--help]\n"
     "\n"
     "Keeps Open Protocol sessions with up to four line servers, and tells them what a tool does.\n"
     "\n"
     "  --settings FILE        lines cell = 0..9999, channel = 0..99, granted = yes or no (may a server download an\n"
     "                         identifier), name = up to 25 printable bytes; each once; # begins a comment line\n"
     "  --state FILE           the last tightening number; kept on the disk before a result goes out\n"
-    "  --new-state NUMBER     creates the state file with the last number given so far, 0 for a new controller\n"
+    "  --new-state NUMBER     where there is no state file it is created with the last number given so far, 0 for a new\n"
+    "                         controller; where there is one the host goes on with that\n"
+    "  --state-behind         where the journal shows a greater number than the state, an older state having been put back,\n"
+    "                         goes on from the greater; without this option the host does not start then\n"
     "  --listen ADDRESS:PORT  where line servers connect (IPv4); 127.0.0.1:4545 if not given; port 0: the system chooses\n"
     "  --allow ADDRESS/BITS   who may connect, say 192.168.4.0/24; may be given several times; everybody if not given\n"
     "  --links-of-an-address N  so many links one address may have at once, 1 to 4; 4 if not given\n"
@@ -30,18 +33,21 @@ static const char HELP[] =
     "                         which answers a line for each: 0 done, taken by 0 2, or the number and meaning of a refusal\n"
     "  --demo                 a simulated tool\n"
     "  --demo-seconds N       so many seconds between its bolts; 3 if not given\n"
-    "  --journal FILE         every call as house records, which the program replay reads; an existing FILE is first\n"
-    "                         renamed to FILE.1, FILE.2 and so on; if its last record is cut, that goes to FILE.1.cut\n"
-    "  --journal-size BYTES   a journal that is longer is renamed in the same way, and a new one begun; 67108864 if not given;\n"
-    "                         what was renamed is yours to remove\n"
+    "  --journal FILE         every call as house records, which the program serifladder-replay reads; an existing FILE is\n"
+    "                         gone on with. If its last record is cut it is first renamed, and that goes to FILE.1.cut\n"
+    "  --journal-size BYTES   a journal that is longer is renamed to FILE.1, FILE.2 and so on, and a new one begun, with the\n"
+    "                         lent table beside it in FILE.2.table, so that it can be replayed alone; 16777216 if not given\n"
+    "  --journal-keep N       so many of these parts are kept, the oldest are deleted; 7 if not given\n"
     "  --tick-milliseconds N  for tests: a tick has so many milliseconds; 1000 if not given\n"
-    "  --help                 this text\n"
+    "  --version              says the version\n"
+    "  --help, -h             this text\n"
     "\n"
     "The log goes to standard error: < is received from a session, > is sent to it. SIGTERM and SIGINT end the host in\n"
     "order, with status 0; status 1: it could not go on; status 2: wrong usage.\n";
 
 enum option {
-    SETTINGS, STATE, NEW_STATE, LISTEN, ALLOW, LINKS_OF_AN_ADDRESS, TOOL, DEMO, DEMO_SECONDS, JOURNAL, JOURNAL_SIZE, TICK_MILLISECONDS, OPTION_COUNT
+    SETTINGS, STATE, NEW_STATE, STATE_BEHIND, LISTEN, ALLOW, LINKS_OF_AN_ADDRESS, TOOL, DEMO, DEMO_SECONDS, JOURNAL, JOURNAL_SIZE,
+    JOURNAL_KEEP, TICK_MILLISECONDS, OPTION_COUNT
 };
 
 static const struct {
@@ -51,6 +57,7 @@ static const struct {
     [SETTINGS] = { "--settings", true },
     [STATE] = { "--state", true },
     [NEW_STATE] = { "--new-state", true },
+    [STATE_BEHIND] = { "--state-behind", false },
     [LISTEN] = { "--listen", true },
     [ALLOW] = { "--allow", true },
     [LINKS_OF_AN_ADDRESS] = { "--links-of-an-address", true },
@@ -59,9 +66,11 @@ static const struct {
     [DEMO_SECONDS] = { "--demo-seconds", true },
     [JOURNAL] = { "--journal", true },
     [JOURNAL_SIZE] = { "--journal-size", true },
+    [JOURNAL_KEEP] = { "--journal-keep", true },
     [TICK_MILLISECONDS] = { "--tick-milliseconds", true },
 };
 
+mode_t file_mode = 0644;
 static const char *given[OPTION_COUNT]; /* the values; for an option without one its name */
 
 static _Noreturn void wrong_usage(const char *format, ...) __attribute__((format(printf, 1, 2)));
@@ -81,10 +90,10 @@ static void read_options(int count, char **arguments)
 {
     for (int i = 1; i < count; i++) {
         unsigned o = 0;
-        if (strcmp(arguments[i], "--help") == 0) {
-            fputs(HELP, stdout);
-            exit(0);
-        }
+        if (strcmp(arguments[i], "--help") == 0 || strcmp(arguments[i], "-h") == 0)
+            exit(fputs(HELP, stdout) == EOF);
+        if (strcmp(arguments[i], "--version") == 0)
+            exit(puts("serifladder-host " SERIFLADDER_VERSION) == EOF);
         while (o < OPTION_COUNT && strcmp(arguments[i], OPTIONS[o].name) != 0)
             o++;
         if (o == OPTION_COUNT)
@@ -104,8 +113,10 @@ static void read_options(int count, char **arguments)
         wrong_usage("--tool and --demo exclude each other");
     if (given[DEMO_SECONDS] != NULL && given[DEMO] == NULL)
         wrong_usage("--demo-seconds goes with --demo");
-    if (given[JOURNAL_SIZE] != NULL && given[JOURNAL] == NULL)
-        wrong_usage("--journal-size goes with --journal");
+    static const enum option WITH_JOURNAL[] = { JOURNAL_SIZE, JOURNAL_KEEP, STATE_BEHIND };
+    for (size_t i = 0; i < sizeof WITH_JOURNAL / sizeof WITH_JOURNAL[0]; i++)
+        if (given[WITH_JOURNAL[i]] != NULL && given[JOURNAL] == NULL)
+            wrong_usage("%s goes with --journal", OPTIONS[WITH_JOURNAL[i]].name);
 }
 
 /* The number given with an option, or the usual one. */
@@ -132,19 +143,6 @@ static struct sockaddr_in address_of(const char *text)
     return address;
 }
 
-/* ---- signals: the handler writes the signal's number into a pipe, which the loop polls */
-
-static int signal_pipe[2];
-
-static void on_signal(int number)
-{
-    int kept = errno;
-    uint8_t byte = (uint8_t)number;
-    ssize_t ignored = write(signal_pipe[1], &byte, 1);
-    (void)ignored;
-    errno = kept;
-}
-
 /* Where a standard stream is closed, it is /dev/null from now on: the log must not end in a file or a link that took its place. */
 static void keep_standard_streams(void)
 {
@@ -153,19 +151,6 @@ static void keep_standard_streams(void)
         opened = open("/dev/null", O_RDWR);
     while (opened >= 0 && opened <= STDERR_FILENO);
     close(opened);
-}
-
-static void catch_signals(void)
-{
-    struct sigaction ignore = { .sa_handler = SIG_IGN }, end = { .sa_handler = on_signal };
-    if (pipe(signal_pipe) != 0)
-        fail("no pipe for signals: %s", strerror(errno));
-    unblock(signal_pipe[0]);
-    unblock(signal_pipe[1]);
-    sigaction(SIGPIPE, &ignore, NULL);
-    sigaction(SIGXFSZ, &ignore, NULL); /* a file that may not grow is an error of the write */
-    sigaction(SIGTERM, &end, NULL);
-    sigaction(SIGINT, &end, NULL);
 }
 
 /* ---- the loop */
@@ -226,14 +211,16 @@ static void run(struct timer tick, struct timer demo)
     for (;;) {
         bool ticks = is_due(&tick); /* asked before the links are: bytes that have arrived count before the tick that follows them */
         int64_t next = earlier(earlier(links_heard_again(), now() + SECOND), demo.period > 0 ? earlier(demo.next, tick.next) : tick.next);
-        set[0] = (struct pollfd){ .fd = signal_pipe[0], .events = POLLIN };
+        set[0] = (struct pollfd){ .fd = signals_descriptor(), .events = POLLIN };
         links_poll(set + LINKS);
         tool_poll(set + TOOL_SET);
         while (poll_open(set, ticks ? 0 : milliseconds_until(next)) < 0)
             if (errno != EINTR)
                 fail("poll: %s", strerror(errno));
-        if (set[0].revents != 0)
+        if (set[0].revents != 0 && signals_end())
             return;
+        if (signals_reopen())
+            log_reopen();
         links_serve(set + LINKS);
         tool_serve(set + TOOL_SET);
         if (ticks) {
@@ -242,37 +229,56 @@ static void run(struct timer tick, struct timer demo)
         }
         if (is_due(&demo))
             demo_step();
+        log_counts();
     }
+}
+
+/* The number to begin with: the state's, unless the journal shows that a greater one was given. */
+static uint32_t last_of_both(uint32_t kept, const struct journal_options *journal)
+{
+    uint32_t shown;
+    if (journal->path == NULL || !journal_find(journal, &shown) || shown <= kept)
+        return kept;
+    if (given[STATE_BEHIND] == NULL)
+        fail("state %s says %u, but journal %s shows that %u was given: an older state stands there. Put the newer one back, or give "
+             "--state-behind to go on from %u", given[STATE], kept, journal->path, shown, shown);
+    say("state %s says %u: the host goes on from %u, which journal %s shows", given[STATE], kept, shown, journal->path);
+    return shown;
 }
 
 int main(int count, char **arguments)
 {
-    uint8_t settings[SETTINGS_RECORD], ended_by = 0;
+    uint8_t settings[SETTINGS_RECORD];
     read_options(count, arguments);
     uint32_t fresh = (uint32_t)number_of(NEW_STATE, 0, UINT32_MAX, 0);
-    uint64_t journal_size = number_of(JOURNAL_SIZE, 1, INT64_MAX, 64 << 20);
+    struct journal_options journal = {
+        .path = given[JOURNAL],
+        .size = number_of(JOURNAL_SIZE, 1, INT64_MAX, 16 << 20),
+        .keep = number_of(JOURNAL_KEEP, 1, UINT32_MAX, 7),
+    };
     struct timer tick = { .what = "ticks", .period = (int64_t)number_of(TICK_MILLISECONDS, 1, 3600000, 1000) * MILLISECOND };
     struct timer demo = { .what = "bolts", .period = given[DEMO] == NULL ? 0 : (int64_t)number_of(DEMO_SECONDS, 1, 86400, 3) * SECOND };
     links_limit((unsigned)number_of(LINKS_OF_AN_ADDRESS, 1, SERIFLADDER_SESSIONS, SERIFLADDER_SESSIONS));
     struct sockaddr_in address = address_of(given[LISTEN] == NULL ? "127.0.0.1:4545" : given[LISTEN]);
 
-    atexit(sessions_end);
     keep_standard_streams();
-    catch_signals();
+    signals_catch();
+    log_open(NULL);
+    atexit(sessions_end);
     settings_read(given[SETTINGS], settings);
-    links_bind(&address); /* before a file is made or renamed: a second host on the same port leaves all as it is */
-    uint32_t last = state_open(given[STATE], given[NEW_STATE] == NULL ? NULL : &fresh);
+    links_listen(&address); /* before a file is made or renamed: a second host on the same port leaves all as it is */
+    uint32_t kept = state_open(given[STATE], given[NEW_STATE] == NULL ? NULL : &fresh), last = last_of_both(kept, &journal);
+    state_keep(last);
     if (given[JOURNAL] != NULL)
-        journal_open(given[JOURNAL], journal_size);
+        journal_open();
     call_start(settings, last);
     tool_open(given[TOOL]);
     say("the last tightening number is %u", last);
-    links_listen();
+    links_ready();
     tick.next = now() + tick.period;
     demo.next = now();
     run(tick, demo);
     links_end();
-    if (read(signal_pipe[0], &ended_by, 1) == 1)
-        say("ended by %s", ended_by == SIGTERM ? "SIGTERM" : "SIGINT");
+    say("ended by %s", signals_ended_by());
     return 0;
 }

@@ -43,7 +43,7 @@ const struct session_losses *session_losses(void)
 
 static void say_lost(unsigned session, uint32_t number, const char *how, const char *why)
 {
-    say("session %u %s: result %u %s: %s", session, links_peer(session), number, how, why);
+    say_each("session %u %s: result %u %s: %s", session, links_peer(session), number, how, why);
 }
 
 /* Each result that is held is dropped, with a line. */

@@ -398,8 +398,8 @@ def tell_and_acknowledge(tool, server, i, number):
 class Place:
     """Where a test runs: its folder, and all that it starts."""
 
-    def __init__(self, host, replay, count, parent=None):
-        self.program, self.replay, self.count = host, replay, count
+    def __init__(self, options, parent=None):
+        self.program, self.replay, self.own_replay, self.count = options.host, options.replay, options.own_replay, options.count
         self.said = []  # figures that the test wants to be printed behind its ok
         self.hosts = []
         self.links, self.undo = contextlib.ExitStack(), contextlib.ExitStack()  # before and after the hosts' end
@@ -493,6 +493,11 @@ class Place:
     def wait_for_hang_up(self, session, times=1):
         self.wait_for_journal(lambda records: sum(kind == HANG_UP + session for kind, _ in records) >= times,
                               "hang-up %d of session %d" % (times, session))
+
+    def own_replayed(self, data, table=None):
+        """What serifladder-replay prints of house records, from a table or from a start."""
+        command = [self.own_replay] + (["--table", table] if table else [])
+        return subprocess.run(command, input=data, stdout=subprocess.PIPE, timeout=SECONDS, check=True).stdout
 
     def replayed(self):
         """What replay prints of the journal: an Opening for each open record, and the refusals."""

@@ -251,15 +251,18 @@ def a_state_that_cannot_be_made(place):
 
 @test
 def a_missing_state(place):
-    """Without a state file the host does not start, and says how to make one; it makes none by itself, nor a second one."""
+    """Without a state file the host does not start, and says how to make one; with --new-state it makes one, and goes on with that the
+    next time."""
     usual = ["--settings", place.settings, "--state", place.state, "--listen", "127.0.0.1:0"]
     place.refused(place.run(*usual), 1, place.state, "--new-state")
     check(not os.path.exists(place.state), "a state was made unasked")
     host = place.run(*usual, "--new-state", 41).ready()
     equal(host.end(), 0, "status")
     kept = content(place.state)
-    place.refused(place.run(*usual, "--new-state", 7), 1, place.state)
-    equal(content(place.state), kept, "the state after a refused --new-state")
+    host = place.run(*usual, "--new-state", 7).ready()
+    check("last tightening number is 41" in host.log(), "a second --new-state was not left alone:\n%s", host.log())
+    equal(host.end(), 0, "status")
+    equal(content(place.state), kept, "the state after a --new-state that was not needed")
     gives_next(place, 42)
 
 

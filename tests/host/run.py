@@ -1,13 +1,15 @@
 #!/usr/bin/env python3
 """Runs the tests of the host over real sockets.
 
-    run.py --host PROGRAM --replay PROGRAM [--only NAME,NAME,..] [--count N] [--seconds N]
+    run.py --host PROGRAM --replay PROGRAM [--own-replay PROGRAM] [--only NAME,NAME,..] [--count N] [--seconds N]
 
+--replay is the proved test program, --own-replay the host's serifladder-replay; if it is not given it stands beside the host.
 --count says how many results the load sends and, in hundreds, how many histories are made to happen; --seconds how long something
 is waited for that does not come. Without --only, the tests that take long are left out.
 Prints a line for each test. Exit status 0: none is wrong; what cannot be shown here is skipped, and counted apart."""
 
 import argparse
+import os
 import signal
 import subprocess
 import sys
@@ -19,6 +21,7 @@ import links  # noqa: F401, I001
 import notices  # noqa: F401
 import tool  # noqa: F401
 import journal  # noqa: F401
+import parts  # noqa: F401
 import kept  # noqa: F401
 import usage  # noqa: F401
 import ends  # noqa: F401
@@ -42,7 +45,7 @@ def seconds_to_start(host):
 
 def run(function, options):
     """Whether the test is right (None where it is skipped), and what is to be said of it."""
-    place = harness.Place(options.host, options.replay, options.count, getattr(function, "parent", None))
+    place = harness.Place(options, getattr(function, "parent", None))
     signal.alarm(WATCHDOG + options.count // 50)
     try:
         function(place)
@@ -63,10 +66,12 @@ def main():
     parser = argparse.ArgumentParser(description=__doc__.splitlines()[0])
     parser.add_argument("--host", required=True)
     parser.add_argument("--replay", required=True)
+    parser.add_argument("--own-replay")
     parser.add_argument("--only", type=lambda text: text.split(","))
     parser.add_argument("--count", type=int, default=2000)
     parser.add_argument("--seconds", type=int, default=harness.SECONDS)
     options = parser.parse_args()
+    options.own_replay = options.own_replay or os.path.join(os.path.dirname(options.host), "serifladder-replay")
     harness.SECONDS = options.seconds
     harness.FILE_GREATEST += options.count * BYTES_A_RESULT
     harness.FAST_TICK = max(harness.FAST_TICK, 2 * seconds_to_start(options.host))

@@ -237,6 +237,7 @@ def what_stands_where_the_tools_socket_goes(place):
     server.expect_result(tightening_fields(1), 1)
     first.kill()
     check(os.path.exists(place.tool_path), "no socket file is left by a killed host: this shows nothing")
+    place.journal = place.path("journal-2")  # of the other state
     host = place.host()
     server = place.server(host).subscribe()
     place.tool().tighten(tightening_fields(1), "0")
