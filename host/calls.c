@@ -92,6 +92,7 @@ void call_tick(void)
 {
     journal_prepare(table);
     settle_done("a tick", serifladder_tick(LENT, ANSWER), JOURNAL_TICK, NULL, 0);
+    sessions_ticked();
 }
 
 /* In the journal a record of a kind that stands for another call there gets kind 0, which is as bad a tool record. */
@@ -106,9 +107,12 @@ struct answer call_record(const uint8_t *record, size_t length)
     journal_prepare(table);
     uint64_t number = serifladder_record(LENT, record, length, ANSWER);
     struct answer answer = read_answer(answer_bytes);
-    if (number == SERIFLADDER_DONE && kind == SERIFLADDER_TIGHTENING)
+    bool numbered = number == SERIFLADDER_DONE && kind == SERIFLADDER_TIGHTENING;
+    if (numbered)
         state_keep(++last);
     journal_record(journal_kind(kind), record + SERIFLADDER_RECORD_HEADER, length - SERIFLADDER_RECORD_HEADER);
+    if (numbered)
+        sessions_result(last, answer.taken);
     carry_out(answer.written);
     return answer;
 }

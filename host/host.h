@@ -34,6 +34,9 @@ void log_counts(void);
 /* A line with the time before it. Where a format repeats too often within a second, the rest of its lines is counted. */
 void say(const char *format, ...) __attribute__((format(printf, 1, 2)));
 
+/* The same for what is lost, of which each has its line, however often it repeats. */
+void say_each(const char *format, ...) __attribute__((format(printf, 1, 2)));
+
 /* Says why the host cannot go on, and ends it with status 1. */
 _Noreturn void fail(const char *format, ...) __attribute__((format(printf, 1, 2)));
 
@@ -92,6 +95,20 @@ bool waiting_add(struct waiting *waiting, const void *bytes, size_t length);
 
 /* Sends what is taken now. False with errno where the peer is gone. */
 bool waiting_send(struct waiting *waiting, int socket);
+
+/* ---- door.c: sockets that listen */
+
+struct door {
+    const char *whose;
+    int socket;    /* -1: none */
+    int64_t rests; /* until then nobody is let in: where the system has no descriptor left, it has none either when it is asked at once again */
+};
+
+struct pollfd door_poll(const struct door *door);
+
+/* Takes a connection in, which does not block, and where the address is asked for, its peer's; -1 where there is none that can be kept. */
+int door_take(struct door *door, struct sockaddr_in *address);
+void door_close(struct door *door);
 
 /* ---- settings.c: the settings file as a settings record, its last number 0 */
 void settings_read(const char *path, uint8_t record[SETTINGS_RECORD]);
@@ -172,10 +189,45 @@ void links_close(unsigned session);  /* the library has closed the session */
 void links_hang_up_failed(void);     /* ends the links that could not be sent to */
 void links_end(void);
 
+/* The peer of a link, for the log. */
+const char *links_peer(unsigned session);
+
+/* A network that may connect, ADDRESS/BITS; without any, everybody may. False where the text is none, or there are too many. */
+bool links_allow(const char *text);
+void links_limit(unsigned links_of_an_address);
+uint64_t links_refused(void); /* so many were closed at once */
+
+/* ---- sessions.c: what each session is, and the results that it holds, told from what came and went */
+
+struct session_state {
+    bool open, started, identifiers, results; /* the last two: subscribed to them */
+    bool acknowledges;                        /* results are held until they are acknowledged */
+    unsigned held;
+    uint32_t numbers[8]; /* of the results that are held, the one that is sent first */
+};
+
+struct session_losses {
+    uint64_t not_taken, given_up, dropped; /* results */
+};
+
+void session_opened(unsigned session);
+void session_said(unsigned session, const uint8_t *message, size_t length); /* a message has come; `message` is its beginning */
+void session_sent(unsigned session, const uint8_t *frame, size_t length, bool waits); /* waits to be sent, or can't be */
+void session_ended(unsigned session, size_t waiting, const char *why); /* so many bytes were not given to the system yet */
+void sessions_result(uint32_t number, uint64_t taken);                 /* a tightening has that number, and these sessions took it */
+void sessions_ticked(void);
+void sessions_end(void); /* the host ends, in order or not */
+const struct session_state *session_state(unsigned session);
+const struct session_losses *session_losses(void);
+
+/* The number of a result, from its frame. */
+unsigned long result_number(const uint8_t *frame, size_t length);
+
 /* ---- tool.c: house records from a FIFO or over a Unix socket */
 void tool_open(const char *path);
 void tool_poll(struct pollfd set[TOOL_POLLED]);
 void tool_serve(const struct pollfd set[TOOL_POLLED]);
+void tool_tick(void); /* a tick has passed: tools may be silent for too long, and a FIFO may be gone */
 
 /* Gives a record to the library, says what came of it in the log and in `line`. */
 enum { ANSWER_LINE = 80 };

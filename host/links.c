@@ -25,6 +25,7 @@ enum {
 static struct link {
     int socket; /* -1: no link */
     char peer[INET_ADDRSTRLEN + 8];
+    in_addr_t address;
     uint8_t run[RUN_KEPT]; /* the beginning of the run that is being received, or has ended last */
     size_t run_length;
     bool ended;
@@ -34,7 +35,7 @@ static struct link {
     struct waiting waiting;
 } links[SERIFLADDER_SESSIONS];
 
-static int door; /* listens */
+static struct door door = { .whose = "links" };
 
 static void write_address(char text[INET_ADDRSTRLEN + 8], const struct sockaddr_in *address)
 {
@@ -56,11 +57,11 @@ void links_listen(const struct sockaddr_in *address)
     int on = 1;
     for (unsigned s = 0; s < SERIFLADDER_SESSIONS; s++)
         links[s].socket = -1;
-    door = socket(AF_INET, SOCK_STREAM, 0);
-    if (door < 0 || setsockopt(door, SOL_SOCKET, SO_REUSEADDR, &on, sizeof on) != 0
-        || bind(door, (const struct sockaddr *)address, sizeof *address) != 0 || listen(door, SOMAXCONN) != 0)
+    door.socket = socket(AF_INET, SOCK_STREAM, 0);
+    if (door.socket < 0 || setsockopt(door.socket, SOL_SOCKET, SO_REUSEADDR, &on, sizeof on) != 0
+        || bind(door.socket, (const struct sockaddr *)address, sizeof *address) != 0 || listen(door.socket, SOMAXCONN) != 0)
         cannot_listen(address);
-    unblock(door);
+    unblock(door.socket);
 }
 
 void links_ready(void)
@@ -68,16 +69,22 @@ void links_ready(void)
     struct sockaddr_in address = { .sin_family = AF_INET };
     socklen_t size = sizeof address;
     char text[INET_ADDRSTRLEN + 8];
-    if (getsockname(door, (struct sockaddr *)&address, &size) != 0)
+    if (getsockname(door.socket, (struct sockaddr *)&address, &size) != 0)
         cannot_listen(&address);
     write_address(text, &address);
     say("listening on %s", text);
+}
+
+const char *links_peer(unsigned session)
+{
+    return links[session].peer;
 }
 
 /* ---- ends */
 
 static void close_link(struct link *link, const char *why)
 {
+    session_ended((unsigned)(link - links), link->waiting.length, why);
     say("session %td %s closed: %s", link - links, link->peer, why);
     close(link->socket);
     link->socket = -1;
@@ -108,7 +115,7 @@ void links_end(void)
     for (unsigned s = 0; s < SERIFLADDER_SESSIONS; s++)
         if (links[s].socket >= 0)
             hang_up(&links[s], "the host ends");
-    close(door);
+    door_close(&door);
 }
 
 /* ---- sending */
@@ -119,16 +126,35 @@ static void send_waiting(struct link *link)
         link->failed = strerror(errno);
 }
 
+/* A line for a frame: of a 0004 with the message and its error, of a 0005 with the message, and with the text of a 0050, of a 0061 with the
+   result's number. */
+static void say_sent(const struct link *link, const uint8_t *frame, size_t length)
+{
+    const char *text = (const char *)frame, *data = text + HEADER;
+    char more[80] = "";
+    if (memcmp(text + 4, "0004", 4) == 0)
+        snprintf(more, sizeof more, " to %.4s, error %.2s", data, data + 4);
+    else if (memcmp(text + 4, "0005", 4) == 0 && memcmp(data, "0050", 4) == 0)
+        snprintf(more, sizeof more, " to %.4s \"%.*s\"", data, (int)(link->run_length - HEADER), (const char *)link->run + HEADER);
+    else if (memcmp(text + 4, "0005", 4) == 0)
+        snprintf(more, sizeof more, " to %.4s", data);
+    else if (memcmp(text + 4, "0061", 4) == 0)
+        snprintf(more, sizeof more, " number %lu", result_number(frame, length));
+    say("session %td %s > %.4s%s", link - links, link->peer, text + 4, more);
+}
+
 void links_send(unsigned session, const uint8_t *frame, size_t length)
 {
     struct link *link = &links[session];
+    bool waits = link->failed == NULL && waiting_add(&link->waiting, frame, length);
+    session_sent(session, frame, length, waits);
     if (link->failed != NULL)
         return;
-    if (!waiting_add(&link->waiting, frame, length)) {
+    if (!waits) {
         link->failed = "64 KiB wait for it, and it does not read";
         return;
     }
-    say("session %u %s > %.4s", session, link->peer, (const char *)frame + 4);
+    say_sent(link, frame, length);
     send_waiting(link);
 }
 
@@ -168,6 +194,7 @@ static void note_received(struct link *link, const uint8_t *bytes, size_t length
         return;
     if (is_message(link)) {
         link->overlong = 0;
+        session_said((unsigned)(link - links), link->run, link->run_length);
         say("session %td %s < %.4s", link - links, link->peer, (const char *)link->run + 4);
     } else {
         say("session %td %s < no message, %zu bytes", link - links, link->peer, link->run_length);
@@ -221,44 +248,93 @@ static void receive(struct link *link)
 
 /* ---- the door */
 
+enum { ALLOWED_GREATEST = 32 };
+static struct {
+    in_addr_t address, mask;
+} allowed[ALLOWED_GREATEST];
+static unsigned allowed_count, of_an_address = SERIFLADDER_SESSIONS;
+static uint64_t refused;
+
+bool links_allow(const char *text)
+{
+    const char *slash = strchr(text, '/');
+    char host[INET_ADDRSTRLEN] = "";
+    struct in_addr address;
+    uint64_t bits;
+    if (allowed_count == ALLOWED_GREATEST || slash == NULL || (size_t)(slash - text) >= sizeof host)
+        return false;
+    memcpy(host, text, (size_t)(slash - text));
+    if (inet_pton(AF_INET, host, &address) != 1 || !read_number(slash + 1, 32, &bits))
+        return false;
+    in_addr_t mask = htonl(bits == 0 ? 0 : UINT32_MAX << (32 - bits));
+    allowed[allowed_count].mask = mask;
+    allowed[allowed_count++].address = address.s_addr & mask;
+    return true;
+}
+
+void links_limit(unsigned links_of_an_address)
+{
+    of_an_address = links_of_an_address;
+}
+
+uint64_t links_refused(void)
+{
+    return refused;
+}
+
+/* Why a peer may not have a link; NULL where it may. */
+static const char *why_refused(const struct sockaddr_in *peer)
+{
+    in_addr_t address = peer->sin_addr.s_addr;
+    unsigned i = 0, open = 0;
+    while (i < allowed_count && (address & allowed[i].mask) != allowed[i].address)
+        i++;
+    if (allowed_count > 0 && i == allowed_count)
+        return "its address is not allowed";
+    for (unsigned s = 0; s < SERIFLADDER_SESSIONS; s++)
+        open += links[s].socket >= 0 && links[s].address == address;
+    return open < of_an_address ? NULL : "its address has as many links as one may have";
+}
+
 static void take_in(void)
 {
     struct sockaddr_in address;
-    socklen_t size = sizeof address;
     char peer[INET_ADDRSTRLEN + 8];
-    int on = 1, room = SYSTEM_ROOM, socket = accept(door, (struct sockaddr *)&address, &size);
-    if (socket < 0) {
-        if (errno != EAGAIN && errno != EWOULDBLOCK && errno != EINTR && errno != ECONNABORTED)
-            say("a connection cannot be taken: %s", strerror(errno));
+    int on = 1, room = SYSTEM_ROOM, socket = door_take(&door, &address);
+    if (socket < 0)
         return;
-    }
     write_address(peer, &address);
     unsigned s = 0;
     while (s < SERIFLADDER_SESSIONS && links[s].socket >= 0)
         s++;
-    if (s == SERIFLADDER_SESSIONS) {
-        say("%s closed: all four sessions are taken", peer);
+    const char *why = why_refused(&address);
+    if (why == NULL && s == SERIFLADDER_SESSIONS)
+        why = "all four sessions are taken";
+    if (why != NULL) {
+        say("%s closed: %s", peer, why);
+        refused += 1;
         close(socket);
         return;
     }
-    unblock(socket);
     setsockopt(socket, IPPROTO_TCP, TCP_NODELAY, &on, sizeof on);
     setsockopt(socket, SOL_SOCKET, SO_SNDBUF, &room, sizeof room);
     struct link *link = &links[s];
     memcpy(link->peer, peer, sizeof peer);
+    link->address = address.sin_addr.s_addr;
     link->socket = socket;
     link->run_length = 0;
     link->overlong = 0;
     link->ended = false;
     link->failed = NULL;
     link->waiting.length = 0;
+    session_opened(s);
     call_open(s);
     say("session %u %s opened", s, peer);
 }
 
 void links_poll(struct pollfd set[LINKS_POLLED])
 {
-    set[0] = (struct pollfd){ .fd = door, .events = POLLIN };
+    set[0] = door_poll(&door);
     for (unsigned s = 0; s < SERIFLADDER_SESSIONS; s++) {
         short events = (short)((may_be_heard(&links[s]) ? POLLIN : 0) | (links[s].waiting.length > 0 ? POLLOUT : 0));
         set[1 + s] = (struct pollfd){ .fd = events == 0 ? -1 : links[s].socket, .events = events };

@@ -171,6 +171,16 @@ void say(const char *format, ...)
         write_text("", text);
 }
 
+void say_each(const char *format, ...)
+{
+    char text[LINE];
+    va_list values;
+    va_start(values, format);
+    vsnprintf(text, sizeof text, format, values);
+    va_end(values);
+    write_text("", text);
+}
+
 void fail(const char *format, ...)
 {
     char text[LINE];

@@ -13,7 +13,7 @@
 
 static const char HELP[] =
     "serifladder-host --settings FILE --state FILE [--new-state NUMBER] [--listen ADDRESS:PORT]\n"
-    "                 [--tool PATH | --demo [--demo-seconds N]]\n"
+    "                 [--allow ADDRESS/BITS].. [--links-of-an-address N] [--tool PATH | --demo [--demo-seconds N]]\n"
     "                 [--journal FILE] [--journal-size BYTES] [--journal-keep N] [--state-behind]\n"
     "                 [--tick-milliseconds N] [--version] [--help]\n"
     "\n"
@@ -27,6 +27,8 @@ static const char HELP[] =
     "  --state-behind         where the journal shows a greater number than the state, an older state having been put back,\n"
     "                         goes on from the greater; without this option the host does not start then\n"
     "  --listen ADDRESS:PORT  where line servers connect (IPv4); 127.0.0.1:4545 if not given; port 0: the system chooses\n"
+    "  --allow ADDRESS/BITS   who may connect, say 192.168.4.0/24; may be given several times; everybody if not given\n"
+    "  --links-of-an-address N  so many links one address may have at once, 1 to 4; 4 if not given\n"
     "  --tool PATH            house records come from the FIFO at PATH, or else over a Unix stream socket made at PATH,\n"
     "                         which answers a line for each: 0 done, taken by 0 2, or the number and meaning of a refusal\n"
     "  --demo                 a simulated tool\n"
@@ -44,8 +46,8 @@ static const char HELP[] =
     "order, with status 0; status 1: it could not go on; status 2: wrong usage.\n";
 
 enum option {
-    SETTINGS, STATE, NEW_STATE, STATE_BEHIND, LISTEN, TOOL, DEMO, DEMO_SECONDS, JOURNAL, JOURNAL_SIZE, JOURNAL_KEEP, TICK_MILLISECONDS,
-    OPTION_COUNT
+    SETTINGS, STATE, NEW_STATE, STATE_BEHIND, LISTEN, ALLOW, LINKS_OF_AN_ADDRESS, TOOL, DEMO, DEMO_SECONDS, JOURNAL, JOURNAL_SIZE,
+    JOURNAL_KEEP, TICK_MILLISECONDS, OPTION_COUNT
 };
 
 static const struct {
@@ -57,6 +59,8 @@ static const struct {
     [NEW_STATE] = { "--new-state", true },
     [STATE_BEHIND] = { "--state-behind", false },
     [LISTEN] = { "--listen", true },
+    [ALLOW] = { "--allow", true },
+    [LINKS_OF_AN_ADDRESS] = { "--links-of-an-address", true },
     [TOOL] = { "--tool", true },
     [DEMO] = { "--demo", false },
     [DEMO_SECONDS] = { "--demo-seconds", true },
@@ -94,11 +98,13 @@ static void read_options(int count, char **arguments)
             o++;
         if (o == OPTION_COUNT)
             wrong_usage("there is no option %s", arguments[i]);
-        if (given[o] != NULL)
+        if (given[o] != NULL && o != ALLOW)
             wrong_usage("%s is given twice", OPTIONS[o].name);
         if (OPTIONS[o].has_value && (i + 1 == count || arguments[i + 1][0] == '\0'))
             wrong_usage("%s needs a value", OPTIONS[o].name);
         given[o] = OPTIONS[o].has_value ? arguments[++i] : OPTIONS[o].name;
+        if (o == ALLOW && !links_allow(given[o]))
+            wrong_usage("--allow is %s, but allowed is ADDRESS/BITS, as 192.168.4.0/24, 32 times at most", given[o]);
     }
     for (enum option o = SETTINGS; o <= STATE; o++)
         if (given[o] == NULL)
@@ -193,17 +199,33 @@ static int milliseconds_until(int64_t next)
     return left <= 0 ? 0 : (int)((left + MILLISECOND - 1) / MILLISECOND);
 }
 
+enum { LINKS = 1, TOOL_SET = LINKS + LINKS_POLLED, ALL = TOOL_SET + TOOL_POLLED }; /* places in what is polled */
+
+/* Polls what has a descriptor: the system takes no longer list than the process may have descriptors. */
+static int poll_open(struct pollfd set[ALL], int milliseconds)
+{
+    struct pollfd asked[ALL];
+    nfds_t count = 0;
+    for (unsigned i = 0; i < ALL; i++)
+        if (set[i].fd >= 0)
+            asked[count++] = set[i];
+    int ready = poll(asked, count, milliseconds);
+    for (unsigned i = ALL; i-- > 0;)
+        if (set[i].fd >= 0)
+            set[i].revents = asked[--count].revents;
+    return ready;
+}
+
 static void run(struct timer tick, struct timer demo)
 {
-    enum { LINKS = 1, TOOL_SET = LINKS + LINKS_POLLED, ALL = TOOL_SET + TOOL_POLLED };
     struct pollfd set[ALL];
     for (;;) {
         bool ticks = is_due(&tick); /* asked before the links are: bytes that have arrived count before the tick that follows them */
-        int64_t next = earlier(links_heard_again(), demo.period > 0 ? earlier(demo.next, tick.next) : tick.next);
+        int64_t next = earlier(earlier(links_heard_again(), now() + SECOND), demo.period > 0 ? earlier(demo.next, tick.next) : tick.next);
         set[0] = (struct pollfd){ .fd = signals_descriptor(), .events = POLLIN };
         links_poll(set + LINKS);
         tool_poll(set + TOOL_SET);
-        while (poll(set, ALL, ticks ? 0 : milliseconds_until(next)) < 0)
+        while (poll_open(set, ticks ? 0 : milliseconds_until(next)) < 0)
             if (errno != EINTR)
                 fail("poll: %s", strerror(errno));
         if (set[0].revents != 0 && signals_end())
@@ -212,8 +234,10 @@ static void run(struct timer tick, struct timer demo)
             log_reopen();
         links_serve(set + LINKS);
         tool_serve(set + TOOL_SET);
-        if (ticks)
+        if (ticks) {
             call_tick();
+            tool_tick();
+        }
         if (is_due(&demo))
             demo_step();
         log_counts();
@@ -245,12 +269,14 @@ int main(int count, char **arguments)
     };
     struct timer tick = { .what = "ticks", .period = (int64_t)number_of(TICK_MILLISECONDS, 1, 3600000, 1000) * MILLISECOND };
     struct timer demo = { .what = "bolts", .period = given[DEMO] == NULL ? 0 : (int64_t)number_of(DEMO_SECONDS, 1, 86400, 3) * SECOND };
+    links_limit((unsigned)number_of(LINKS_OF_AN_ADDRESS, 1, SERIFLADDER_SESSIONS, SERIFLADDER_SESSIONS));
     struct sockaddr_in address = address_of(given[LISTEN] == NULL ? "127.0.0.1:4545" : given[LISTEN]);
 
     check_places();
     keep_standard_streams();
     signals_catch();
     log_open(NULL);
+    atexit(sessions_end);
     settings_read(given[SETTINGS], settings);
     links_listen(&address); /* before a file is made or renamed: a second host on the same port leaves all as it is */
     uint32_t kept = state_open(given[STATE], given[NEW_STATE] == NULL ? NULL : &fresh), last = last_of_both(kept, &journal);

@@ -260,8 +260,10 @@ class Server(Link):
     """A line server. `seen` are all the runs that came, `open` tells whether the link has not ended, and `reads_all` whether all that
     was sent to it before has been read then."""
 
-    def __init__(self, host, receive_buffer=None):
+    def __init__(self, host, receive_buffer=None, address=None):
         link = socket.socket()
+        if address:
+            link.bind((address, 0))
         if receive_buffer:
             link.setsockopt(socket.SOL_SOCKET, socket.SO_RCVBUF, receive_buffer)
         link.setsockopt(socket.IPPROTO_TCP, socket.TCP_NODELAY, 1)

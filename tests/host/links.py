@@ -13,8 +13,8 @@ import time
 
 import harness
 import tracing
-from harness import (BYTES, OPEN, TICK, InTime, check, equal, identifier_record, in_memory, message, test, tightening_fields, tightening_record,
-                     wait)
+from harness import (BYTES, OPEN, TICK, InTime, check, equal, identifier_record, in_memory, message, test, tightening_fields,
+                     tightening_record, wait)
 import openprotocol
 
 DIALOGUE = message(1) + message(51, revision=2) + message(60) + message(9999, rest=b"the-rest")
@@ -95,6 +95,33 @@ def ticks_since(records, kind):
     """The ticks behind the last record of that kind."""
     kinds = [k for k, _ in records]
     return kinds[len(kinds) - kinds[::-1].index(kind):].count(TICK)
+
+
+@test
+def who_may_connect(place):
+    """With --allow others are closed at once, with a line, and so is one link too many of an address; both leave the rest alone."""
+    def connect(host, address, *words):
+        server = place.server(host, address=address)
+        if not words:
+            return server.start()
+        equal(server.until_closed(), [], "what one that is turned away is sent")
+        host.wait_for_log(r"Z %s:\d+ closed: %s\n" % (re.escape(address), words[0]))
+        return None
+
+    host = place.host("--allow", "127.0.0.2/32", "--allow", "127.0.8.77/21", "--links-of-an-address", 2)
+    servers = [connect(host, address) for address in ("127.0.0.2", "127.0.8.0", "127.0.15.255")]
+    for address in ("127.0.0.1", "127.0.0.3", "127.0.7.255", "127.0.16.0"):
+        connect(host, address, "its address is not allowed")
+    servers.append(connect(host, "127.0.0.2"))
+    connect(host, "127.0.0.2", "its address has as many links as one may have")
+    connect(host, "127.0.9.0", "all four sessions are taken")
+    servers.pop(0).close()
+    place.wait_for_hang_up(0)
+    servers.append(connect(host, "127.0.0.2"))
+    for server in servers:
+        equal(server.fence(), [], "something besides")
+    equal(host.end(), 0, "status")
+    connect(place.host("--allow", "0.0.0.0/0"), "127.9.9.9")
 
 
 @test
