@@ -101,7 +101,7 @@ bool waiting_send(struct waiting *waiting, int socket);
 struct door {
     const char *whose;
     int socket;    /* -1: none */
-    int64_t rests; /* until then nobody is let in: where the system has no descriptor left, it has none either when it is asked at once again */
+    int64_t rests; /* until then nobody is let in: a system that has no descriptor left has none either when it is asked at once again */
 };
 
 struct pollfd door_poll(const struct door *door);
@@ -134,6 +134,22 @@ uint32_t state_open(const char *path, const uint32_t *fresh);
 
 /* Keeps the number: when this returns it has reached the disk, and no other host has the state. */
 void state_keep(uint32_t number);
+
+/* CRC-32, as in zip files. */
+uint32_t check_sum(const char *bytes, size_t length);
+
+/* ---- serials.c: the names that tools give to their records */
+
+enum { SERIAL_LENGTH = 16 };
+
+/* Reads what is kept beside the state. Tightenings up to the number `given` were given. */
+void serials_open(const char *state, uint32_t given);
+
+/* Keeps the answer to a record, on the disk where it has a number (0: it has none); before the number itself is kept. */
+void serial_keep(const uint8_t serial[SERIAL_LENGTH], uint32_t number, uint64_t taken);
+
+/* Whether a record of that name was done, and what the answer was. */
+bool serial_known(const uint8_t serial[SERIAL_LENGTH], uint32_t *number, uint64_t *taken);
 
 /* ---- journal.c: every call as house records, as the program serifladder-replay reads them */
 
@@ -184,7 +200,7 @@ void call_open(unsigned session);
 void call_hang_up(unsigned session);
 size_t call_bytes(unsigned session, const uint8_t *bytes, size_t length); /* answers how many were consumed */
 void call_tick(void);
-struct answer call_record(const uint8_t *record, size_t length);
+struct answer call_record(const uint8_t *serial, const uint8_t *record, size_t length); /* serial: its name, or NULL */
 
 /* The last tightening number that was given. */
 uint32_t last_number(void);
@@ -243,9 +259,10 @@ void tool_poll(struct pollfd set[TOOL_POLLED]);
 void tool_serve(const struct pollfd set[TOOL_POLLED]);
 void tool_tick(void); /* a tick has passed: tools may be silent for too long, and a FIFO may be gone */
 
-/* Gives a record to the library, says what came of it in the log and in `line`. */
+/* Gives a record, with its serial or NULL, to the library, says what came of it in the log and in `line`. */
 enum { ANSWER_LINE = 80 };
-void tool_record(const uint8_t *record, size_t length, char line[ANSWER_LINE]);
+void tool_record(const uint8_t *serial, const uint8_t *record, size_t length, char line[ANSWER_LINE]);
+uint64_t tool_refused(void); /* so many records */
 
 /* ---- demo.c: a simulated tool; does one thing each time it is asked */
 void demo_step(void);

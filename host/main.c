@@ -31,7 +31,8 @@ static const char HELP[] =
     "  --allow ADDRESS/BITS   who may connect, say 192.168.4.0/24; may be given several times; everybody if not given\n"
     "  --links-of-an-address N  so many links one address may have at once, 1 to 4; 4 if not given\n"
     "  --tool PATH            house records come from the FIFO at PATH, or else over a Unix stream socket made at PATH,\n"
-    "                         which answers a line for each: 0 done, taken by 0 2, or the number and meaning of a refusal\n"
+    "                         which answers a line for each: 0 done, taken by 0 2, number 17 (a tightening's), or the\n"
+    "                         number and meaning of a refusal\n"
     "  --demo                 a simulated tool\n"
     "  --demo-seconds N       so many seconds between its bolts; 3 if not given\n"
     "  --journal FILE         every call as house records, which the program serifladder-replay reads; an existing FILE is\n"
@@ -272,15 +273,14 @@ static void run(struct timer tick, struct timer demo)
 }
 
 /* The number to begin with: the state's, unless the journal shows that a greater one was given. */
-static uint32_t last_of_both(uint32_t kept, const struct journal_options *journal)
+static uint32_t last_of_both(uint32_t kept, uint32_t shown)
 {
-    uint32_t shown;
-    if (journal->path == NULL || !journal_find(journal, &shown) || shown <= kept)
+    if (shown <= kept)
         return kept;
     if (given[STATE_BEHIND] == NULL)
         fail("state %s says %u, but journal %s shows that %u was given: an older state stands there. Put the newer one back, or give "
-             "--state-behind to go on from %u", given[STATE], kept, journal->path, shown, shown);
-    say("state %s says %u: the host goes on from %u, which journal %s shows", given[STATE], kept, shown, journal->path);
+             "--state-behind to go on from %u", given[STATE], kept, given[JOURNAL], shown, shown);
+    say("state %s says %u: the host goes on from %u, which journal %s shows", given[STATE], kept, shown, given[JOURNAL]);
     return shown;
 }
 
@@ -308,7 +308,11 @@ int main(int count, char **arguments)
     atexit(sessions_end);
     settings_read(given[SETTINGS], settings);
     links_listen(&address); /* before a file is made or renamed: a second host on the same port leaves all as it is */
-    uint32_t kept = state_open(given[STATE], given[NEW_STATE] == NULL ? NULL : &fresh), last = last_of_both(kept, &journal);
+    uint32_t kept = state_open(given[STATE], given[NEW_STATE] == NULL ? NULL : &fresh), shown = kept;
+    if (given[JOURNAL] != NULL && !journal_find(&journal, &shown))
+        shown = kept;
+    uint32_t last = last_of_both(kept, shown);
+    serials_open(given[STATE], shown);
     state_keep(last);
     if (given[JOURNAL] != NULL)
         journal_open();
