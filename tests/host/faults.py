@@ -53,6 +53,19 @@ STATE_MADE = """\
 SHARES = ("RUNS_AT_ONCE = 16,        /* of a link in a turn: what else has come waits for the next */\n"
           "    BYTES_A_SECOND = 262144,")
 
+LISTENS = "listen(door.socket, SOMAXCONN) != 0"
+LISTENED = """\
+        cannot_listen(address);
+    unblock(door.socket);
+}
+
+void links_ready(void)
+{
+    struct sockaddr_in address = { .sin_family = AF_INET };
+    socklen_t size = sizeof address;
+    char text[INET_ADDRSTRLEN + 8];
+    if (getsockname(door.socket, (struct sockaddr *)&address, &size) != 0"""
+
 # The fault, the test that finds it, the file, what stands there, and what is put in its place.
 FAULTS = [
     ("state not written", "killed-between-results", "calls.c", "state_keep(++last);", "++last;"),
@@ -147,6 +160,7 @@ FAULTS = [
     ("SIGHUP not heard", "log-and-journal-opened-again", "main.c", "            log_reopen();\n", "            continue;\n"),
     ("a full log not put aside", "a-log-that-is-full", "log.c", "file_size > FILE_GREATEST)", "file_size < 0)"),
     ("a time too late", "the-time-of-day-beside-the-journal", "journal.c", "TICKS_BETWEEN_TIMES = 60", "TICKS_BETWEEN_TIMES = 61"),
+    ("listens when the files are made", "two-hosts-at-once", "links.c", " || %s)\n%s)" % (LISTENS, LISTENED), ")\n%s || %s)" % (LISTENED, LISTENS)),
     ("a state made though the port is taken", "an-address-in-use", "main.c", ADDRESS_TAKEN + STATE_MADE,
      STATE_MADE + ADDRESS_TAKEN),
 ]
