@@ -6,6 +6,7 @@
 #include <stdlib.h>
 #include <string.h>
 #include <sys/socket.h>
+#include <sys/stat.h>
 #include <time.h>
 #include <unistd.h>
 
@@ -84,6 +85,19 @@ int open_folder(const char *path)
     int opened = folder == NULL ? -1 : open(folder, O_RDONLY | O_DIRECTORY | O_CLOEXEC);
     free(folder);
     return opened;
+}
+
+bool same_place(const char *one, const char *other)
+{
+    struct stat first, second;
+    if (stat(one, &first) == 0 && stat(other, &second) == 0)
+        return first.st_ino == second.st_ino && first.st_dev == second.st_dev;
+    int folders[] = { open_folder(one), open_folder(other) };
+    bool same = strcmp(name_in_folder(one), name_in_folder(other)) == 0 && folders[0] >= 0 && folders[1] >= 0
+        && fstat(folders[0], &first) == 0 && fstat(folders[1], &second) == 0 && first.st_ino == second.st_ino && first.st_dev == second.st_dev;
+    close(folders[0]);
+    close(folders[1]);
+    return same;
 }
 
 void unblock(int descriptor)

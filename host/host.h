@@ -74,6 +74,9 @@ bool lock_file(int file);
 const char *name_in_folder(const char *path);
 int open_folder(const char *path);
 
+/* Whether two paths are one file, or would be if it were made. */
+bool same_place(const char *one, const char *other);
+
 /* Makes a descriptor non-blocking. */
 void unblock(int descriptor);
 

@@ -120,6 +120,17 @@ static void read_options(int count, char **arguments)
             wrong_usage("%s goes with --journal", OPTIONS[WITH_JOURNAL[i]].name);
 }
 
+/* No file may be given for two purposes: one would be written over the other. */
+static void check_places(void)
+{
+    static const enum option PLACES[] = { SETTINGS, STATE, TOOL, JOURNAL };
+    enum { COUNT = sizeof PLACES / sizeof PLACES[0] };
+    for (size_t i = 0; i < COUNT; i++)
+        for (size_t k = 0; k < i; k++)
+            if (given[PLACES[i]] != NULL && given[PLACES[k]] != NULL && same_place(given[PLACES[i]], given[PLACES[k]]))
+                wrong_usage("%s and %s are the same file, %s", OPTIONS[PLACES[k]].name, OPTIONS[PLACES[i]].name, given[PLACES[i]]);
+}
+
 /* The number given with an option, or the usual one. */
 static uint64_t number_of(enum option option, uint64_t least, uint64_t greatest, uint64_t usual)
 {
@@ -261,6 +272,7 @@ int main(int count, char **arguments)
     links_limit((unsigned)number_of(LINKS_OF_AN_ADDRESS, 1, SERIFLADDER_SESSIONS, SERIFLADDER_SESSIONS));
     struct sockaddr_in address = address_of(given[LISTEN] == NULL ? "127.0.0.1:4545" : given[LISTEN]);
 
+    check_places();
     keep_standard_streams();
     signals_catch();
     log_open(NULL);

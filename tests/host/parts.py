@@ -3,10 +3,11 @@
 import contextlib
 import os
 import re
+import signal
 import subprocess
 
 import generate
-from harness import (SECONDS, check, content, equal, in_memory, message, openprotocol, tell_and_acknowledge, test, tightening_fields, wait)
+from harness import SECONDS, Wrong, check, content, equal, in_memory, message, openprotocol, tell_and_acknowledge, test
 from journal import Play
 
 SIZE, KEEP = 20000, 3
@@ -135,3 +136,96 @@ def lines_that_repeat(place):
     equal(counted, [sent, 2001], "lines of runs and of messages, said and counted")
     check(len(lines) < 400, "%d lines are not few", len(lines))
     place.said.append("%d lines for %d runs" % (len(lines), sent + 2000))
+
+
+@test
+def a_journal_that_is_removed(place):
+    """A journal that is removed, renamed or replaced under the host is begun anew, which the log says; what is sent from then on can be
+    replayed from the table beside it, and what was put in its place is not lost."""
+    host = place.host()
+    server = place.server(host).subscribe()
+    tool = place.tool()
+    for number, (take_away, put_there) in enumerate(((os.remove, None), (lambda path: os.rename(path, path + "-old"), None),
+                                                     (os.remove, b"another's")), 1):
+        tell_and_acknowledge(tool, server, 2 * number - 1, 2 * number - 1)
+        equal(server.fence(), [], "something besides")
+        seen = len(server.seen)
+        take_away(place.journal)
+        if put_there:
+            with open(place.journal, "wb") as file:
+                file.write(put_there)
+        tell_and_acknowledge(tool, server, 2 * number, 2 * number)
+        equal(server.fence(), [], "something besides")
+        sent = b"".join(b"0 S " + run.replace(b" ", b"_") + b"\n" for run in server.seen[seen:])
+        table = "%s.%d.table" % (place.journal, max(beside(place, ".table")))
+        equal(place.own_replayed(content(place.journal), table), sent, "what the new journal shows")
+        check(host.log().count("was removed or renamed") == number, "the log does not say it %d times:\n%s", number, host.log())
+    check(b"another's" in [content(path) for path in place.journal_parts()], "what was put in the journal's place is gone")
+    equal(host.end(), 0, "status")
+
+
+class Reader:
+    """Reads a journal that is a FIFO, as much as it is asked to."""
+
+    def __init__(self, place):
+        place.journal = place.path("fifo")
+        os.mkfifo(place.journal)
+        self.file = os.open(place.journal, os.O_RDONLY | os.O_NONBLOCK)
+        place.undo.callback(os.close, self.file)
+        self.data = b""
+
+    def read(self):
+        with contextlib.suppress(BlockingIOError):
+            while more := os.read(self.file, 65536):
+                self.data += more
+        return self.data
+
+
+@test
+def a_journal_whose_reader_stops(place):
+    """A FIFO as journal: while its reader stops the host waits, which the log says, and nothing is lost; a signal ends it all the same."""
+    reader = Reader(place)
+    host = place.host()
+    server = place.server(host).start()
+    server.link.settimeout(0.3)
+    sent = 0
+    with contextlib.suppress(Wrong):
+        while sent < 100_000:
+            server.send(message(openprotocol.KEEP_ALIVE, rest=b"%08d" % sent))
+            sent += 1
+            server.next()
+    check(sent < 100_000, "the FIFO took everything: this shows nothing")
+    host.wait_for_log("takes nothing")
+    server.link.settimeout(SECONDS)
+    reader.read()
+    server.next()
+    equal(server.fence(), [], "something besides")
+    printed = replayed(place, reader.read())
+    equal(printed, b"".join(b"0 S " + run.replace(b" ", b"_") + b"\n" for run in server.seen), "what the journal shows")
+    server.link.settimeout(0.3)
+    with contextlib.suppress(Wrong):
+        while True:
+            server.fence()
+    host.process.send_signal(signal.SIGTERM)
+    place.refused(host, 1, place.journal)
+
+
+@test
+def the_last_part_number(place):
+    """Where no number is left for a part the host does not start, and says so; nothing is renamed. Other names are left alone."""
+    last = place.journal + ".4294967295"
+    with open(last, "wb"):
+        pass
+    place.refused(place.start(), 1, place.journal, "4294967295")
+    os.rename(last, place.journal + ".4294967294")
+    others = [place.journal + end for end in (".4294967296", ".07", ".1x", ".-1", "-5", ".5.tables", ".")]
+    for other in others:
+        with open(other, "wb") as file:
+            file.write(b"another's")
+    host = place.host("--journal-size", 100)
+    server = place.server(host).start()
+    server.send(message(openprotocol.KEEP_ALIVE) * 20)
+    place.refused(host, 1, place.journal, "4294967295")
+    equal(content(place.journal + ".4294967294"), b"", "the part before the last")
+    check(os.path.getsize(last) > 100, "the last part is not whole")
+    equal({content(other) for other in others}, {b"another's"}, "files that are no parts")

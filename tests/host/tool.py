@@ -510,7 +510,8 @@ def few_descriptors(place):
     for turned_away in (place.server(host), place.tool()):
         equal(turned_away.receive(), b"", "what one that is turned away is sent")
     equal(len(re.findall(r"(?:links|tool): a connection cannot be taken: too few", host.log())), 2, "lines that say so")
-    resource.prlimit(host.process.pid, resource.RLIMIT_NOFILE, (host.files(), greatest))
+    used = set(map(int, os.listdir("/proc/%d/fd" % host.process.pid)))
+    resource.prlimit(host.process.pid, resource.RLIMIT_NOFILE, (min(set(range(len(used) + 1)) - used), greatest))
     waiting = [place.server(host), place.tool()]
     host.wait_for_log(r"links: a connection cannot be taken: Too many open files")
     ran, began = host.processor_seconds(), time.monotonic()
