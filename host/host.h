@@ -49,7 +49,7 @@ const char *signals_ended_by(void);
 
 /* ---- common.c: what several files need */
 
-extern mode_t file_mode; /* of the files that are made; main.c has it */
+extern mode_t file_mode; /* of the files that are made */
 
 /* Numbers of `size` bytes, little-endian. */
 uint64_t little(const uint8_t *bytes, size_t size);
@@ -109,6 +109,20 @@ struct pollfd door_poll(const struct door *door);
 /* Takes a connection in, which does not block, and where the address is asked for, its peer's; -1 where there is none that can be kept. */
 int door_take(struct door *door, struct sockaddr_in *address);
 void door_close(struct door *door);
+
+/* ---- access.c: modes and groups, as options give them */
+bool read_mode(const char *text, mode_t *mode);   /* of octal digits */
+bool read_group(const char *text, gid_t *group);  /* of a number, or a name that /etc/group has */
+
+struct socket_access {
+    mode_t mode;
+    gid_t group; /* NO_GROUP: that of the host */
+};
+#define NO_GROUP ((gid_t)-1)
+
+/* Binds a socket so that nobody else has access at any time. False with errno where it cannot be. */
+struct sockaddr_un;
+bool bind_with(int socket, const struct sockaddr_un *address, const struct socket_access *access);
 
 /* ---- settings.c: the settings file as a settings record, its last number 0 */
 void settings_read(const char *path, uint8_t record[SETTINGS_RECORD]);
@@ -240,7 +254,7 @@ const struct session_losses *session_losses(void);
 unsigned long result_number(const uint8_t *frame, size_t length);
 
 /* ---- tool.c: house records from a FIFO or over a Unix socket */
-void tool_open(const char *path);
+void tool_open(const char *path, const struct socket_access *access);
 void tool_poll(struct pollfd set[TOOL_POLLED]);
 void tool_serve(const struct pollfd set[TOOL_POLLED]);
 void tool_tick(void); /* a tick has passed: tools may be silent for too long, and a FIFO may be gone */

@@ -264,7 +264,7 @@ static void remove_door(void)
     unlink(tool_path);
 }
 
-void tool_open(const char *path)
+void tool_open(const char *path, const struct socket_access *access)
 {
     struct sockaddr_un address = { .sun_family = AF_UNIX };
     struct stat found;
@@ -285,7 +285,7 @@ void tool_open(const char *path)
     memcpy(address.sun_path, path, strlen(path));
     make_way(&address);
     door.socket = socket(AF_UNIX, SOCK_STREAM, 0);
-    if (door.socket < 0 || bind(door.socket, (const struct sockaddr *)&address, sizeof address) != 0 || listen(door.socket, SOMAXCONN) != 0)
+    if (door.socket < 0 || !bind_with(door.socket, &address, access) || listen(door.socket, SOMAXCONN) != 0)
         fail("tool %s: no socket can be made there: %s", path, strerror(errno));
     atexit(remove_door);
     unblock(door.socket);

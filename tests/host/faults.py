@@ -130,7 +130,7 @@ FAULTS = [
     ("the state itself not locked", "a-lock-that-was-removed", "state.c", "if (!lock_file(current) || !stands_as(current, name))",
      "if (!stands_as(current, name))"),
     ("the lock not looked at again", "a-lock-that-was-removed", "state.c", "    hold_lock();\n", "    (void)hold_lock;\n"),
-    ("the journal's number not compared", "an-older-state", "main.c", "if (shown <= kept)", "if (shown > 0)"),
+    ("the journal's number not compared", "an-older-state", "main.c", "if (shown <= kept)", "if (shown <= kept || shown > 0)"),
     ("a journal that was removed is written on", "a-journal-that-is-removed", "journal.c",
      "    return stat(journal.path, &found) == 0 && found.st_ino == ours.st_ino && found.st_dev == ours.st_dev;",
      "    return stat(journal.path, &found) == 0 || ours.st_ino > 0;"),
@@ -140,7 +140,15 @@ FAULTS = [
      "O_TRUNC | O_CLOEXEC, file_mode);\n    if (file"),
     ("one file for two purposes", "one-file-for-two-purposes", "main.c", "for (size_t k = 0; k < i; k++)", "for (size_t k = i; k < i; k++)"),
     ("a part number given twice", "the-last-part-number", "journal.c", "if (number > UINT32_MAX)", "if (number > UINT64_MAX - 1)"),
-    ("a state made though the port is taken", "an-address-in-use", "main.c", ADDRESS_TAKEN + STATE_MADE, STATE_MADE + ADDRESS_TAKEN),
+    ("a state that is there made anew", "a-missing-state", "state.c", "= there ? read_state() : *fresh;",
+     "= there && fresh == NULL ? read_state() : *fresh;"),
+    ("a given mode lessened by the umask", "modes-and-groups", "main.c", "file_mode = mode_of(FILE_MODE, file_mode & ~lessens);",
+     "file_mode = mode_of(FILE_MODE, file_mode) & ~lessens;"),
+    ("SIGHUP not heard", "log-and-journal-opened-again", "main.c", "            log_reopen();\n", "            continue;\n"),
+    ("a full log not put aside", "a-log-that-is-full", "log.c", "file_size > FILE_GREATEST)", "file_size < 0)"),
+    ("a time too late", "the-time-of-day-beside-the-journal", "journal.c", "TICKS_BETWEEN_TIMES = 60", "TICKS_BETWEEN_TIMES = 61"),
+    ("a state made though the port is taken", "an-address-in-use", "main.c", ADDRESS_TAKEN + STATE_MADE,
+     STATE_MADE + ADDRESS_TAKEN),
 ]
 if tracing.possible():
     FAULTS += [

@@ -184,6 +184,9 @@ class Host:
         self.port = None
 
     def log(self):
+        """What it has said; nothing where its log was renamed."""
+        if not os.path.exists(self.log_path):
+            return ""
         with open(self.log_path, encoding="latin-1") as log:
             return log.read()
 
@@ -229,6 +232,11 @@ class Host:
     def files(self):
         """How many descriptors it has open."""
         return len(os.listdir("/proc/%d/fd" % self.process.pid))
+
+    def lowest_free_file(self):
+        """The number that the next descriptor which it opens gets."""
+        taken = set(map(int, os.listdir("/proc/%d/fd" % self.process.pid)))
+        return min(set(range(len(taken) + 1)) - taken)
 
     def processor_seconds(self):
         """How long it has been running on a processor."""

@@ -506,12 +506,11 @@ def few_descriptors(place):
     tool.tighten(tightening_fields(1), "0")
     server.expect_result(tightening_fields(1), 1)
     greatest = resource.prlimit(host.process.pid, resource.RLIMIT_NOFILE)[1]
-    resource.prlimit(host.process.pid, resource.RLIMIT_NOFILE, (host.files() + 8, greatest))
+    resource.prlimit(host.process.pid, resource.RLIMIT_NOFILE, (host.lowest_free_file() + 8, greatest))
     for turned_away in (place.server(host), place.tool()):
         equal(turned_away.receive(), b"", "what one that is turned away is sent")
     equal(len(re.findall(r"(?:links|tool): a connection cannot be taken: too few", host.log())), 2, "lines that say so")
-    used = set(map(int, os.listdir("/proc/%d/fd" % host.process.pid)))
-    resource.prlimit(host.process.pid, resource.RLIMIT_NOFILE, (min(set(range(len(used) + 1)) - used), greatest))
+    resource.prlimit(host.process.pid, resource.RLIMIT_NOFILE, (host.lowest_free_file(), greatest))
     waiting = [place.server(host), place.tool()]
     host.wait_for_log(r"links: a connection cannot be taken: Too many open files")
     ran, began = host.processor_seconds(), time.monotonic()
