@@ -26,10 +26,10 @@ def runs_of_the_host(records):
     return runs
 
 
-def check_numbers(place, servers, begins):
+def check_numbers(place, servers, begins, *more):
     """Each run of the host, to a server each, gave the tightenings from `begins` on under the numbers behind those of the run before: no
     number twice, and none skipped but one that was kept when the host was killed, and not yet given."""
-    equal(place.host().end(), 0, "status")
+    equal(place.host(*more).end(), 0, "status")
     runs = runs_of_the_host(place.journaled())
     for i, (server, begin) in enumerate(zip(servers, begins)):
         last, journaled = runs[i]
@@ -48,9 +48,9 @@ def gives_next(place, number):
     server.expect_result(tightening_fields(7), number)
 
 
-def begin_run(place):
+def begin_run(place, *more):
     """A host, a server that is sent everything at once, and a tool."""
-    host = place.host()
+    host = place.host(*more)
     server = place.server(host).subscribe(acknowledge=False)
     server.reads_all = False
     return host, server, place.tool()
@@ -75,15 +75,12 @@ def killed_between_results(place):
     check_numbers(place, servers, begins)
 
 
-@test
-@tracing.traced
-def killed_before_every_call_of_the_system(place):
-    """The same with the host killed before each call of the system that it makes for a tightening, one run for each. The number is on
-    the disk, and its folder with it, before anything is sent."""
+def kill_before_each_call(place, *more):
+    """Kills the host before each call of the system that it makes for a tightening, one run for each; the calls of the last run."""
     servers, begins, answered = [], [], False
-    in_time = InTime("a kill before every call")
+    in_time = InTime("a kill before every call", 60)
     while not answered and in_time():
-        host, server, tool = begin_run(place)
+        host, server, tool = begin_run(place, *more)
         servers.append(server)
         begins.append(len(servers))
         trace = tracing.Trace(host.process.pid)
@@ -94,10 +91,35 @@ def killed_before_every_call_of_the_system(place):
             answered = select.select([tool.link], [], [], 0)[0] != []
         host.kill()
         server.until_closed()
+    place.said.append("killed before %d calls" % len(servers))
+    check_numbers(place, servers, begins, *more)
+    return calls
+
+
+@test
+@tracing.traced
+def killed_before_every_call_of_the_system(place):
+    """The same with the host killed before each call of the system that it makes for a tightening. The number is on the disk, and its folder
+    with it, before anything is sent."""
+    calls = kill_before_each_call(place)
     kept = [call for call in calls if call in ("send", "sync", "rename")]
     equal(kept[:4], ["sync", "rename", "sync", "send"], "calls that keep a number and send a result")
-    place.said.append("killed before %d calls" % len(servers))
-    check_numbers(place, servers, begins)
+
+
+@test
+@tracing.traced
+def killed_while_a_part_is_begun(place):
+    """The same where each call begins a part of the journal: whatever the kill leaves of the parts and of what stands beside them, the next
+    start goes on, and each part from its table, or its start, gives what it gives within the whole."""
+    calls = kill_before_each_call(place, "--journal-size", 1, "--journal-keep", 10000)
+    check("rename" in calls and calls.count("sync") >= 3, "no part was begun: this shows nothing")
+    parts = place.journal_parts()
+    printed = []
+    for path in parts[:-1]:
+        table = path + ".table" if os.path.exists(path + ".table") else None
+        printed.append(place.own_replayed(content(path), table))
+    whole = place.own_replayed(place.journal_bytes())
+    check(whole.startswith(b"".join(printed)), "the parts alone do not give what they give within the whole")
 
 
 # ---- disks that are full
