@@ -315,6 +315,7 @@ def check_told_again(place, numbers, kills):
 
 
 @test
+@in_memory
 @tracing.traced
 def told_again_after_every_kill(place):
     """A tightening with a serial, the host killed before each call of the system that it makes for it, and told again to the next."""
