@@ -19,7 +19,8 @@ enum {
     RUN_KEPT = 45,            /* so many bytes of a run are kept, for the log */
     TOO_LONG = 10000,         /* a run of so many bytes is no message */
     TOO_LONG_GREATEST = 5,    /* so many times that length, with no message between, is too much */
-    SYSTEM_ROOM = 16384       /* so much the system keeps to be sent, so that it shows soon who does not read */
+    SYSTEM_ROOM = 16384,      /* so much the system keeps to be sent, so that it shows soon who does not read, */
+    SYSTEM_HEARD = 65536      /* and so much that has come and waits to be heard */
 };
 
 static struct link {
@@ -54,11 +55,12 @@ static _Noreturn void cannot_listen(const struct sockaddr_in *address)
 
 void links_listen(const struct sockaddr_in *address)
 {
-    int on = 1;
+    int on = 1, heard = SYSTEM_HEARD;
     for (unsigned s = 0; s < SERIFLADDER_SESSIONS; s++)
         links[s].socket = -1;
     door.socket = socket(AF_INET, SOCK_STREAM, 0);
     if (door.socket < 0 || setsockopt(door.socket, SOL_SOCKET, SO_REUSEADDR, &on, sizeof on) != 0
+        || setsockopt(door.socket, SOL_SOCKET, SO_RCVBUF, &heard, sizeof heard) != 0
         || bind(door.socket, (const struct sockaddr *)address, sizeof *address) != 0 || listen(door.socket, SOMAXCONN) != 0)
         cannot_listen(address);
     unblock(door.socket);

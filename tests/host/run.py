@@ -9,6 +9,7 @@ is waited for that does not come. Without --only, the tests that take long are l
 Prints a line for each test. Exit status 0: none is wrong; what cannot be shown here is skipped, and counted apart."""
 
 import argparse
+import multiprocessing
 import os
 import signal
 import subprocess
@@ -30,6 +31,7 @@ import watching  # noqa: F401
 import status  # noqa: F401
 import load  # noqa: F401
 
+AT_A_TIME = 2  # so many tests: they mostly wait
 WATCHDOG = 180  # seconds: no test takes so long, however slow the machine; more where more results are asked for
 BYTES_A_RESULT = 16384  # of logs and journals, at most
 
@@ -45,8 +47,18 @@ def seconds_to_start(host):
     return time.monotonic() - began
 
 
-def run(function, options):
-    """Whether the test is right (None where it is skipped), and what is to be said of it."""
+NAMED = {function.__name__.replace("_", "-"): function for function in harness.TESTS}
+
+
+def run(arguments):
+    """Whether the test of a name is right (None where it is skipped), what is to be said of it, and how long it took."""
+    name, options = arguments
+    began = time.monotonic()
+    right, said = outcome(NAMED[name], options)
+    return right, said, time.monotonic() - began
+
+
+def outcome(function, options):
     place = harness.Place(options, getattr(function, "parent", None))
     signal.alarm(WATCHDOG + options.count // 50)
     try:
@@ -80,19 +92,16 @@ def main():
     signal.signal(signal.SIGALRM, too_long)
     for number in (signal.SIGTERM, signal.SIGHUP):
         signal.signal(number, lambda *_: sys.exit(1))  # so that what was started is ended
-    named = {function.__name__.replace("_", "-"): function for function in harness.TESTS}
-    if unknown := set(options.only or ()) - set(named):
-        sys.exit("no such test: %s; there are %s" % (", ".join(unknown), ", ".join(named)))
+    if unknown := set(options.only or ()) - set(NAMED):
+        sys.exit("no such test: %s; there are %s" % (", ".join(unknown), ", ".join(NAMED)))
+    names = [name for name, function in NAMED.items() if (name in options.only if options.only else not hasattr(function, "long"))]
     counts = {True: 0, False: 0, None: 0}
-    for name, function in named.items():
-        if name not in options.only if options.only else hasattr(function, "long"):
-            continue
-        began = time.monotonic()
-        right, said = run(function, options)
-        counts[right] += 1
-        print("%s: %s" % (name, said), flush=True)
-        if time.monotonic() - began > 5:
-            print("  (%.0f s)" % (time.monotonic() - began), flush=True)
+    with multiprocessing.get_context("fork").Pool(AT_A_TIME) as pool:
+        for name, (right, said, seconds) in zip(names, pool.imap(run, [(name, options) for name in names])):
+            counts[right] += 1
+            print("%s: %s" % (name, said), flush=True)
+            if seconds > 5:
+                print("  (%.0f s)" % seconds, flush=True)
     print("host: %d right, %d wrong, %d skipped" % (counts[True], counts[False], counts[None]))
     return 1 if counts[False] else 0
 

@@ -285,15 +285,20 @@ def many_serials(place):
 
 
 def told_again(place, serial, kill):
-    """A tightening with that serial, during which the host is killed, and which a further host is told again: the number that it got."""
-    host = place.host()
-    tool = place.tool()
-    kill(host, tool, with_serial(serial, tightening_record(tightening_fields(serial))))
-    host.kill()
-    host = place.host()
-    answer = place.tool().give(with_serial(serial, tightening_record(tightening_fields(serial))))
-    host.kill()
-    return int(re.fullmatch(r"0 done, taken by none, number (\d+)", answer).group(1))
+    """A tightening with that serial, during which the host is killed, and which a further host is told again: the number that it got. A
+    server sees it once at most, under that number."""
+    data = with_serial(serial, tightening_record(tightening_fields(serial)))
+    answers, seen = [], []
+    for tell in (kill, lambda _, tool, data: answers.append(tool.give(data))):
+        host = place.host()
+        server = place.server(host).subscribe(acknowledge=False)
+        tell(host, place.tool(), data)
+        host.kill()
+        server.until_closed()
+        seen += [openprotocol.read(run).fields["number"] for run in server.seen if run[4:8] == b"0061"]
+    number = int(re.fullmatch(r"0 done, taken by 0, number (\d+)", answers[0]).group(1))
+    check(seen in ([], [number]), "tightening %d has number %d, and servers saw it as %s", serial, number, seen)
+    return number
 
 
 def check_told_again(place, numbers, kills):
@@ -315,6 +320,7 @@ def check_told_again(place, numbers, kills):
 
 
 @test
+@in_memory
 @tracing.traced
 def told_again_after_every_kill(place):
     """A tightening with a serial, the host killed before each call of the system that it makes for it, and told again to the next."""
