@@ -39,6 +39,11 @@ static _Noreturn void cannot(const char *what)
     fail("journal %s cannot be %s: %s", journal.path, what, strerror(errno));
 }
 
+static _Noreturn void in_use(void)
+{
+    fail("journal %s is in use by another host: it is locked", journal.path);
+}
+
 static void part_name(char name[PATH_MAX], uint64_t part, const char *end)
 {
     if (snprintf(name, PATH_MAX, "%s.%" PRIu64 "%s", journal.path, part, end) >= PATH_MAX)
@@ -283,7 +288,7 @@ bool journal_find(const struct journal_options *options, uint32_t *last)
         if (file < 0 || fstat(file, &ours) != 0)
             cannot("opened");
         if (!lock_file(file))
-            fail("journal %s is in use by another host: %s", journal.path, strerror(errno));
+            in_use();
         earlier_started = read_last(file, number, &earlier, last);
         if (earlier.failed)
             cannot("read");
@@ -358,27 +363,42 @@ void journal_open(void)
 
 /* ---- records */
 
-static bool stands_at_its_place(void)
+/* Whether FILE is the one that is written, and nobody has cut it. */
+static bool is_ours(void)
 {
     struct stat found;
-    return stat(journal.path, &found) == 0 && same_file(&found, &ours);
+    return stat(journal.path, &found) == 0 && same_file(&found, &ours) && (uint64_t)found.st_size >= size;
+}
+
+/* FILE was removed, renamed or cut. What stands in its place becomes a part, unless it is another host's. */
+static void make_way(void)
+{
+    struct stat found;
+    say("journal %s was removed, renamed or cut: a new one is begun, with its table beside it", journal.path);
+    close(file);
+    number += 1;
+    if (lstat(journal.path, &found) != 0)
+        return;
+    int other = open(journal.path, O_RDWR | O_CLOEXEC | O_NONBLOCK);
+    if (other >= 0 && !lock_file(other))
+        in_use();
+    put_aside();
+    close(other);
 }
 
 void journal_prepare(const uint8_t *table)
 {
-    struct stat found;
     if (file < 0 || !regular)
         return;
-    bool here = stands_at_its_place();
-    if (here && size <= journal.size)
+    bool ours_yet = is_ours();
+    if (ours_yet && size <= journal.size)
         return;
-    close(file);
-    if (!here) {
-        say("journal %s was removed or renamed: a new one is begun, with its table beside it", journal.path);
-        number += 1;
-    }
-    if (lstat(journal.path, &found) == 0)
+    if (ours_yet) {
         put_aside();
+        close(file); /* until now it is locked */
+    } else {
+        make_way();
+    }
     check_number();
     delete_oldest();
     begin(table);

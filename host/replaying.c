@@ -99,6 +99,9 @@ bool table_is_formed(uint8_t table[SERIFLADDER_TABLE_SIZE])
 
 bool table_read(int file, uint8_t table[SERIFLADDER_TABLE_SIZE])
 {
-    uint8_t more;
-    return read(file, table, SERIFLADDER_TABLE_SIZE) == SERIFLADDER_TABLE_SIZE && read(file, &more, 1) == 0 && table_is_formed(table);
+    uint8_t behind;
+    size_t length = 0;
+    for (ssize_t got = 1; got > 0 && length < SERIFLADDER_TABLE_SIZE; length += got > 0 ? (size_t)got : 0)
+        got = read(file, table + length, SERIFLADDER_TABLE_SIZE - length);
+    return length == SERIFLADDER_TABLE_SIZE && read(file, &behind, 1) == 0 && table_is_formed(table);
 }

@@ -149,7 +149,7 @@ FAULTS = [
     ("the lock not looked at again", "a-lock-that-was-removed", "state.c", "    hold_lock();\n", "    (void)hold_lock;\n"),
     ("the journal's number not compared", "an-older-state", "main.c", "if (shown <= kept)", "if (shown <= kept || shown > 0)"),
     ("a journal that was removed is written on", "a-journal-that-is-removed", "journal.c",
-     "== 0 && same_file(&found, &ours);", "== 0 || ours.st_ino > 0;"),
+     "== 0 && same_file(&found, &ours) &&", "== 0 || same_file(&found, &ours) ||"),
     ("a reader is waited for against a signal", "a-journal-whose-reader-stops", "journal.c", "    if (signals_end())\n",
      "    if (signals_end() && signals_reopen())\n"),
     ("a link followed to another file", "a-link-in-the-place-of-the-next-state", "state.c",

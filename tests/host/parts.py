@@ -141,13 +141,13 @@ def lines_that_repeat(place):
 
 @test
 def a_journal_that_is_removed(place):
-    """A journal that is removed, renamed or replaced under the host is begun anew, which the log says; what is sent from then on can be
+    """A journal that is removed, renamed, replaced or cut under the host is begun anew, which the log says; what is sent from then on can be
     replayed from the table beside it, and what was put in its place is not lost."""
     host = place.host()
     server = place.server(host).subscribe()
     tool = place.tool()
     for number, (take_away, put_there) in enumerate(((os.remove, None), (lambda path: os.rename(path, path + "-old"), None),
-                                                     (os.remove, b"another's")), 1):
+                                                     (os.remove, b"another's"), (lambda path: os.truncate(path, 0), None)), 1):
         tell_and_acknowledge(tool, server, 2 * number - 1, 2 * number - 1)
         equal(server.fence(), [], "something besides")
         seen = len(server.seen)
@@ -160,7 +160,7 @@ def a_journal_that_is_removed(place):
         sent = b"".join(b"0 S " + run.replace(b" ", b"_") + b"\n" for run in server.seen[seen:])
         table = "%s.%d.table" % (place.journal, max(beside(place, ".table")))
         equal(place.own_replayed(content(place.journal), table), sent, "what the new journal shows")
-        check(host.log().count("was removed or renamed") == number, "the log does not say it %d times:\n%s", number, host.log())
+        check(host.log().count("was removed, renamed or cut") == number, "the log does not say it %d times:\n%s", number, host.log())
     check(b"another's" in [content(path) for path in place.journal_parts()], "what was put in the journal's place is gone")
     equal(host.end(), 0, "status")
 
