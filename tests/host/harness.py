@@ -361,11 +361,10 @@ class Server(Link):
 
     def until_closed(self):
         """The runs that come before the host closes the link."""
-        until = time.monotonic() + SECONDS
-        while self.open:
-            ready = select.select([self.link], [], [], max(0, until - time.monotonic()))[0]
-            check(ready, "the host did not close a link within %d s", SECONDS)
-            self.take()
+        in_time = InTime("the host closes a link")
+        while self.open and in_time():
+            if select.select([self.link], [], [], 0.1)[0]:
+                self.take()
         runs = list(self.waiting)
         self.waiting.clear()
         return runs

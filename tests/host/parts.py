@@ -177,7 +177,8 @@ class Reader:
 
     def read(self):
         with contextlib.suppress(BlockingIOError):
-            while more := os.read(self.file, 65536):
+            in_time = InTime("the FIFO is empty")
+            while in_time() and (more := os.read(self.file, 65536)):
                 self.data += more
         return self.data
 
@@ -189,9 +190,9 @@ def a_journal_whose_reader_stops(place):
     host = place.host()
     server = place.server(host).start()
     server.link.settimeout(0.3)
-    sent = 0
+    sent, in_time = 0, InTime("the FIFO is full")
     with contextlib.suppress(Wrong):
-        while sent < 100_000:
+        while sent < 100_000 and in_time():
             server.send(message(openprotocol.KEEP_ALIVE, rest=b"%08d" % sent))
             sent += 1
             server.next()
@@ -205,7 +206,7 @@ def a_journal_whose_reader_stops(place):
     equal(printed, b"".join(b"0 S " + run.replace(b" ", b"_") + b"\n" for run in server.seen), "what the journal shows")
     server.link.settimeout(0.3)
     with contextlib.suppress(Wrong):
-        while server.fences < 100_000:
+        while server.fences < 100_000 and in_time():
             server.fence()
     host.process.send_signal(signal.SIGTERM)
     place.refused(host, 1, place.journal)

@@ -14,7 +14,7 @@ import harness
 import tracing
 from harness import (BYTES, GOOD_SETTINGS, HANG_UP, OPEN, SCANNED, SETTINGS, TICK, TIGHTENING, WITH_SERIAL, InTime, check, content, done,
                      equal, history, identifier_record, in_memory, openprotocol, record, tell_and_acknowledge, test, tightening_fields,
-                     tightening_record, with_serial)
+                     tightening_record, wait, with_serial)
 
 BAD = "7 tool record bad"
 
@@ -394,9 +394,21 @@ def ticks_pass(place, server, count):
         time.sleep(harness.FAST_TICK)
 
 
+def open_fifo(place):
+    """A writer of the FIFO, once the host reads it."""
+    def opened():
+        with contextlib.suppress(OSError):
+            return os.open(place.tool_path, os.O_WRONLY | os.O_NONBLOCK)
+        return None
+
+    descriptor = wait(opened, "a reader of the FIFO")
+    os.set_blocking(descriptor, True)
+    return open(descriptor, "wb", buffering=0)
+
+
 def write_fifo(place, data):
     """A writer of the FIFO that comes, writes and leaves."""
-    with open(place.tool_path, "wb", buffering=0) as fifo:
+    with open_fifo(place) as fifo:
         fifo.write(data)
 
 
@@ -409,7 +421,7 @@ def tool_records_over_a_fifo(place):
     server.accepted(openprotocol.SUBSCRIBE_RESULTS, byte_12=b"1")
     number = 0
     for writer in range(5):
-        with open(place.tool_path, "wb", buffering=0) as fifo:
+        with open_fifo(place) as fifo:
             for places in ([30], [1, 2, 3, 4, 5], [109], []):
                 data = tightening_record(tightening_fields(number + 1)) + tightening_record(tightening_fields(number + 2))
                 begin = 0
@@ -450,7 +462,7 @@ def a_fifo_that_goes_away(place):
         server.expect_result(tightening_fields(number), number)
         equal(server.fence(), [], "something besides")
 
-    with open(place.tool_path, "wb", buffering=0) as fifo:  # one who still has it open
+    with open_fifo(place) as fifo:  # one who still has it open
         os.remove(place.tool_path)
         ticks_pass(place, server, 3)
         fifo.write(tightening_record(tightening_fields(number + 1)))
