@@ -238,11 +238,19 @@ class Host:
         taken = set(map(int, os.listdir("/proc/%d/fd" % self.process.pid)))
         return min(set(range(len(taken) + 1)) - taken)
 
+    def told_by_the_system(self):
+        """What the system tells of it, from its state on."""
+        with open("/proc/%d/stat" % self.process.pid, encoding="ascii") as file:
+            return file.read().rpartition(")")[2].split()
+
     def processor_seconds(self):
         """How long it has been running on a processor."""
-        with open("/proc/%d/stat" % self.process.pid, encoding="ascii") as file:
-            fields = file.read().rpartition(")")[2].split()
+        fields = self.told_by_the_system()
         return (int(fields[11]) + int(fields[12])) / os.sysconf("SC_CLK_TCK")
+
+    def wait_until_it_waits(self):
+        """Until it has done what it was told, and waits for more."""
+        wait(lambda: self.told_by_the_system()[0] == "S", "a host that waits")
 
 
 class Link:

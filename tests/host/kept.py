@@ -83,6 +83,7 @@ def kill_before_each_call(place, *more):
         host, server, tool = begin_run(place, *more)
         servers.append(server)
         begins.append(len(servers))
+        host.wait_until_it_waits()
         trace = tracing.Trace(host.process.pid)
         tool.send(tightening_record(tightening_fields(len(servers))))
         calls = []

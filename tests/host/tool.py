@@ -328,6 +328,7 @@ def told_again_after_every_kill(place):
 
     def kill(host, tool, data):
         nonlocal answered
+        host.wait_until_it_waits()
         trace = tracing.Trace(host.process.pid)
         tool.send(data)
         for _ in range(len(numbers) + 1):
