@@ -291,10 +291,12 @@ def told_again(place, serial, kill):
     answers, seen = [], []
     for tell in (kill, lambda _, tool, data: answers.append(tool.give(data))):
         host = place.host()
-        server = place.server(host).subscribe(acknowledge=False)
-        tell(host, place.tool(), data)
+        server, tool = place.server(host).subscribe(acknowledge=False), place.tool()
+        tell(host, tool, data)
         host.kill()
         server.until_closed()
+        server.close()
+        tool.close()
         seen += [openprotocol.read(run).fields["number"] for run in server.seen if run[4:8] == b"0061"]
     number = int(re.fullmatch(r"0 done, taken by 0, number (\d+)", answers[0]).group(1))
     check(seen in ([], [number]), "tightening %d has number %d, and servers saw it as %s", serial, number, seen)
