@@ -216,16 +216,35 @@ static void put_aside(void)
     number += 1;
 }
 
+/* A host whose journal is named like a part of this one has it locked. */
+static bool is_of_another_host(uint64_t part)
+{
+    char name[PATH_MAX];
+    part_name(name, part, "");
+    int opened = open(name, O_RDWR | O_CLOEXEC | O_NONBLOCK);
+    bool locked = opened >= 0 && !lock_file(opened);
+    close(opened);
+    return locked;
+}
+
+static void delete_part(uint64_t part)
+{
+    if (is_of_another_host(part)) {
+        say("journal %s: %s.%" PRIu64 " is another host's journal, and is not deleted", journal.path, journal.path, part);
+        return;
+    }
+    say("journal %s: part %" PRIu64 " is deleted, %" PRIu64 " are kept", journal.path, part, journal.keep);
+    for (size_t e = 0; e < END_COUNT; e++)
+        remove_beside(part, ENDS[e]);
+}
+
 static void delete_oldest(void)
 {
     struct numbers there = numbers_there();
     while (there.count > 0 && there.of[there.count - 1] >= number) /* what stands beside FILE itself */
         there.count -= 1;
-    for (size_t i = 0; i + journal.keep < there.count; i++) {
-        say("journal %s: part %" PRIu64 " is deleted, %" PRIu64 " are kept", journal.path, there.of[i], journal.keep);
-        for (size_t e = 0; e < END_COUNT; e++)
-            remove_beside(there.of[i], ENDS[e]);
-    }
+    for (size_t i = 0; i + journal.keep < there.count; i++)
+        delete_part(there.of[i]);
     parts = there.count < journal.keep ? there.count : journal.keep;
     free(there.of);
 }

@@ -40,7 +40,7 @@ static bool some_left_out;
 static bool open_file(void)
 {
     struct stat found;
-    int opened = open(log_path, O_WRONLY | O_APPEND | O_CREAT | O_CLOEXEC | O_NOCTTY, file_mode);
+    int opened = open(log_path, O_WRONLY | O_APPEND | O_CREAT | O_CLOEXEC | O_NOCTTY | O_NONBLOCK, file_mode);
     if (opened < 0)
         return false;
     if (log_file != STDERR_FILENO)
@@ -189,6 +189,12 @@ void fail(const char *format, ...)
     vsnprintf(text, sizeof text, format, values);
     va_end(values);
     write_text("error: ", text);
+    if (log_file != STDERR_FILENO) { /* whoever has started it is to see it too */
+        log_end();
+        log_path = NULL;
+        log_file = STDERR_FILENO;
+        write_text("error: ", text);
+    }
     exit(1);
 }
 

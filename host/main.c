@@ -284,8 +284,8 @@ static uint32_t last_of_both(uint32_t kept, uint32_t shown)
     if (shown <= kept)
         return kept;
     if (given[STATE_BEHIND] == NULL)
-        fail("state %s says %u, but journal %s shows that %u was given: an older state stands there. Put the newer one back, or give "
-             "--state-behind to go on from %u", given[STATE], kept, given[JOURNAL], shown, shown);
+        fail("state %s says %u, but journal %s shows that %u was given: an older state stands there, or another controller's journal. Put "
+             "the right one there, or give --state-behind to go on from %u", given[STATE], kept, given[JOURNAL], shown, shown);
     say("state %s says %u: the host goes on from %u, which journal %s shows", given[STATE], kept, shown, given[JOURNAL]);
     return shown;
 }

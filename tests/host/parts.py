@@ -70,6 +70,25 @@ def a_peer_that_fills_the_journal(place):
 
 
 @test
+def a_journal_named_like_a_part(place):
+    """The journal of another host that is named like a part of this one's is neither deleted nor written over."""
+    journal, state, tool_path = place.journal, place.state, place.tool_path
+    place.journal, place.state, place.tool_path = journal + ".1", place.path("state-2"), place.path("tool-2")
+    other = place.host()
+    place.journal, place.state, place.tool_path = journal, state, tool_path
+    host = place.host("--journal-size", 100, "--journal-keep", 2)
+    server = place.server(host).start()
+    in_time = InTime("ten parts")
+    while max(beside(place, "")) < 10 and in_time():
+        equal(server.fence(), [], "something besides")
+    host.wait_for_log("another host's")
+    seen = place.server(other).start()
+    equal(seen.fence(), [], "something besides")
+    equal([one.end() for one in (host, other)], [0, 0], "status")
+    equal(replayed(place, content(journal + ".1")).count(b"\n"), len(seen.seen), "frames in the other's journal")
+
+
+@test
 @in_memory
 def parts_replayed_alone(place):
     """Each part from its table gives what it gives within the whole; so does all that is behind it. serifladder-replay and the proved

@@ -230,6 +230,9 @@ def a_log_that_is_full(place):
     equal(sorted(name for name in os.listdir(place.folder) if name.startswith("the.log")), ["the.log", "the.log.1"], "logs")
     check(os.path.getsize(log) < 100000 and os.path.getsize(log + ".1") > 8 << 20, "the wrong log was put aside")
     place.refused(place.start("--log", place.path("none/log")), 1, place.path("none/log"))
+    os.remove(place.settings)
+    place.refused(place.start("--log", log), 1, place.settings)  # on standard error too
+    check("error: settings" in content(log).decode(), "the log does not say why the host ended")
 
 
 @test
