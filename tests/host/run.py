@@ -40,6 +40,11 @@ def too_long(*_):
     raise harness.Wrong("no end in time")
 
 
+def seconds_for(options):
+    """How long a test may take."""
+    return WATCHDOG + options.count // 50
+
+
 def seconds_to_start(host):
     """How long it takes to start the host and have it say something."""
     began = time.monotonic()
@@ -60,7 +65,7 @@ def run(arguments):
 
 def outcome(function, options):
     place = harness.Place(options, getattr(function, "parent", None))
-    signal.alarm(WATCHDOG + options.count // 50)
+    signal.alarm(seconds_for(options))
     try:
         function(place)
         return True, ", ".join(["ok", *place.said])
@@ -97,7 +102,12 @@ def main():
     names = [name for name, function in NAMED.items() if (name in options.only if options.only else not hasattr(function, "long"))]
     counts = {True: 0, False: 0, None: 0}
     with multiprocessing.get_context("fork").Pool(AT_A_TIME) as pool:
-        for name, (right, said, seconds) in zip(names, pool.imap(run, [(name, options) for name in names])):
+        outcomes = pool.imap(run, [(name, options) for name in names])
+        for name in names:
+            try:
+                right, said, seconds = outcomes.next(2 * seconds_for(options))
+            except multiprocessing.TimeoutError:
+                sys.exit("%s: WRONG: its process was killed" % name)
             counts[right] += 1
             print("%s: %s" % (name, said), flush=True)
             if seconds > 5:
