@@ -110,10 +110,11 @@ def killed_before_every_call_of_the_system(place):
 @test
 @tracing.traced
 def killed_while_a_part_is_begun(place):
-    """The same where each call begins a part of the journal: whatever the kill leaves of the parts and of what stands beside them, the next
+    """The same where the tightening begins a part of the journal: whatever the kill leaves of the parts and of what stands beside them, the next
     start goes on, and each part from its table, or its start, gives what it gives within the whole."""
-    calls = kill_before_each_call(place, "--journal-size", 1, "--journal-keep", 10000)
-    check("rename" in calls and calls.count("sync") >= 3, "no part was begun: this shows nothing")
+    # A start, an opening and three messages are 116 bytes.
+    calls = kill_before_each_call(place, "--journal-size", 100, "--journal-keep", 10000)
+    check(calls.count("rename") >= 2 and calls.count("sync") >= 3, "no part was begun: this shows nothing")
     parts = place.journal_parts()
     printed = []
     for path in parts[:-1]:
