@@ -8,10 +8,13 @@
 #include <string.h>
 #include <sys/socket.h>
 #include <sys/stat.h>
-#include <sys/un.h>
 #include <unistd.h>
 
-enum { FIFO_READS = 130 }; /* at once, of RECORD_GREATEST bytes: more than the largest FIFO holds, 1 MiB */
+enum {
+    FIFO_READS = 130, /* at once, of RECORD_GREATEST bytes: more than the largest FIFO holds, 1 MiB */
+    WITH_SERIAL = 4,  /* the kind of a record that has a serial in front of another record */
+    SILENT = 15       /* a tool that said nothing for so many ticks gives its place up where another waits for one */
+};
 
 /* Where records come from: the FIFO, or one connection. */
 static struct source {
@@ -20,42 +23,86 @@ static struct source {
     size_t length;                   /* so many bytes of it are there */
     bool skipping;                   /* what still comes cannot be told apart into records */
     bool ended;                      /* nothing comes any more, but answers wait */
+    unsigned silent;                 /* for so many ticks nothing came */
     struct waiting answers;
 } sources[TOOL_CONNECTIONS];
 
 static const char *tool_path;
 static bool fifo;
-static int door = -1; /* listens for connections */
+static uint64_t refused; /* records */
+static bool missing; /* the FIFO is not where it was; it is looked for at each tick */
+static struct door door = { .whose = "tool", .socket = -1 };
 
 /* ---- a record */
 
-static void write_taken(char text[ANSWER_LINE], uint64_t taken)
+enum { TAKEN_TEXT = 24 };
+
+static void write_taken(char text[TAKEN_TEXT], uint64_t taken)
 {
-    int at = snprintf(text, ANSWER_LINE, "taken by%s", taken == 0 ? " none" : "");
+    int at = snprintf(text, TAKEN_TEXT, "taken by%s", taken == 0 ? " none" : "");
     for (unsigned s = 0; s < SERIFLADDER_SESSIONS; s++)
         if (taken >> s & 1)
-            at += snprintf(text + at, ANSWER_LINE - (size_t)at, " %u", s);
+            at += snprintf(text + at, TAKEN_TEXT - (size_t)at, " %u", s);
 }
 
-void tool_record(const uint8_t *record, size_t length, char line[ANSWER_LINE])
+/* The answer to a record that is done; number 0: it has none. */
+static void write_done(char line[ANSWER_LINE], uint64_t taken, uint32_t number)
 {
-    char taken[ANSWER_LINE];
-    struct answer answer = call_record(record, length);
-    const char *text = meaning(answer.number);
-    write_taken(taken, answer.taken);
+    char text[TAKEN_TEXT];
+    write_taken(text, taken);
+    int at = snprintf(line, ANSWER_LINE, "%u %s, %s", SERIFLADDER_DONE, meaning(SERIFLADDER_DONE), text);
+    if (number > 0)
+        snprintf(line + at, ANSWER_LINE - (size_t)at, ", number %u", number);
+}
+
+void tool_record(const uint8_t *serial, const uint8_t *record, size_t length, char line[ANSWER_LINE])
+{
+    char taken[TAKEN_TEXT];
+    struct answer answer = call_record(serial, record, length);
     if (answer.number != SERIFLADDER_DONE) {
-        snprintf(line, ANSWER_LINE, "%u %s", (unsigned)answer.number, text);
+        snprintf(line, ANSWER_LINE, "%u %s", (unsigned)answer.number, meaning(answer.number));
         say("tool: refused, %s", line);
+        refused += 1;
         return;
     }
-    snprintf(line, ANSWER_LINE, "0 %s, %.40s", text, taken);
-    if (little(record + 2, 2) == SERIFLADDER_TIGHTENING) {
+    bool numbered = little(record + 2, 2) == SERIFLADDER_TIGHTENING;
+    write_taken(taken, answer.taken);
+    write_done(line, answer.taken, numbered ? last_number() : 0);
+    if (numbered) {
         say("tool: tightening %u, %s", last_number(), taken);
         return;
     }
-    while (length > SERIFLADDER_RECORD_HEADER && record[length - 1] == ' ')
-        length--;
-    say("tool: identifier \"%.*s\", %s", (int)(length - SERIFLADDER_RECORD_HEADER), (const char *)record + SERIFLADDER_RECORD_HEADER, taken);
+    const char *text = (const char *)record + SERIFLADDER_RECORD_HEADER;
+    size_t size = length - SERIFLADDER_RECORD_HEADER;
+    while (size > 0 && text[size - 1] == ' ')
+        size--;
+    say("tool: identifier \"%.*s\", %s", (int)size, text, taken);
+}
+
+uint64_t tool_refused(void)
+{
+    return refused;
+}
+
+/* Takes a record that may have a serial in front of it. Anything else of that kind is a bad record, which the library refuses. */
+static void take_record(const uint8_t *record, size_t length, char line[ANSWER_LINE])
+{
+    const size_t before = SERIFLADDER_RECORD_HEADER + SERIAL_LENGTH;
+    const uint8_t *serial = NULL;
+    uint32_t number;
+    uint64_t taken;
+    if (little(record + 2, 2) == WITH_SERIAL && length >= before + SERIFLADDER_RECORD_HEADER
+        && little(record + before, 2) == length - before - SERIFLADDER_RECORD_HEADER) {
+        serial = record + SERIFLADDER_RECORD_HEADER;
+        record += before;
+        length -= before;
+    }
+    if (serial != NULL && serial_known(serial, &number, &taken)) {
+        write_done(line, taken, number);
+        say("tool: a record came again, answered as before: %s", line);
+    } else {
+        tool_record(serial, record, length, line);
+    }
 }
 
 /* ---- a source */
@@ -71,6 +118,7 @@ static void begin_source(struct source *source, int descriptor)
     unblock(descriptor);
     source->descriptor = descriptor;
     source->length = 0;
+    source->silent = 0;
     source->skipping = source->ended = false;
     source->answers.length = 0;
 }
@@ -83,15 +131,42 @@ static void answer_line(struct source *source, const char *line)
     waiting_add(&source->answers, "\n", 1);
 }
 
-static void open_fifo(void)
+/* Opens the FIFO; answers why it cannot be, or NULL. */
+static const char *open_fifo(void)
 {
+    struct stat found;
     int descriptor = open(tool_path, O_RDONLY | O_NONBLOCK | O_CLOEXEC);
     if (descriptor < 0)
-        fail("tool %s cannot be opened: %s", tool_path, strerror(errno));
-    int before = sources[0].descriptor;
+        return strerror(errno);
+    if (fstat(descriptor, &found) != 0 || !S_ISFIFO(found.st_mode)) {
+        close(descriptor);
+        return "it is no FIFO any more";
+    }
     begin_source(&sources[0], descriptor);
+    return NULL;
+}
+
+/* Opens the FIFO anew, and only then closes it as it was open before. Where it is not there, that is said once. */
+static void open_fifo_again(void)
+{
+    int before = sources[0].descriptor;
+    sources[0].descriptor = -1;
+    const char *why = open_fifo();
+    if (why != NULL && !missing)
+        say("tool %s cannot be opened: %s; it is looked for at each tick", tool_path, why);
+    if (why == NULL && missing)
+        say("tool %s is there again", tool_path);
+    missing = why != NULL;
     if (before >= 0)
         close(before);
+}
+
+/* Whether another file stands where the FIFO was that is open, or none. */
+static bool fifo_replaced(void)
+{
+    struct stat opened, found;
+    return fstat(sources[0].descriptor, &opened) == 0
+           && (stat(tool_path, &found) != 0 || found.st_dev != opened.st_dev || found.st_ino != opened.st_ino);
 }
 
 /* The writers of the FIFO have left, or the peer of a connection sends no more. */
@@ -104,7 +179,7 @@ static void end_source(struct source *source)
     if (fifo && source->skipping)
         say("tool: the FIFO has no writer any more; what comes next is read");
     if (fifo)
-        open_fifo();
+        open_fifo_again();
     else
         source->ended = true;
 }
@@ -125,6 +200,7 @@ static bool receive(struct source *source)
         end_source(source);
         return false;
     }
+    source->silent = 0;
     source->length += (size_t)got;
     if (source->skipping || source->length < SERIFLADDER_RECORD_HEADER)
         return true;
@@ -134,7 +210,7 @@ static bool receive(struct source *source)
         answer_line(source, "record too long");
         source->skipping = true;
     } else if (source->length == whole) {
-        tool_record(source->record, whole, line);
+        take_record(source->record, whole, line);
         answer_line(source, line);
         source->length = 0;
         return false;
@@ -163,33 +239,8 @@ static void send_answers(struct source *source)
 
 /* ---- the door */
 
-/* A socket file that nobody listens on any more is removed; anything else that stands there is left alone. */
-static void make_way(const struct sockaddr_un *address)
+void tool_open(const char *path, const struct socket_access *access)
 {
-    struct stat found;
-    if (lstat(tool_path, &found) != 0) {
-        if (errno != ENOENT)
-            fail("tool %s: %s", tool_path, strerror(errno));
-        return;
-    }
-    if (!S_ISSOCK(found.st_mode))
-        fail("tool %s is neither a FIFO nor a socket", tool_path);
-    int asked = socket(AF_UNIX, SOCK_STREAM, 0);
-    if (connect(asked, (const struct sockaddr *)address, sizeof *address) == 0)
-        fail("tool %s is in use by another host", tool_path);
-    if (errno != ECONNREFUSED || unlink(tool_path) != 0)
-        fail("tool %s cannot be replaced: %s", tool_path, strerror(errno));
-    close(asked);
-}
-
-static void remove_door(void)
-{
-    unlink(tool_path);
-}
-
-void tool_open(const char *path)
-{
-    struct sockaddr_un address = { .sun_family = AF_UNIX };
     struct stat found;
     tool_path = path;
     for (unsigned i = 0; i < TOOL_CONNECTIONS; i++)
@@ -198,18 +249,14 @@ void tool_open(const char *path)
         return;
     fifo = stat(path, &found) == 0 && S_ISFIFO(found.st_mode);
     if (fifo) {
-        open_fifo();
+        const char *why = open_fifo();
+        if (why != NULL)
+            fail("tool %s cannot be opened: %s", path, why);
         return;
     }
-    if (strlen(path) >= sizeof address.sun_path)
-        fail("tool %s: the path of a socket has at most %zu bytes", path, sizeof address.sun_path - 1);
-    memcpy(address.sun_path, path, strlen(path));
-    make_way(&address);
-    door = socket(AF_UNIX, SOCK_STREAM, 0);
-    if (door < 0 || bind(door, (const struct sockaddr *)&address, sizeof address) != 0 || listen(door, SOMAXCONN) != 0)
-        fail("tool %s: no socket can be made there: %s", path, strerror(errno));
-    atexit(remove_door);
-    unblock(door);
+    if (stat(path, &found) == 0 && !S_ISSOCK(found.st_mode))
+        fail("tool %s is neither a FIFO nor a socket", path);
+    door_make(&door, path, access);
 }
 
 static struct source *free_source(void)
@@ -220,18 +267,34 @@ static struct source *free_source(void)
     return NULL;
 }
 
-static void take_in(struct source *source)
+/* The one that has been silent longest, where that is too long; NULL where none has been. */
+static struct source *silent_source(void)
 {
-    int descriptor = accept(door, NULL, NULL);
-    if (descriptor >= 0)
-        begin_source(source, descriptor);
-    else if (errno != EAGAIN && errno != EWOULDBLOCK && errno != EINTR && errno != ECONNABORTED)
-        say("tool: a connection cannot be taken: %s", strerror(errno));
+    struct source *most = &sources[0];
+    for (unsigned i = 1; i < TOOL_CONNECTIONS; i++)
+        if (sources[i].silent > most->silent)
+            most = &sources[i];
+    return most->silent < SILENT ? NULL : most;
+}
+
+static void take_in(void)
+{
+    int descriptor = door_take(&door, NULL);
+    struct source *source = free_source();
+    if (descriptor < 0)
+        return;
+    if (source == NULL) {
+        source = silent_source();
+        say("tool: a connection that was silent for %u ticks is closed, after %zu bytes of a record: another needs its place",
+            source->silent, source->length);
+        close_source(source);
+    }
+    begin_source(source, descriptor);
 }
 
 void tool_poll(struct pollfd set[TOOL_POLLED])
 {
-    set[0] = (struct pollfd){ .fd = free_source() == NULL ? -1 : door, .events = POLLIN };
+    set[0] = free_source() == NULL && silent_source() == NULL ? (struct pollfd){ .fd = -1 } : door_poll(&door);
     for (unsigned i = 0; i < TOOL_CONNECTIONS; i++) {
         struct source *source = &sources[i];
         short events = source->answers.length > 0 ? POLLOUT : source->ended ? 0 : POLLIN;
@@ -253,6 +316,18 @@ void tool_serve(const struct pollfd set[TOOL_POLLED])
             receive(source);
         send_answers(source);
     }
-    if (set[0].revents != 0 && free_source() != NULL)
-        take_in(free_source());
+    if (set[0].revents != 0 && (free_source() != NULL || silent_source() != NULL))
+        take_in();
+}
+
+void tool_tick(void)
+{
+    for (unsigned i = 0; i < TOOL_CONNECTIONS; i++)
+        sources[i].silent += sources[i].descriptor >= 0;
+    if (!fifo)
+        return;
+    if (missing)
+        open_fifo_again();
+    else if (fifo_replaced())
+        receive_fifo(&sources[0]); /* where it has no writer, it is at its end, and opened anew */
 }

@@ -2,12 +2,14 @@
 
 A test is a function of a Place, registered by @test. Its first sentence says what it shows. Whatever it starts or makes is
 made through the Place, which takes it all away again, however the test ends. Waiting ends by what is waited for; SECONDS is
-only there so that a test that waits in vain ends too."""
+only there so that a test that waits in vain ends too: every loop is bounded in time, by InTime or by what it waits for within. What a
+host may write is bounded by FILE_GREATEST."""
 
 import collections
 import contextlib
 import os
 import re
+import resource
 import select
 import shutil
 import signal
@@ -30,6 +32,7 @@ from openprotocol import message  # noqa: E402
 SECONDS = 30
 SESSIONS = 4
 GREATEST_NUMBER = 4294967295
+FILE_GREATEST = 64 << 20  # bytes of a file that a host writes; more where more results are asked for (see run.py)
 NO_TICKS = 1000000  # milliseconds: no tick comes while a test runs
 FAST_TICK = 0.04  # seconds; longer where the host is slow, as under an emulator (see run.py)
 GOOD_SETTINGS = "cell = 12\nchannel = 3\ngranted = yes\nname = LINE4\n"
@@ -42,8 +45,18 @@ class Wrong(Exception):
     """What differed."""
 
 
+class Skipped(Exception):
+    """Why nothing can be shown here."""
+
+
 def test(function):
     TESTS.append(function)
+    return function
+
+
+def long(function):
+    """The test takes too long for the gate: it is run where it is named."""
+    function.long = True
     return function
 
 
@@ -68,11 +81,22 @@ def content(path):
         return file.read()
 
 
+class InTime:
+    """What a loop asks before each of its turns: it is so for SECONDS, and as many more as are given; then the test is wrong."""
+
+    def __init__(self, what, more=0):
+        self.what, self.seconds = what, SECONDS + more
+        self.until = time.monotonic() + self.seconds
+
+    def __call__(self):
+        check(time.monotonic() < self.until, "not within %d s: %s", self.seconds, self.what)
+        return True
+
+
 def wait(condition, what):
     """Waits until the condition holds, and answers what it answered."""
-    until = time.monotonic() + SECONDS
-    while not (held := condition()):
-        check(time.monotonic() < until, "not within %d s: %s", SECONDS, what)
+    in_time = InTime(what)
+    while not (held := condition()) and in_time():
         time.sleep(0.002)
     return held
 
@@ -108,12 +132,39 @@ def identifier_record(identifier):
     return record(SCANNED, b"%-25s" % identifier.encode("ascii"))
 
 
+WITH_SERIAL = 4
+
+
+def with_serial(serial, data):
+    """A record with a serial in front of it, of 16 bytes."""
+    return record(WITH_SERIAL, b"%16d" % serial + data)
+
+
+def done(taken_by, number):
+    """The answer to a tightening."""
+    return "0 done, taken by %s, number %d" % (taken_by, number)
+
+
 def result_fields(fields, number):
     """What a 0061 has to say of that tightening."""
     return {**CONTROLLER, **fields, "number": number}
 
 
 # ---- the programs of a test
+
+def ends_within(process, seconds):
+    """Whether a process ends in that time. It is told at once: subprocess's own wait looks only now and then."""
+    with contextlib.suppress(OSError, AttributeError):  # where there is no such call of the system
+        told = os.pidfd_open(process.pid)
+        try:
+            select.select([told], [], [], seconds)
+        finally:
+            os.close(told)
+        return process.poll() is not None
+    with contextlib.suppress(subprocess.TimeoutExpired):
+        process.wait(seconds)
+    return process.returncode is not None
+
 
 class Host:
     """A host that was started; it is ready when its port is known. Its log goes to a file, if so wished through a pipe."""
@@ -126,11 +177,16 @@ class Host:
                 self.pipe = subprocess.Popen(["cat"], stdin=subprocess.PIPE, stdout=log)
             out = self.pipe.stdin if piped else log
             self.process = subprocess.Popen(command, **{"stdin": subprocess.DEVNULL, "stdout": out, "stderr": out, **how})
+        with contextlib.suppress(ProcessLookupError):
+            resource.prlimit(self.process.pid, resource.RLIMIT_FSIZE, (FILE_GREATEST, FILE_GREATEST))
         if piped:
             self.pipe.stdin.close()
         self.port = None
 
     def log(self):
+        """What it has said; nothing where its log was renamed."""
+        if not os.path.exists(self.log_path):
+            return ""
         with open(self.log_path, encoding="latin-1") as log:
             return log.read()
 
@@ -150,12 +206,9 @@ class Host:
 
     def status(self):
         """The status with which it ends, once it has."""
-        try:
-            self.process.wait(SECONDS)
-        except subprocess.TimeoutExpired:
-            raise Wrong("the host did not end within %d s:\n%s" % (SECONDS, self.log())) from None
+        check(ends_within(self.process, SECONDS), "the host did not end within %d s:\n%s", SECONDS, self.log())
         if self.pipe:
-            self.pipe.wait()
+            self.pipe.wait(SECONDS)
         return self.process.returncode
 
     def end(self, number=signal.SIGTERM):
@@ -164,19 +217,40 @@ class Host:
 
     def kill(self):
         self.process.kill()
-        self.process.wait()
+        self.process.wait(SECONDS)
         if self.pipe:
-            self.pipe.wait()
+            self.pipe.wait(SECONDS)
+
+    def stop(self, seconds):
+        """Keeps it from running for so long; answers for how long it was."""
+        began = time.monotonic()
+        self.process.send_signal(signal.SIGSTOP)
+        time.sleep(seconds)
+        self.process.send_signal(signal.SIGCONT)
+        return time.monotonic() - began
 
     def files(self):
         """How many descriptors it has open."""
         return len(os.listdir("/proc/%d/fd" % self.process.pid))
 
+    def lowest_free_file(self):
+        """The number that the next descriptor which it opens gets."""
+        taken = set(map(int, os.listdir("/proc/%d/fd" % self.process.pid)))
+        return min(set(range(len(taken) + 1)) - taken)
+
+    def told_by_the_system(self):
+        """What the system tells of it, from its state on."""
+        with open("/proc/%d/stat" % self.process.pid, encoding="ascii") as file:
+            return file.read().rpartition(")")[2].split()
+
     def processor_seconds(self):
         """How long it has been running on a processor."""
-        with open("/proc/%d/stat" % self.process.pid, encoding="ascii") as file:
-            fields = file.read().rpartition(")")[2].split()
+        fields = self.told_by_the_system()
         return (int(fields[11]) + int(fields[12])) / os.sysconf("SC_CLK_TCK")
+
+    def wait_until_it_waits(self):
+        """Until it has done what it was told, and waits for more."""
+        wait(lambda: self.told_by_the_system()[0] == "S", "a host that waits")
 
 
 class Link:
@@ -187,7 +261,10 @@ class Link:
         link.settimeout(SECONDS)
 
     def send(self, data):
-        self.link.sendall(data)
+        try:
+            self.link.sendall(data)
+        except socket.timeout:
+            raise Wrong("what was sent was not taken within %d s" % SECONDS) from None
 
     def receive(self):
         """Some bytes; none at the end, be it in order or not."""
@@ -212,13 +289,16 @@ class Server(Link):
     """A line server. `seen` are all the runs that came, `open` tells whether the link has not ended, and `reads_all` whether all that
     was sent to it before has been read then."""
 
-    def __init__(self, host, receive_buffer=None):
+    def __init__(self, host, receive_buffer=None, address=None):
         link = socket.socket()
+        if address:
+            link.bind((address, 0))
         if receive_buffer:
             link.setsockopt(socket.SOL_SOCKET, socket.SO_RCVBUF, receive_buffer)
         link.setsockopt(socket.IPPROTO_TCP, socket.TCP_NODELAY, 1)
         super().__init__(link)
         link.connect(("127.0.0.1", host.port))
+        self.port = link.getsockname()[1]
         self.stream = openprotocol.Stream()
         self.waiting = collections.deque()
         self.seen = []
@@ -237,7 +317,8 @@ class Server(Link):
 
     def next(self):
         """The next run."""
-        while not self.waiting:
+        in_time = InTime("a further run")
+        while not self.waiting and in_time():
             check(self.take(), "the host closed a link on which more was to come")
         return self.waiting.popleft()
 
@@ -277,19 +358,21 @@ class Server(Link):
         """The runs that come before the mirror of a 9999 that is sent now: what the host had to send, it has sent."""
         self.fences += 1
         mark = message(openprotocol.KEEP_ALIVE, rest=b"%08d" % self.fences)
-        self.send(mark)
-        runs = []
-        while (run := self.next()) != mark[:-1]:
+        try:
+            self.send(mark)
+        except ConnectionError:
+            raise Wrong("the host closed a link that was to stay") from None
+        runs, in_time = [], InTime("the mirror of a 9999")
+        while in_time() and (run := self.next()) != mark[:-1]:
             runs.append(run)
         return runs
 
     def until_closed(self):
         """The runs that come before the host closes the link."""
-        until = time.monotonic() + SECONDS
-        while self.open:
-            ready = select.select([self.link], [], [], max(0, until - time.monotonic()))[0]
-            check(ready, "the host did not close a link within %d s", SECONDS)
-            self.take()
+        in_time = InTime("the host closes a link")
+        while self.open and in_time():
+            if select.select([self.link], [], [], 0.1)[0]:
+                self.take()
         runs = list(self.waiting)
         self.waiting.clear()
         return runs
@@ -306,7 +389,8 @@ class Tool(Link):
 
     def answer(self):
         """The next line; None at the end."""
-        while b"\n" not in self.received:
+        in_time = InTime("an answer")
+        while b"\n" not in self.received and in_time():
             more = self.receive()
             if not more:
                 equal(self.received, b"", "a line cut by the end")
@@ -315,12 +399,23 @@ class Tool(Link):
         line, self.received = self.received.split(b"\n", 1)
         return line.decode("ascii")
 
+    def answers(self):
+        """All the lines that come up to the end."""
+        lines, in_time = [], InTime("the end of the answers")
+        while in_time() and (line := self.answer()) is not None:
+            lines.append(line)
+        return lines
+
     def give(self, data):
         self.send(data)
         return self.answer()
 
     def tighten(self, fields, taken_by):
-        equal(self.give(tightening_record(fields)), "0 done, taken by " + taken_by, "answer to a tightening")
+        """Answers the number that the tightening got."""
+        answer = self.give(tightening_record(fields))
+        found = re.fullmatch(r"0 done, taken by (none|[0-3 ]+), number (\d+)", answer or "")
+        check(found and found.group(1) == taken_by, "answer to a tightening: %r, not taken by %s", answer, taken_by)
+        return int(found.group(2))
 
     def scan(self, identifier, taken_by):
         equal(self.give(identifier_record(identifier)), "0 done, taken by " + taken_by, "answer to an identifier")
@@ -328,7 +423,7 @@ class Tool(Link):
 
 def tell_and_acknowledge(tool, server, i, number):
     """The i-th tightening reaches the server of session 0 under that number, and is acknowledged."""
-    tool.tighten(tightening_fields(i), "0")
+    equal(tool.tighten(tightening_fields(i), "0"), number, "the number that a tightening got")
     server.expect_result(tightening_fields(i), number)
     server.tell(openprotocol.ACKNOWLEDGE_RESULT)
 
@@ -336,8 +431,8 @@ def tell_and_acknowledge(tool, server, i, number):
 class Place:
     """Where a test runs: its folder, and all that it starts."""
 
-    def __init__(self, host, replay, count, parent=None):
-        self.program, self.replay, self.count = host, replay, count
+    def __init__(self, options, parent=None):
+        self.program, self.replay, self.own_replay, self.count = options.host, options.replay, options.own_replay, options.count
         self.said = []  # figures that the test wants to be printed behind its ok
         self.hosts = []
         self.links, self.undo = contextlib.ExitStack(), contextlib.ExitStack()  # before and after the hosts' end
@@ -415,6 +510,9 @@ class Place:
     def journal_bytes(self):
         return b"".join(map(content, self.journal_parts()))
 
+    def journal_size(self):
+        return sum(map(os.path.getsize, self.journal_parts()))
+
     def journaled(self):
         """The journal's whole records, as (kind, payload)."""
         return history.split(self.journal_bytes())[0]
@@ -428,6 +526,11 @@ class Place:
     def wait_for_hang_up(self, session, times=1):
         self.wait_for_journal(lambda records: sum(kind == HANG_UP + session for kind, _ in records) >= times,
                               "hang-up %d of session %d" % (times, session))
+
+    def own_replayed(self, data, table=None):
+        """What serifladder-replay prints of house records, from a table or from a start."""
+        command = [self.own_replay] + (["--table", table] if table else [])
+        return subprocess.run(command, input=data, stdout=subprocess.PIPE, timeout=SECONDS, check=True).stdout
 
     def replayed(self):
         """What replay prints of the journal: an Opening for each open record, and the refusals."""

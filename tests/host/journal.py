@@ -1,15 +1,17 @@
 """The journal: replay prints of it what the servers saw."""
 
+import collections
 import contextlib
 import os
 import random
+import re
 import select
 import socket
 import time
 
 import generate
-from harness import (BYTES, HANG_UP, OPEN, SCANNED, SETTINGS, TICK, TIGHTENING, check, content, equal, history, identifier_record, in_memory,
-                     openprotocol, record, test, tightening_fields, tightening_record)
+from harness import (BYTES, HANG_UP, OPEN, SCANNED, SETTINGS, TICK, TIGHTENING, InTime, check, content, equal, history, identifier_record,
+                     in_memory, openprotocol, record, test, tightening_fields, tightening_record)
 
 TICK_SECONDS = 0.03
 
@@ -21,6 +23,7 @@ class Play:
         self.place, self.source = place, random.Random(seed)
         self.servers = []  # in the order in which they were let in
         self.number = self.refused = 0
+        self.answers = []  # to the tightenings
 
     def here(self):
         return [server for server in self.servers if server.open]
@@ -30,7 +33,8 @@ class Play:
         server = self.place.server(self.host)
         with contextlib.suppress(ConnectionError):
             server.tell(openprotocol.START)
-        while not server.seen and server.take():
+        in_time = InTime("an answer to a 0001, or the end")
+        while in_time() and not server.seen and server.take():
             pass
         if server.seen:
             self.servers.append(server)
@@ -50,7 +54,8 @@ class Play:
         mark = openprotocol.message(openprotocol.KEEP_ALIVE, rest=b"%08d" % len(server.seen))[:-1]
         with contextlib.suppress(ConnectionError):
             server.send(b"\0" + mark + b"\0")
-        while server.open and mark not in server.seen:
+        in_time = InTime("the mirror of a 9999, or the end")
+        while server.open and mark not in server.seen and in_time():
             server.take()
         return server.open
 
@@ -65,7 +70,8 @@ class Play:
         if not self.here():
             self.enter()
         silent = self.source.choice(self.here())
-        while silent.open:
+        in_time = InTime("a silent one is closed")
+        while silent.open and in_time():
             for server in self.here():
                 if server is not silent:
                     self.settle(server)
@@ -81,7 +87,7 @@ class Play:
             self.leave(self.source.choice(here))
         elif chance < 0.3:
             self.number += 1
-            self.tool.give(tightening_record(tightening_fields(self.number)))
+            self.answers.append(self.tool.give(tightening_record(tightening_fields(self.number))))
         elif chance < 0.4:
             self.tool.give(identifier_record("CAR %d" % self.source.randrange(1000)))
         elif chance < 0.42:
@@ -106,10 +112,45 @@ class Play:
         return self.place.replayed()[0]
 
 
+    def taken(self):
+        """The results that were taken, as (server, number)."""
+        servers, answers, now = iter(self.servers), iter(self.answers), {}
+        for kind, payload in self.place.journaled():
+            if OPEN <= kind < HANG_UP:
+                now[kind - OPEN] = next(servers)
+            elif kind == TIGHTENING:
+                sessions, number = re.fullmatch(r"0 done, taken by (none|[0-3 ]+), number (\d+)", next(answers)).groups()
+                yield from ((now[int(session)], int(number)) for session in sessions.split() if session != "none")
+
+    def check_losses(self):
+        """Each result that was taken came to its server, or a line of the log says that it was not sent; no line says so of one that came.
+        Answers how many results each sort of line was of."""
+        lines = {(int(port), int(number)): how for port, number, how in
+                 re.findall(r"Z session \d [0-9.]+:(\d+): result (\d+) ([a-z ,]+): ", self.host.log())}
+        counts = collections.Counter()
+        for server, number in self.taken():
+            copies = sum(run[4:8] == b"0061" and int(run[-10:]) == number for run in server.seen)
+            how = lines.get((server.port, number))
+            counts[how] += 1
+            unread = not server.reads_all and copies == 0
+            if how == "dropped, not sent":
+                equal(copies, 0, "copies of result %d, which a line says was not sent" % number)
+            elif how == "given up":
+                check(copies == 6 or not server.reads_all, "%d copies of result %d, which was given up", copies, number)
+            else:
+                check(copies > 0 or unread, "result %d did not come to its server, and the log says %s", number, how)
+        return counts
+
+
 @test
 def the_journal_replays(place):
-    """Four servers that come and go, are cut and time out: replay prints of the journal what each of them saw."""
-    openings = Play(place, 3).run(900)
+    """Four servers that come and go, are cut and time out: replay prints of the journal what each of them saw, and the log tells of each
+    result that did not come to them."""
+    play = Play(place, 3)
+    openings = play.run(900)
+    losses = play.check_losses()
+    place.said.append(", ".join("%d %s" % (count, how or "received") for how, count in losses.items()))
+    check(min(losses["dropped, not sent"], losses["dropped, sent but not acknowledged"], losses[None]) > 3, "too few: this shows too little")
     timed_out = sum(opening.closed() for opening in openings)
     place.said.append("%d openings, %d timed out, %d frames" % (len(openings), timed_out, sum(len(o.frames()) for o in openings)))
     check(timed_out >= 3, "too few timed out: this shows too little")
@@ -150,7 +191,8 @@ class Generated:
         elif BYTES <= kind < TICK and server is not None:
             with contextlib.suppress(ConnectionError):
                 server.send(payload)
-            while server.open and select.select([server.link], [], [], 0)[0]:
+            in_time = InTime("what was sent is read")
+            while server.open and in_time() and select.select([server.link], [], [], 0)[0]:
                 server.take()
             if not server.open:
                 self.now.pop(session)
@@ -187,9 +229,9 @@ def generated_histories(place):
 
 @test
 def the_journal_in_parts(place):
-    """Parts begun by size hold whole records and replay as one; a further run of the host begins a further file."""
+    """Parts begun by size hold whole records and replay as one; a further run of the host goes on with the last."""
     play = Play(place, 4)
-    play.run(400, "--journal-size", 3000)
+    play.run(400, "--journal-size", 3000, "--journal-keep", 1000)
     parts = place.journal_parts()
     check(len(parts) > 4, "only %d parts: this shows too little", len(parts))
     for i, path in enumerate(parts):
@@ -202,8 +244,8 @@ def the_journal_in_parts(place):
     kept = place.journal_bytes()
     play.run(100)
     check(place.journal_bytes().startswith(kept), "the second run has altered what the first had journaled")
-    equal(len(place.journal_parts()), len(parts) + 1, "parts with the second run's")
-    equal(history.split(content(place.journal))[0][0][0], SETTINGS, "the kind of the first record of the second run's file")
+    equal(len(place.journal_parts()), len(parts), "parts with the second run's")
+    equal(history.split(place.journal_bytes()[len(kept):])[0][0][0], SETTINGS, "the kind of the first record of the second run")
 
 
 @test
@@ -220,7 +262,7 @@ def without_a_journal(place):
 def a_journal_with_a_cut_end(place):
     """What a power cut left of a last record is put into a file of its own at the next start, which says so; all parts replay as one."""
     servers = []
-    for cut in (b"\x19", b"\x19\0", b"\x19\0\x30\0", tightening_record(tightening_fields(0))[:-1]):
+    for part, cut in enumerate((b"\x19", b"\x19\0", b"\x19\0\x30\0", tightening_record(tightening_fields(0))[:-1]), 1):
         host = place.host()
         servers.append(place.server(host).start())
         host.kill()
@@ -230,7 +272,7 @@ def a_journal_with_a_cut_end(place):
         host.wait_for_log("%d bytes" % len(cut))
         servers.append(place.server(host).start())
         equal(host.end(), 0, "status")
-        equal(content(place.journal_parts()[-2] + ".cut"), cut, "what was cut off")
+        equal(content("%s.%d.cut" % (place.journal, part)), cut, "what was cut off")
     place.check_journal(servers)
 
 
@@ -263,5 +305,7 @@ def a_file_that_is_no_journal(place):
             equal(content(aside + ".cut"), other, "what was cut off")
             os.remove(aside)
         equal([kind for kind, _ in history.split(content(place.journal))[0]], [SETTINGS], "kinds of records in the new journal")
+        os.remove(place.journal)
     equal(place.host().end(), 0, "status of a further run")
-    equal([os.path.basename(path) for path in place.journal_parts()], ["journal.1", "journal.3", "journal"], "files")
+    equal([os.path.basename(path) for path in place.journal_parts()], ["journal.1", "journal"], "files")
+    check(os.path.exists(place.journal + ".3.times"), "the number of a part whose cut end is there was to be given twice")

@@ -11,8 +11,8 @@ import subprocess
 import zlib
 
 import tracing
-from harness import (BYTES, GREATEST_NUMBER, SETTINGS, TIGHTENING, Wrong, check, content, equal, history, openprotocol, result_fields,
-                     tell_and_acknowledge, test, tightening_fields, tightening_record, wait)
+from harness import (BYTES, GREATEST_NUMBER, SETTINGS, TIGHTENING, InTime, Skipped, Wrong, check, content, equal, history, openprotocol,
+                     result_fields, tell_and_acknowledge, test, tightening_fields, tightening_record, wait)
 
 
 def runs_of_the_host(records):
@@ -26,10 +26,10 @@ def runs_of_the_host(records):
     return runs
 
 
-def check_numbers(place, servers, begins):
+def check_numbers(place, servers, begins, *more):
     """Each run of the host, to a server each, gave the tightenings from `begins` on under the numbers behind those of the run before: no
     number twice, and none skipped but one that was kept when the host was killed, and not yet given."""
-    equal(place.host().end(), 0, "status")
+    equal(place.host(*more).end(), 0, "status")
     runs = runs_of_the_host(place.journaled())
     for i, (server, begin) in enumerate(zip(servers, begins)):
         last, journaled = runs[i]
@@ -48,9 +48,9 @@ def gives_next(place, number):
     server.expect_result(tightening_fields(7), number)
 
 
-def begin_run(place):
+def begin_run(place, *more):
     """A host, a server that is sent everything at once, and a tool."""
-    host = place.host()
+    host = place.host(*more)
     server = place.server(host).subscribe(acknowledge=False)
     server.reads_all = False
     return host, server, place.tool()
@@ -75,40 +75,66 @@ def killed_between_results(place):
     check_numbers(place, servers, begins)
 
 
-@test
-@tracing.traced
-def killed_before_every_call_of_the_system(place):
-    """The same with the host killed before each call of the system that it makes for a tightening, one run for each. The number is on
-    the disk, and its folder with it, before anything is sent."""
+def kill_before_each_call(place, *more):
+    """Kills the host before each call of the system that it makes for a tightening, one run for each; the calls of the last run."""
     servers, begins, answered = [], [], False
-    while not answered:
-        host, server, tool = begin_run(place)
+    in_time = InTime("a kill before every call", 60)
+    while not answered and in_time():
+        host, server, tool = begin_run(place, *more)
         servers.append(server)
         begins.append(len(servers))
+        host.wait_until_it_waits()
         trace = tracing.Trace(host.process.pid)
         tool.send(tightening_record(tightening_fields(len(servers))))
         calls = []
-        while len(calls) < len(servers) and not answered:
+        while len(calls) < len(servers) and not answered and in_time():
             calls.append(trace.next_call())
             answered = select.select([tool.link], [], [], 0)[0] != []
         host.kill()
         server.until_closed()
+    place.said.append("killed before %d calls" % len(servers))
+    check_numbers(place, servers, begins, *more)
+    return calls
+
+
+@test
+@tracing.traced
+def killed_before_every_call_of_the_system(place):
+    """The same with the host killed before each call of the system that it makes for a tightening. The number is on the disk, and its folder
+    with it, before anything is sent."""
+    calls = kill_before_each_call(place)
     kept = [call for call in calls if call in ("send", "sync", "rename")]
     equal(kept[:4], ["sync", "rename", "sync", "send"], "calls that keep a number and send a result")
-    place.said.append("killed before %d calls" % len(servers))
-    check_numbers(place, servers, begins)
+
+
+@test
+@tracing.traced
+def killed_while_a_part_is_begun(place):
+    """The same where the tightening begins a part of the journal: whatever the kill leaves of the parts and of what stands beside them, the next
+    start goes on, and each part from its table, or its start, gives what it gives within the whole."""
+    # A start, an opening and three messages are 116 bytes.
+    calls = kill_before_each_call(place, "--journal-size", 100, "--journal-keep", 10000)
+    check(calls.count("rename") >= 2 and calls.count("sync") >= 3, "no part was begun: this shows nothing")
+    parts = place.journal_parts()
+    printed = []
+    for path in parts[:-1]:
+        table = path + ".table" if os.path.exists(path + ".table") else None
+        printed.append(place.own_replayed(content(path), table))
+    whole = place.own_replayed(place.journal_bytes())
+    check(whole.startswith(b"".join(printed)), "the parts alone do not give what they give within the whole")
 
 
 # ---- disks that are full
 
 PAGE = os.sysconf("SC_PAGE_SIZE")
+DISK_PAGES = 16
 
 
 def small_disk(place):
     """A folder that can be filled up, or None where no file system may be mounted."""
     path = place.path("disk")
     os.mkdir(path)
-    done = subprocess.run(["mount", "-t", "tmpfs", "-o", "size=%d" % (16 * PAGE), "serifladder", path], stderr=subprocess.DEVNULL,
+    done = subprocess.run(["mount", "-t", "tmpfs", "-o", "size=%d" % (DISK_PAGES * PAGE), "serifladder", path], stderr=subprocess.DEVNULL,
                           check=False)
     if done.returncode != 0:
         place.said.append("without the right to mount a small disk")
@@ -121,7 +147,7 @@ def fill(disk):
     """Leaves no room on a disk but in the last pages of its files; answers what to remove to have room again."""
     path = os.path.join(disk, "filler")
     with open(path, "wb", buffering=0) as file, contextlib.suppress(OSError):
-        while True:
+        for _ in range(DISK_PAGES):
             file.write(bytes(PAGE))
     return path
 
@@ -186,9 +212,9 @@ def no_room_for_the_journal(place):
         fill(disk)
     else:
         limit_files(host, PAGE)
-    mirrored = 0
+    mirrored, in_time = 0, InTime("a full journal")
     with contextlib.suppress(Wrong, ConnectionError):
-        while server.open:
+        while server.open and in_time():
             server.fence()
             mirrored += 1
     ends_without_a_word(place, host, server, None, place.journal)
@@ -211,7 +237,8 @@ def a_tightening_that_is_not_journaled(place):
     else:
         limit_files(host, PAGE)
     # What room the journal has yet, records of bytes without an end fill up.
-    while room := -os.path.getsize(place.journal) % PAGE:
+    in_time = InTime("a full journal")
+    while in_time() and (room := -os.path.getsize(place.journal) % PAGE):
         size = room if room <= 4096 else 2048
         server.send(b"x" * (size - 4))
         wait(lambda: -os.path.getsize(place.journal) % PAGE == room - size, "%d bytes less room in the journal" % size)
@@ -231,8 +258,7 @@ def a_journal_that_takes_nothing(place):
     except PermissionError:
         device = "/dev/full"
         if os.access("/dev", os.W_OK):  # a wrong host could rename it
-            place.said.append("not shown here: no device can be made")
-            return
+            raise Skipped("no device can be made here") from None
     host = place.start("--journal", device, journal=False)
     place.refused(host, 1, device)
     check(stat.S_ISCHR(os.lstat(device).st_mode), "%s was renamed", device)
@@ -249,15 +275,18 @@ def a_state_that_cannot_be_made(place):
 
 @test
 def a_missing_state(place):
-    """Without a state file the host does not start, and says how to make one; it makes none by itself, nor a second one."""
+    """Without a state file the host does not start, and says how to make one; with --new-state it makes one, and goes on with that the
+    next time."""
     usual = ["--settings", place.settings, "--state", place.state, "--listen", "127.0.0.1:0"]
     place.refused(place.run(*usual), 1, place.state, "--new-state")
     check(not os.path.exists(place.state), "a state was made unasked")
     host = place.run(*usual, "--new-state", 41).ready()
     equal(host.end(), 0, "status")
     kept = content(place.state)
-    place.refused(place.run(*usual, "--new-state", 7), 1, place.state)
-    equal(content(place.state), kept, "the state after a refused --new-state")
+    host = place.run(*usual, "--new-state", 7).ready()
+    check("last tightening number is 41" in host.log(), "a second --new-state was not left alone:\n%s", host.log())
+    equal(host.end(), 0, "status")
+    equal(content(place.state), kept, "the state after a --new-state that was not needed")
     gives_next(place, 42)
 
 
