@@ -71,7 +71,7 @@ def tool_words(kind, payload, number=None, taken=()):
     else:
         words = "of kind %d, %s" % (kind, count(len(payload), "byte"))
     if taken or number is not None:
-        words += ", taken by " + (" ".join(map(str, taken)) or "no one")
+        words += ", taken by " + (" ".join(map(str, taken)) or "none")
     return words
 
 

@@ -343,7 +343,7 @@ def test_taken():
             taken = [s for s in range(4) if (given, False) in results(lines, s)]
             not_taken = [s for s in range(4) if (given + 1, True) in results(lines, s) and s not in taken]
             what = "seed %d, record %d" % (seed, number)
-            expect(what, shown[0].text().rpartition(", taken by ")[2], " ".join(map(str, taken)) or "no one")
+            expect(what, shown[0].text().rpartition(", taken by ")[2], " ".join(map(str, taken)) or "none")
             said = "tightening %d: not taken; server %d has 8 already"
             expect(what, [line for s in range(4) for line in story.lost(number, s)], [said % (given, s) for s in not_taken])
             lost += len(not_taken)
@@ -353,7 +353,7 @@ def test_taken():
 def test_ninth():
     """Document 01's case (l), and the results that are held at the end."""
     text = draw(made(SUBSCRIBED + "tightening\n" * 9))
-    expect("labels", labels(text)[-3:], ["8: 0.00 Nm, OK, taken by 0", "9: 0.00 Nm, OK, taken by no one",
+    expect("labels", labels(text)[-3:], ["8: 0.00 Nm, OK, taken by 0", "9: 0.00 Nm, OK, taken by none",
                                          "lost: tightening 9: not taken; server 0 has 8 already"])
     expect("told at the end", text.splitlines()[-1], "at the end server 0 has not acknowledged notice 1, tightening 1; "
            + ", ".join("tightening %d" % number for number in range(2, 9)) + " wait behind it")
