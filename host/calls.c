@@ -48,20 +48,10 @@ static void carry_out(uint64_t written)
     links_hang_up_failed();
 }
 
-static struct answer answered(void)
-{
-    return (struct answer){
-        .number = little(answer_bytes + SERIFLADDER_ANSWER_NUMBER, 8),
-        .consumed = little(answer_bytes + SERIFLADDER_ANSWER_CONSUMED, 8),
-        .written = little(answer_bytes + SERIFLADDER_ANSWER_WRITTEN, 8),
-        .taken = little(answer_bytes + SERIFLADDER_ANSWER_TAKEN, 8),
-    };
-}
-
 /* A call that the host makes of itself is never refused: where it is, the host is at fault and does not go on. */
 static void settle_done(const char *call, uint64_t number, unsigned kind, const uint8_t *payload, size_t length)
 {
-    struct answer answer = answered();
+    struct answer answer = read_answer(answer_bytes);
     if (number != SERIFLADDER_DONE)
         fail("%s was refused: %u %s", call, (unsigned)number, meaning(number));
     journal_record(kind, payload, length);
@@ -79,25 +69,30 @@ void call_start(uint8_t settings[SETTINGS_RECORD], uint32_t number)
 
 void call_open(unsigned session)
 {
+    journal_prepare(table);
     settle_done("an open", serifladder_open(LENT, session, ANSWER), JOURNAL_OPEN + session, NULL, 0);
 }
 
 void call_hang_up(unsigned session)
 {
+    journal_prepare(table);
     settle_done("a hang-up", serifladder_hang_up(LENT, session, ANSWER), JOURNAL_HANG_UP + session, NULL, 0);
 }
 
 size_t call_bytes(unsigned session, const uint8_t *bytes, size_t length)
 {
+    journal_prepare(table);
     uint64_t number = serifladder_bytes(LENT, session, bytes, length, ANSWER);
-    size_t consumed = (size_t)answered().consumed;
+    size_t consumed = (size_t)read_answer(answer_bytes).consumed;
     settle_done("received bytes", number, JOURNAL_BYTES + session, bytes, consumed);
     return consumed;
 }
 
 void call_tick(void)
 {
+    journal_prepare(table);
     settle_done("a tick", serifladder_tick(LENT, ANSWER), JOURNAL_TICK, NULL, 0);
+    sessions_ticked();
 }
 
 /* In the journal a record of a kind that stands for another call there gets kind 0, which is as bad a tool record. */
@@ -109,11 +104,15 @@ static unsigned journal_kind(unsigned kind)
 struct answer call_record(const uint8_t *record, size_t length)
 {
     unsigned kind = (unsigned)little(record + 2, 2);
+    journal_prepare(table);
     uint64_t number = serifladder_record(LENT, record, length, ANSWER);
-    struct answer answer = answered();
-    if (number == SERIFLADDER_DONE && kind == SERIFLADDER_TIGHTENING)
+    struct answer answer = read_answer(answer_bytes);
+    bool numbered = number == SERIFLADDER_DONE && kind == SERIFLADDER_TIGHTENING;
+    if (numbered)
         state_keep(++last);
     journal_record(journal_kind(kind), record + SERIFLADDER_RECORD_HEADER, length - SERIFLADDER_RECORD_HEADER);
+    if (numbered)
+        sessions_result(last, answer.taken);
     carry_out(answer.written);
     return answer;
 }

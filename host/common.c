@@ -1,66 +1,14 @@
-/* The log, numbers, files, and bytes that wait to be sent. */
+/* Numbers, answers, files, and bytes that wait to be sent. */
 #include "host.h"
 
 #include <errno.h>
 #include <fcntl.h>
-#include <stdarg.h>
-#include <stdio.h>
 #include <stdlib.h>
 #include <string.h>
 #include <sys/socket.h>
+#include <sys/stat.h>
 #include <time.h>
 #include <unistd.h>
-
-/* Writes a line, unless standard error is a pipe that nobody empties: no reader of the log may hold the host up. Lines that are left out
-   are counted, and the count is said once lines are taken again. */
-static void write_line(const char *line, size_t length)
-{
-    static unsigned long left_out;
-    struct pollfd standard_error = { .fd = STDERR_FILENO, .events = POLLOUT };
-    if (poll(&standard_error, 1, 0) != 1) {
-        left_out += 1;
-        return;
-    }
-    if (left_out > 0) {
-        char said[80];
-        int size = snprintf(said, sizeof said, "%lu lines of the log are left out: they were not read\n", left_out);
-        left_out = 0;
-        write_all(STDERR_FILENO, said, (size_t)size);
-    }
-    write_all(STDERR_FILENO, line, length);
-}
-
-static void say_list(const char *before, const char *format, va_list values)
-{
-    char line[1024];
-    struct timespec now;
-    struct tm parts;
-    clock_gettime(CLOCK_REALTIME, &now);
-    gmtime_r(&now.tv_sec, &parts);
-    size_t at = strftime(line, sizeof line, "%Y-%m-%dT%H:%M:%S", &parts);
-    at += (size_t)snprintf(line + at, sizeof line - at, ".%03ldZ %s", now.tv_nsec / 1000000, before);
-    int said = vsnprintf(line + at, sizeof line - at - 1, format, values);
-    at = said < 0 ? at : at + (size_t)said < sizeof line - 2 ? at + (size_t)said : sizeof line - 2;
-    line[at++] = '\n';
-    write_line(line, at);
-}
-
-void say(const char *format, ...)
-{
-    va_list values;
-    va_start(values, format);
-    say_list("", format, values);
-    va_end(values);
-}
-
-void fail(const char *format, ...)
-{
-    va_list values;
-    va_start(values, format);
-    say_list("error: ", format, values);
-    va_end(values);
-    exit(1);
-}
 
 uint64_t little(const uint8_t *bytes, size_t size)
 {
@@ -74,6 +22,16 @@ void put_little(uint8_t *bytes, size_t size, uint64_t number)
 {
     for (size_t i = 0; i < size; i++, number >>= 8)
         bytes[i] = (uint8_t)number;
+}
+
+struct answer read_answer(const uint8_t bytes[SERIFLADDER_ANSWER_SIZE])
+{
+    return (struct answer){
+        .number = little(bytes + SERIFLADDER_ANSWER_NUMBER, 8),
+        .consumed = little(bytes + SERIFLADDER_ANSWER_CONSUMED, 8),
+        .written = little(bytes + SERIFLADDER_ANSWER_WRITTEN, 8),
+        .taken = little(bytes + SERIFLADDER_ANSWER_TAKEN, 8),
+    };
 }
 
 bool read_number(const char *text, uint64_t greatest, uint64_t *number)
@@ -129,10 +87,30 @@ int open_folder(const char *path)
     return opened;
 }
 
+bool same_place(const char *one, const char *other)
+{
+    struct stat first, second;
+    if (stat(one, &first) == 0 && stat(other, &second) == 0)
+        return first.st_ino == second.st_ino && first.st_dev == second.st_dev;
+    int folders[] = { open_folder(one), open_folder(other) };
+    bool same = strcmp(name_in_folder(one), name_in_folder(other)) == 0 && folders[0] >= 0 && folders[1] >= 0
+        && fstat(folders[0], &first) == 0 && fstat(folders[1], &second) == 0 && first.st_ino == second.st_ino && first.st_dev == second.st_dev;
+    close(folders[0]);
+    close(folders[1]);
+    return same;
+}
+
 void unblock(int descriptor)
 {
     if (fcntl(descriptor, F_SETFL, fcntl(descriptor, F_GETFL) | O_NONBLOCK) != 0)
         fail("a descriptor cannot be made non-blocking: %s", strerror(errno));
+}
+
+int64_t now(void)
+{
+    struct timespec time;
+    clock_gettime(CLOCK_MONOTONIC, &time);
+    return (int64_t)time.tv_sec * SECOND + time.tv_nsec;
 }
 
 bool waiting_add(struct waiting *waiting, const void *bytes, size_t length)

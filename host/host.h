@@ -9,6 +9,7 @@
 #include <stdbool.h>
 #include <stddef.h>
 #include <stdint.h>
+#include <sys/types.h>
 
 enum {
     PAYLOAD_GREATEST = 8192, /* of a house record that the tool sends or the journal holds */
@@ -21,17 +22,44 @@ enum {
     TOOL_POLLED = 1 + TOOL_CONNECTIONS
 };
 
-/* ---- common.c: the log, and what several files need */
+/* ---- log.c: the log, on standard error until it is opened */
 
-/* A line on standard error, with the time before it. */
+/* The log goes to a file from now on, or where that is NULL to standard error as before. */
+void log_open(const char *path);
+void log_reopen(void);
+
+/* Says how many lines of the last second were left out; so it is to be called now and then. */
+void log_counts(void);
+
+/* A line with the time before it. Where a format repeats too often within a second, the rest of its lines is counted. */
 void say(const char *format, ...) __attribute__((format(printf, 1, 2)));
+
+/* The same for what is lost, of which each has its line, however often it repeats. */
+void say_each(const char *format, ...) __attribute__((format(printf, 1, 2)));
 
 /* Says why the host cannot go on, and ends it with status 1. */
 _Noreturn void fail(const char *format, ...) __attribute__((format(printf, 1, 2)));
 
+/* ---- signals.c: those that end the host, and SIGHUP */
+void signals_catch(void);
+int signals_descriptor(void);     /* to be polled: it can be read when a signal has come */
+bool signals_end(void);           /* reads what has come: whether the host is to end */
+bool signals_reopen(void);        /* whether SIGHUP has come since it was asked last */
+const char *signals_ended_by(void);
+
+/* ---- common.c: what several files need */
+
+extern mode_t file_mode; /* of the files that are made; main.c has it */
+
 /* Numbers of `size` bytes, little-endian. */
 uint64_t little(const uint8_t *bytes, size_t size);
 void put_little(uint8_t *bytes, size_t size, uint64_t number);
+
+/* What a call answers, read from the bytes in which it stands. */
+struct answer {
+    uint64_t number, consumed, written, taken;
+};
+struct answer read_answer(const uint8_t bytes[SERIFLADDER_ANSWER_SIZE]);
 
 /* Reads a text that is a decimal number and nothing else, `greatest` at most. */
 bool read_number(const char *text, uint64_t greatest, uint64_t *number);
@@ -46,8 +74,15 @@ bool lock_file(int file);
 const char *name_in_folder(const char *path);
 int open_folder(const char *path);
 
+/* Whether two paths are one file, or would be if it were made. */
+bool same_place(const char *one, const char *other);
+
 /* Makes a descriptor non-blocking. */
 void unblock(int descriptor);
+
+/* The time that has passed, in nanoseconds; no clock that is set alters it. */
+enum { MILLISECOND = 1000000, SECOND = 1000000000 };
+int64_t now(void);
 
 /* Bytes that wait to be sent, in order. */
 struct waiting {
@@ -61,31 +96,74 @@ bool waiting_add(struct waiting *waiting, const void *bytes, size_t length);
 /* Sends what is taken now. False with errno where the peer is gone. */
 bool waiting_send(struct waiting *waiting, int socket);
 
+/* ---- door.c: sockets that listen */
+
+struct door {
+    const char *whose;
+    int socket;    /* -1: none */
+    int64_t rests; /* until then nobody is let in: where the system has no descriptor left, it has none either when it is asked at once again */
+};
+
+struct pollfd door_poll(const struct door *door);
+
+/* Takes a connection in, which does not block, and where the address is asked for, its peer's; -1 where there is none that can be kept. */
+int door_take(struct door *door, struct sockaddr_in *address);
+void door_close(struct door *door);
+
 /* ---- settings.c: the settings file as a settings record, its last number 0 */
 void settings_read(const char *path, uint8_t record[SETTINGS_RECORD]);
 
 /* ---- state.c: the file that keeps the last tightening number */
 
-/* Locks and reads the state file. Where `fresh` is not NULL, the file is created with that number, and must not be there yet. */
+/* Locks and reads the state file. Where it is not there and `fresh` is not NULL, the number is that, and is yet to be kept. */
 uint32_t state_open(const char *path, const uint32_t *fresh);
 
-/* Keeps the number: when this returns it has reached the disk. */
+/* Keeps the number: when this returns it has reached the disk, and no other host has the state. */
 void state_keep(uint32_t number);
 
-/* ---- journal.c: every call as house records, as the test program replay reads them */
+/* ---- journal.c: every call as house records, as the program serifladder-replay reads them */
 
 /* The kinds besides those of the library; a session's number is added. */
 enum { JOURNAL_OPEN = 16, JOURNAL_HANG_UP = 32, JOURNAL_BYTES = 48, JOURNAL_TICK = 64 };
 
-/* Begins a new file; without this call nothing is journaled. */
-void journal_open(const char *path, uint64_t size_greatest);
+struct journal_options {
+    const char *path;
+    uint64_t size, keep; /* when a part is full, and how many are kept besides the one that is written */
+};
+
+/* Reads what is there of an earlier journal, and leaves it as it is. True where it shows the last tightening number. */
+bool journal_find(const struct journal_options *options, uint32_t *last);
+
+/* Goes on with what was found, or begins anew; without this call nothing is journaled. */
+void journal_open(void);
+
+/* Before a call: puts a part that is full aside, begins one that was removed anew, and keeps the table beside what begins. */
+void journal_prepare(const uint8_t *table);
 void journal_record(unsigned kind, const uint8_t *payload, size_t length);
 
-/* ---- calls.c: the library's calls. Each is settled in this order: number kept, call journaled, output sent */
+/* ---- replaying.c: a journal given to the library again */
 
-struct answer {
-    uint64_t number, consumed, written, taken;
+struct listener {
+    void (*answered)(const struct answer *answer, const uint8_t *output); /* behind each call */
+    void (*served)(void);                                                 /* before more is read */
 };
+
+/* What there was to read. */
+struct replayed {
+    uint64_t whole; /* bytes of whole records */
+    size_t rest;    /* bytes behind them */
+    bool too_long;  /* these are no record's beginning: its length is above PAYLOAD_GREATEST */
+    bool failed;    /* it cannot be read, errno says why */
+};
+
+/* Makes the calls of a journal over a table, the listener being told of them if there is one. */
+struct replayed replay_journal(int file, uint8_t table[SERIFLADDER_TABLE_SIZE], const struct listener *who);
+
+/* Reads a table that was kept; false where the file is none. */
+bool table_read(int file, uint8_t table[SERIFLADDER_TABLE_SIZE]);
+bool table_is_formed(uint8_t table[SERIFLADDER_TABLE_SIZE]);
+
+/* ---- calls.c: the library's calls. Each is settled in this order: number kept, call journaled, output sent */
 
 void call_start(uint8_t settings[SETTINGS_RECORD], uint32_t last);
 void call_open(unsigned session);
@@ -101,19 +179,55 @@ uint32_t last_number(void);
 const char *meaning(uint64_t number);
 
 /* ---- links.c: the TCP connections of the line servers; link s is session s */
-void links_bind(const struct sockaddr_in *address); /* takes the address; fails where it is taken */
-void links_listen(void);                            /* from now on servers can connect */
+void links_listen(const struct sockaddr_in *address); /* takes the address; fails where it is taken */
+void links_ready(void);                               /* says it; who has connected meanwhile is let in from now on */
 void links_poll(struct pollfd set[LINKS_POLLED]);
+int64_t links_heard_again(void); /* when a link is polled again that has brought its share; INT64_MAX where none has */
 void links_serve(const struct pollfd set[LINKS_POLLED]);
 void links_send(unsigned session, const uint8_t *frame, size_t length);
 void links_close(unsigned session);  /* the library has closed the session */
 void links_hang_up_failed(void);     /* ends the links that could not be sent to */
 void links_end(void);
 
+/* The peer of a link, for the log. */
+const char *links_peer(unsigned session);
+
+/* A network that may connect, ADDRESS/BITS; without any, everybody may. False where the text is none, or there are too many. */
+bool links_allow(const char *text);
+void links_limit(unsigned links_of_an_address);
+uint64_t links_refused(void); /* so many were closed at once */
+
+/* ---- sessions.c: what each session is, and the results that it holds, told from what came and went */
+
+struct session_state {
+    bool open, started, identifiers, results; /* the last two: subscribed to them */
+    bool acknowledges;                        /* results are held until they are acknowledged */
+    unsigned held;
+    uint32_t numbers[8]; /* of the results that are held, the one that is sent first */
+};
+
+struct session_losses {
+    uint64_t not_taken, given_up, dropped; /* results */
+};
+
+void session_opened(unsigned session);
+void session_said(unsigned session, const uint8_t *message, size_t length); /* a message has come; `message` is its beginning */
+void session_sent(unsigned session, const uint8_t *frame, size_t length, bool waits); /* waits to be sent, or can't be */
+void session_ended(unsigned session, size_t waiting, const char *why); /* so many bytes were not given to the system yet */
+void sessions_result(uint32_t number, uint64_t taken);                 /* a tightening has that number, and these sessions took it */
+void sessions_ticked(void);
+void sessions_end(void); /* the host ends, in order or not */
+const struct session_state *session_state(unsigned session);
+const struct session_losses *session_losses(void);
+
+/* The number of a result, from its frame. */
+unsigned long result_number(const uint8_t *frame, size_t length);
+
 /* ---- tool.c: house records from a FIFO or over a Unix socket */
 void tool_open(const char *path);
 void tool_poll(struct pollfd set[TOOL_POLLED]);
 void tool_serve(const struct pollfd set[TOOL_POLLED]);
+void tool_tick(void); /* a tick has passed: tools may be silent for too long, and a FIFO may be gone */
 
 /* Gives a record to the library, says what came of it in the log and in `line`. */
 enum { ANSWER_LINE = 80 };

@@ -1,6 +1,9 @@
-/* The journal: every call as a house record, in the order of the calls. Parts that are full, and those of earlier runs, are FILE.1,
-   FILE.2 and so on; they and then FILE, one behind the other, are one journal. Where a part ended within a record, the bytes of that are in
-   FILE.1.cut, say. */
+/* The journal: every call as a house record, in the order of the calls. Parts that are full are FILE.1, FILE.2 and so on; they and then
+   FILE, one behind the other, are one journal. The oldest parts are deleted. Beside the part FILE.7 stand
+     FILE.7.table  the lent table as it was when the part began, unless the part begins with a start;
+     FILE.7.times  lines with the bytes of the part so far and the time of day;
+     FILE.7.cut    where the part ended within a record, the bytes of that.
+   What stands beside FILE itself has from its beginning the number that FILE gets when it is put aside. */
 #include "host.h"
 
 #include <dirent.h>
@@ -9,131 +12,385 @@
 #include <inttypes.h>
 #include <limits.h>
 #include <stdio.h>
+#include <stdlib.h>
 #include <string.h>
 #include <sys/stat.h>
+#include <time.h>
 #include <unistd.h>
 
-#define CUT ".cut" /* ends the name of a file with the bytes that were cut off a part */
+#define TABLE ".table"
+#define TIMES ".times"
+#define CUT ".cut"
+static const char *const ENDS[] = { "", TABLE, TIMES, CUT };
+enum { END_COUNT = sizeof ENDS / sizeof ENDS[0], SECONDS_BETWEEN_TIMES = 60, TABLE_LAST_NUMBER = 8 /* docs/TABLE.md */ };
 
-static const char *journal_path;
+static struct journal_options journal;
 static int file = -1;
-static bool regular = true;        /* a device or a FIFO is written as it stands, and never renamed */
-static uint64_t size, limit, part; /* of FILE; when it is full; the greatest number of a part */
+static bool regular = true; /* a device or a FIFO is written as it stands, and never renamed */
+static struct stat ours;    /* FILE, as it was opened */
+static uint64_t size, number; /* of FILE: its bytes, and the number that it gets */
+static struct replayed earlier; /* what was found in FILE at the start */
+static bool earlier_started;    /* and whether its calls can go on: it has a table, or a start */
 
 static _Noreturn void cannot(const char *what)
 {
-    fail("journal %s cannot be %s: %s", journal_path, what, strerror(errno));
+    fail("journal %s cannot be %s: %s", journal.path, what, strerror(errno));
 }
 
-static void part_name(char name[PATH_MAX], uint64_t number, const char *end)
+static void part_name(char name[PATH_MAX], uint64_t part, const char *end)
 {
-    if (snprintf(name, PATH_MAX, "%s.%" PRIu64 "%s", journal_path, number, end) >= PATH_MAX)
-        fail("journal %s: the name is too long", journal_path);
+    if (snprintf(name, PATH_MAX, "%s.%" PRIu64 "%s", journal.path, part, end) >= PATH_MAX)
+        fail("journal %s: the name is too long", journal.path);
 }
 
-/* The greatest number N of a file FILE.N or FILE.N.cut; 0 where there is none. */
-static uint64_t greatest_part(void)
+/* ---- the numbers of the parts that are there */
+
+struct numbers {
+    uint64_t *of; /* each once, the least first */
+    size_t count;
+    uint64_t next; /* the number that FILE gets: that of a table without a part, or one more than that of the last part */
+};
+
+/* The number N where a name is FILE.N, or that of a file beside such a part, whose end it says then; 0 where it is neither. */
+static uint64_t part_of(char *entry, const char **end)
 {
-    const char *name = name_in_folder(journal_path);
-    size_t length = strlen(name);
-    uint64_t number, greatest = 0;
-    int folder = open_folder(journal_path);
+    const char *name = name_in_folder(journal.path);
+    size_t length = strlen(name), whole = strlen(entry);
+    uint64_t part;
+    if (strncmp(entry, name, length) != 0 || entry[length] != '.' || entry[length + 1] == '0')
+        return 0;
+    for (size_t e = END_COUNT; e-- > 0;) {
+        size_t more = strlen(ENDS[e]);
+        if (whole < more || strcmp(entry + whole - more, ENDS[e]) != 0)
+            continue;
+        *end = ENDS[e];
+        entry[whole - more] = '\0';
+        return read_number(entry + length + 1, UINT32_MAX, &part) ? part : 0;
+    }
+    return 0;
+}
+
+static int by_size(const void *a, const void *b)
+{
+    uint64_t left = *(const uint64_t *)a, right = *(const uint64_t *)b;
+    return (left > right) - (left < right);
+}
+
+static struct numbers numbers_there(void)
+{
+    struct numbers numbers = { .next = 1 };
+    const char *end = "";
+    size_t distinct = 0;
+    int folder = open_folder(journal.path);
     DIR *names = folder < 0 ? NULL : fdopendir(folder);
     if (names == NULL)
         cannot("looked for in its folder");
     for (struct dirent *entry; (entry = readdir(names)) != NULL;) {
-        size_t whole = strlen(entry->d_name), end = whole < strlen(CUT) ? 0 : whole - strlen(CUT);
-        if (strcmp(entry->d_name + end, CUT) == 0)
-            entry->d_name[end] = '\0';
-        if (strncmp(entry->d_name, name, length) == 0 && entry->d_name[length] == '.'
-            && read_number(entry->d_name + length + 1, UINT32_MAX, &number) && number > greatest)
-            greatest = number;
+        uint64_t part = part_of(entry->d_name, &end);
+        if (part == 0)
+            continue;
+        uint64_t *more = realloc(numbers.of, (numbers.count + 1) * sizeof *more);
+        if (more == NULL)
+            cannot("listed with its parts");
+        numbers.of = more;
+        numbers.of[numbers.count++] = part;
+        bool of_file = strcmp(end, TABLE) == 0 || strcmp(end, TIMES) == 0;
+        if (numbers.next < part + !of_file)
+            numbers.next = part + !of_file;
     }
     closedir(names);
-    return greatest;
+    if (numbers.count > 0)
+        qsort(numbers.of, numbers.count, sizeof *numbers.of, by_size);
+    for (size_t i = 0; i < numbers.count; i++)
+        if (i == 0 || numbers.of[i] != numbers.of[i - 1])
+            numbers.of[distinct++] = numbers.of[i];
+    numbers.count = distinct;
+    return numbers;
 }
 
-static void begin(void)
+/* ---- what stands beside a part */
+
+/* Writes a file that is not there yet; the bytes are on the disk then. */
+static void write_beside(const char *end, const uint8_t *bytes, size_t length)
 {
-    file = open(journal_path, O_WRONLY | O_APPEND | O_CLOEXEC | (regular ? O_CREAT | O_EXCL : 0), 0644);
+    char name[PATH_MAX];
+    part_name(name, number, end);
+    int beside = open(name, O_WRONLY | O_CREAT | O_EXCL | O_CLOEXEC, file_mode);
+    if (beside < 0 || !write_all(beside, bytes, length) || fsync(beside) != 0 || close(beside) != 0)
+        fail("%s, beside the journal, cannot be written: %s", name, strerror(errno));
+}
+
+static void remove_beside(uint64_t part, const char *end)
+{
+    char name[PATH_MAX];
+    part_name(name, part, end);
+    if (unlink(name) != 0 && errno != ENOENT)
+        say("%s, beside the journal, cannot be deleted: %s", name, strerror(errno));
+}
+
+static void rename_beside(const char *end, uint64_t to)
+{
+    char old[PATH_MAX], new[PATH_MAX];
+    part_name(old, number, end);
+    part_name(new, to, end);
+    if (rename(old, new) != 0 && errno != ENOENT)
+        cannot("renamed with what stands beside it");
+}
+
+/* A line with the bytes of FILE so far and the time of day. That it cannot be written does not hold the host up. */
+static void note_time(void)
+{
+    char name[PATH_MAX], line[64];
+    time_t now = time(NULL);
+    struct tm parts;
+    gmtime_r(&now, &parts);
+    size_t at = (size_t)snprintf(line, sizeof line, "%" PRIu64 " ", size);
+    at += strftime(line + at, sizeof line - at, "%Y-%m-%dT%H:%M:%SZ\n", &parts);
+    part_name(name, number, TIMES);
+    int times = open(name, O_WRONLY | O_APPEND | O_CREAT | O_NOFOLLOW | O_CLOEXEC, file_mode);
+    if (times < 0 || !write_all(times, line, at))
+        say("%s, the times of the journal, cannot be written: %s", name, strerror(errno));
+    if (times >= 0)
+        close(times);
+}
+
+static void note_time_each_minute(void)
+{
+    static time_t last;
+    struct timespec now;
+    clock_gettime(CLOCK_MONOTONIC, &now);
+    if (last != 0 && now.tv_sec - last >= SECONDS_BETWEEN_TIMES)
+        note_time();
+    if (last == 0 || now.tv_sec - last >= SECONDS_BETWEEN_TIMES)
+        last = now.tv_sec;
+}
+
+/* ---- FILE and its parts */
+
+/* Begins FILE anew. Where a table is given it is kept beside it; else a start comes first. */
+static void begin(const uint8_t *table)
+{
+    if (regular) {
+        remove_beside(number, TABLE);
+        remove_beside(number, TIMES);
+    }
+    if (table != NULL)
+        write_beside(TABLE, table, SERIFLADDER_TABLE_SIZE);
+    file = open(journal.path, O_WRONLY | O_APPEND | O_CLOEXEC | (regular ? O_CREAT | O_EXCL : 0), file_mode);
     if (file < 0)
         cannot("opened");
     if (regular && !lock_file(file))
         cannot("locked");
+    if (fstat(file, &ours) != 0)
+        cannot("read");
+    if (!regular)
+        unblock(file); /* it is waited for beside the signals that end the host */
     size = 0;
 }
 
-/* FILE becomes the next part. */
+static void check_number(void)
+{
+    if (number > UINT32_MAX)
+        fail("journal %s: part %" PRIu32 " is the last that there can be. Move the parts away", journal.path, UINT32_MAX);
+}
+
+/* Where somebody has made a file with the number that FILE is to get, it gets another. */
+static void find_other_number(void)
+{
+    struct numbers there = numbers_there();
+    for (size_t e = 1; e < END_COUNT; e++)
+        rename_beside(ENDS[e], there.next);
+    number = there.next;
+    free(there.of);
+    check_number();
+}
+
+/* FILE becomes a part. */
 static void put_aside(void)
 {
     char name[PATH_MAX];
-    part_name(name, ++part, "");
-    if (rename(journal_path, name) != 0)
+    struct stat found;
+    part_name(name, number, "");
+    if (lstat(name, &found) == 0) {
+        find_other_number();
+        part_name(name, number, "");
+    }
+    if (rename(journal.path, name) != 0)
         cannot("renamed");
+    number += 1;
 }
 
-/* Keeps the bytes of a record that is not whole beside the part that they were the end of, on the disk before they are taken off it. */
-static void keep_cut_end(const uint8_t *bytes, size_t length)
+static void delete_oldest(void)
 {
+    struct numbers there = numbers_there();
+    while (there.count > 0 && there.of[there.count - 1] >= number) /* what stands beside FILE itself */
+        there.count -= 1;
+    for (size_t i = 0; i + journal.keep < there.count; i++) {
+        say("journal %s: part %" PRIu64 " is deleted, %" PRIu64 " are kept", journal.path, there.of[i], journal.keep);
+        for (size_t e = 0; e < END_COUNT; e++)
+            remove_beside(there.of[i], ENDS[e]);
+    }
+    free(there.of);
+}
+
+/* ---- what is there at the start */
+
+/* Replays a part, or FILE, from its table or its start. True where it shows a last tightening number. */
+static bool read_last(int from, uint64_t part, struct replayed *replayed, uint32_t *last)
+{
+    static uint8_t table[SERIFLADDER_TABLE_SIZE];
     char name[PATH_MAX];
-    part_name(name, part + 1, CUT);
-    int kept = open(name, O_WRONLY | O_CREAT | O_EXCL | O_CLOEXEC, 0644);
-    if (kept < 0 || !write_all(kept, bytes, length) || fsync(kept) != 0 || close(kept) != 0)
-        fail("%s, for the end of the journal, cannot be written: %s", name, strerror(errno));
-    say("journal %s ended within a record: its last %zu bytes are now in %s", journal_path, length, name);
+    part_name(name, part, TABLE);
+    int begins = open(name, O_RDONLY | O_CLOEXEC);
+    if (begins < 0 || !table_read(begins, table))
+        memset(table, 0, sizeof table);
+    if (begins >= 0)
+        close(begins);
+    *replayed = replay_journal(from, table, NULL);
+    *last = (uint32_t)little(table + TABLE_LAST_NUMBER, 4);
+    return table_is_formed(table);
 }
 
-/* An earlier journal whose last write was cut, by a power cut say, is to end with its last whole record, so that what follows it can be
-   read. A file that is no journal is left as it is. */
-static void end_whole(void)
+/* The number that the newest part shows, of those that show one. */
+static bool read_last_of_parts(const struct numbers *there, uint32_t *last)
 {
-    uint8_t record[RECORD_GREATEST];
-    size_t got, payload; /* of one record */
-    off_t whole = 0;
-    FILE *old = fopen(journal_path, "r+");
-    if (old == NULL)
-        cannot("read");
-    if (!lock_file(fileno(old)))
-        fail("journal %s is in use by another host: %s", journal_path, strerror(errno));
-    for (;;) {
-        got = fread(record, 1, SERIFLADDER_RECORD_HEADER, old);
-        payload = got < SERIFLADDER_RECORD_HEADER ? 0 : (size_t)little(record, 2);
-        if (payload > PAYLOAD_GREATEST) {
-            say("journal %s was no journal", journal_path);
-            fclose(old);
-            return;
-        }
-        got += fread(record + got, 1, payload, old);
-        if (got < SERIFLADDER_RECORD_HEADER + payload)
-            break;
-        whole += (off_t)got;
+    struct replayed replayed;
+    char name[PATH_MAX];
+    bool shown = false;
+    for (size_t i = there->count; i-- > 0 && !shown;) {
+        part_name(name, there->of[i], "");
+        int part = open(name, O_RDONLY | O_CLOEXEC | O_NONBLOCK);
+        if (part < 0)
+            continue;
+        shown = read_last(part, there->of[i], &replayed, last);
+        close(part);
     }
-    if (ferror(old))
-        cannot("read");
-    if (got > 0) {
-        keep_cut_end(record, got);
-        if (ftruncate(fileno(old), whole) != 0)
-            cannot("ended with its last whole record");
-    }
-    fclose(old);
+    return shown;
 }
 
-void journal_open(const char *path, uint64_t size_greatest)
+bool journal_find(const struct journal_options *options, uint32_t *last)
 {
     struct stat found;
-    journal_path = path;
-    limit = size_greatest;
-    bool there = stat(path, &found) == 0;
+    journal = *options;
+    bool there = stat(journal.path, &found) == 0;
     if (!there && errno != ENOENT)
         cannot("opened");
     regular = !there || S_ISREG(found.st_mode);
-    if (regular)
-        part = greatest_part();
-    if (regular && there) {
-        end_whole();
-        put_aside();
+    if (!regular)
+        return false;
+    struct numbers numbers = numbers_there();
+    number = numbers.next;
+    check_number();
+    if (there) {
+        file = open(journal.path, O_RDWR | O_APPEND | O_CLOEXEC);
+        if (file < 0 || fstat(file, &ours) != 0)
+            cannot("opened");
+        if (!lock_file(file))
+            fail("journal %s is in use by another host: %s", journal.path, strerror(errno));
+        earlier_started = read_last(file, number, &earlier, last);
+        if (earlier.failed)
+            cannot("read");
     }
-    begin();
+    bool shown = earlier_started || read_last_of_parts(&numbers, last);
+    free(numbers.of);
+    return shown;
+}
+
+/* Keeps the bytes of a record that is not whole beside the part that they were the end of, before they are taken off it. */
+static void cut_end(void)
+{
+    uint8_t bytes[RECORD_GREATEST];
+    if (pread(file, bytes, earlier.rest, (off_t)earlier.whole) != (ssize_t)earlier.rest)
+        cannot("read");
+    write_beside(CUT, bytes, earlier.rest);
+    if (ftruncate(file, (off_t)earlier.whole) != 0)
+        cannot("ended with its last whole record");
+    say("journal %s ended within a record: its last %zu bytes are now in %s.%" PRIu64 CUT, journal.path, earlier.rest, journal.path, number);
+}
+
+/* Whether a start can be put behind what FILE has. A file that is no journal is put aside as it is; one whose last write was cut, by a
+   power cut say, ends with its last whole record then. */
+static bool goes_on(void)
+{
+    if (earlier.too_long)
+        say("journal %s was no journal", journal.path);
+    else if (earlier.rest > 0)
+        cut_end();
+    return earlier.rest == 0 && earlier.whole <= journal.size && (earlier.whole == 0 || earlier_started);
+}
+
+void journal_open(void)
+{
+    bool there = file >= 0;
+    if (there && goes_on()) {
+        size = earlier.whole;
+    } else {
+        if (there) {
+            close(file);
+            put_aside();
+        }
+        begin(NULL);
+    }
+    if (regular) {
+        delete_oldest();
+        note_time();
+    }
+}
+
+/* ---- records */
+
+static bool stands_at_its_place(void)
+{
+    struct stat found;
+    return stat(journal.path, &found) == 0 && found.st_ino == ours.st_ino && found.st_dev == ours.st_dev;
+}
+
+void journal_prepare(const uint8_t *table)
+{
+    struct stat found;
+    if (file < 0 || !regular)
+        return;
+    note_time_each_minute();
+    bool here = stands_at_its_place();
+    if (here && size <= journal.size)
+        return;
+    close(file);
+    if (!here) {
+        say("journal %s was removed or renamed: a new one is begun, with its table beside it", journal.path);
+        number += 1;
+    }
+    if (lstat(journal.path, &found) == 0)
+        put_aside();
+    check_number();
+    delete_oldest();
+    begin(table);
+    note_time();
+}
+
+/* Waits until a FIFO takes something, but not against a signal that ends the host. */
+static void wait_for_reader(void)
+{
+    struct pollfd set[] = { { .fd = file, .events = POLLOUT }, { .fd = signals_descriptor(), .events = POLLIN } };
+    if (poll(set, 2, 1000) == 0)
+        say("journal %s takes nothing: its reader is waited for", journal.path);
+    if (signals_end())
+        fail("journal %s takes nothing, and the host is to end: nothing goes out of the call that is not journaled", journal.path);
+}
+
+static bool write_waiting(const uint8_t *bytes, size_t length)
+{
+    while (length > 0) {
+        ssize_t written = write(file, bytes, length);
+        if (written < 0 && (errno == EAGAIN || errno == EWOULDBLOCK))
+            wait_for_reader();
+        else if (written <= 0 && errno != EINTR)
+            return false;
+        else if (written > 0) {
+            bytes += written;
+            length -= (size_t)written;
+        }
+    }
+    return true;
 }
 
 void journal_record(unsigned kind, const uint8_t *payload, size_t length)
@@ -141,20 +398,15 @@ void journal_record(unsigned kind, const uint8_t *payload, size_t length)
     uint8_t record[RECORD_GREATEST];
     if (file < 0)
         return;
-    if (regular && size > limit) {
-        close(file);
-        put_aside();
-        begin();
-    }
     put_little(record, 2, length);
     put_little(record + 2, 2, kind);
     if (length > 0)
         memcpy(record + SERIFLADDER_RECORD_HEADER, payload, length);
     length += SERIFLADDER_RECORD_HEADER;
-    if (!write_all(file, record, length)) {
+    if (!write_waiting(record, length)) {
         int reason = errno;
         if (regular && ftruncate(file, (off_t)size) != 0)
-            say("journal %s ends within a record", journal_path);
+            say("journal %s ends within a record", journal.path);
         errno = reason;
         cannot("written");
     }

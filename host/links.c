@@ -12,20 +12,30 @@
 
 enum {
     RECEIVED_AT_ONCE = 8192,
-    HEAD = 8,
-    SYSTEM_ROOM = 16384 /* so much the system keeps to be sent, so that it shows soon who does not read */
+    RUNS_AT_ONCE = 16,        /* of a link in a turn: what else has come waits for the next */
+    BYTES_A_SECOND = 262144,  /* so much may come over a link; */
+    BYTES_OF_A_CALL = 64,     /* a call counts as so many more, since a run of no bytes costs one too */
+    HEADER = 20,              /* bytes of the shortest message */
+    RUN_KEPT = 45,            /* so many bytes of a run are kept, for the log */
+    TOO_LONG = 10000,         /* a run of so many bytes is no message */
+    TOO_LONG_GREATEST = 5,    /* so many times that length, with no message between, is too much */
+    SYSTEM_ROOM = 16384       /* so much the system keeps to be sent, so that it shows soon who does not read */
 };
 
 static struct link {
     int socket; /* -1: no link */
     char peer[INET_ADDRSTRLEN + 8];
-    uint8_t head[HEAD]; /* of the run that is being received: its length and MID, for the log */
+    in_addr_t address;
+    uint8_t run[RUN_KEPT]; /* the beginning of the run that is being received, or has ended last */
     size_t run_length;
-    const char *failed; /* why nothing can be sent to it any more */
+    bool ended;
+    unsigned overlong;  /* how many times TOO_LONG bytes came without a NUL since the last message */
+    const char *failed; /* why it is to be hung up */
+    int64_t paid;       /* up to when its time is used up by what came; it stays so for the next link of the session */
     struct waiting waiting;
 } links[SERIFLADDER_SESSIONS];
 
-static int door; /* listens */
+static struct door door = { .whose = "links" };
 
 static void write_address(char text[INET_ADDRSTRLEN + 8], const struct sockaddr_in *address)
 {
@@ -42,33 +52,39 @@ static _Noreturn void cannot_listen(const struct sockaddr_in *address)
     fail("cannot listen on %s: %s", text, why);
 }
 
-void links_bind(const struct sockaddr_in *address)
+void links_listen(const struct sockaddr_in *address)
 {
     int on = 1;
     for (unsigned s = 0; s < SERIFLADDER_SESSIONS; s++)
         links[s].socket = -1;
-    door = socket(AF_INET, SOCK_STREAM, 0);
-    if (door < 0 || setsockopt(door, SOL_SOCKET, SO_REUSEADDR, &on, sizeof on) != 0
-        || bind(door, (const struct sockaddr *)address, sizeof *address) != 0)
+    door.socket = socket(AF_INET, SOCK_STREAM, 0);
+    if (door.socket < 0 || setsockopt(door.socket, SOL_SOCKET, SO_REUSEADDR, &on, sizeof on) != 0
+        || bind(door.socket, (const struct sockaddr *)address, sizeof *address) != 0 || listen(door.socket, SOMAXCONN) != 0)
         cannot_listen(address);
-    unblock(door);
+    unblock(door.socket);
 }
 
-void links_listen(void)
+void links_ready(void)
 {
     struct sockaddr_in address = { .sin_family = AF_INET };
     socklen_t size = sizeof address;
     char text[INET_ADDRSTRLEN + 8];
-    if (getsockname(door, (struct sockaddr *)&address, &size) != 0 || listen(door, SOMAXCONN) != 0)
+    if (getsockname(door.socket, (struct sockaddr *)&address, &size) != 0)
         cannot_listen(&address);
     write_address(text, &address);
     say("listening on %s", text);
+}
+
+const char *links_peer(unsigned session)
+{
+    return links[session].peer;
 }
 
 /* ---- ends */
 
 static void close_link(struct link *link, const char *why)
 {
+    session_ended((unsigned)(link - links), link->waiting.length, why);
     say("session %td %s closed: %s", link - links, link->peer, why);
     close(link->socket);
     link->socket = -1;
@@ -99,7 +115,7 @@ void links_end(void)
     for (unsigned s = 0; s < SERIFLADDER_SESSIONS; s++)
         if (links[s].socket >= 0)
             hang_up(&links[s], "the host ends");
-    close(door);
+    door_close(&door);
 }
 
 /* ---- sending */
@@ -110,97 +126,228 @@ static void send_waiting(struct link *link)
         link->failed = strerror(errno);
 }
 
+/* A line for a frame: of a 0004 with the message and its error, of a 0005 with the message, and with the text of a 0050, of a 0061 with the
+   result's number. */
+static void say_sent(const struct link *link, const uint8_t *frame, size_t length)
+{
+    const char *text = (const char *)frame, *data = text + HEADER;
+    char more[80] = "";
+    if (memcmp(text + 4, "0004", 4) == 0)
+        snprintf(more, sizeof more, " to %.4s, error %.2s", data, data + 4);
+    else if (memcmp(text + 4, "0005", 4) == 0 && memcmp(data, "0050", 4) == 0)
+        snprintf(more, sizeof more, " to %.4s \"%.*s\"", data, (int)(link->run_length - HEADER), (const char *)link->run + HEADER);
+    else if (memcmp(text + 4, "0005", 4) == 0)
+        snprintf(more, sizeof more, " to %.4s", data);
+    else if (memcmp(text + 4, "0061", 4) == 0)
+        snprintf(more, sizeof more, " number %lu", result_number(frame, length));
+    say("session %td %s > %.4s%s", link - links, link->peer, text + 4, more);
+}
+
 void links_send(unsigned session, const uint8_t *frame, size_t length)
 {
     struct link *link = &links[session];
+    bool waits = link->failed == NULL && waiting_add(&link->waiting, frame, length);
+    session_sent(session, frame, length, waits);
     if (link->failed != NULL)
         return;
-    if (!waiting_add(&link->waiting, frame, length)) {
+    if (!waits) {
         link->failed = "64 KiB wait for it, and it does not read";
         return;
     }
-    say("session %u %s > %.4s", session, link->peer, (const char *)frame + 4);
+    say_sent(link, frame, length);
     send_waiting(link);
 }
 
 /* ---- receiving */
 
-/* Says which message ends with the bytes that the next call will consume; nothing where none ends. */
-static void say_received(struct link *link, const uint8_t *bytes, size_t length)
+static bool are_digits(const uint8_t *bytes, size_t count)
+{
+    while (count > 0 && isdigit(bytes[count - 1]))
+        count--;
+    return count == 0;
+}
+
+/* Whether the run that has ended is a message, by the header rule of document 01. */
+static bool is_message(const struct link *link)
+{
+    char length[5];
+    snprintf(length, sizeof length, "%04zu", link->run_length % TOO_LONG);
+    return link->run_length >= HEADER && link->run_length < TOO_LONG && memcmp(link->run, length, 4) == 0 && are_digits(link->run + 4, 4)
+           && (are_digits(link->run + 8, 3) || memcmp(link->run + 8, "   ", 3) == 0) && memchr("01 ", link->run[11], 3) != NULL;
+}
+
+/* Keeps of the run what the next call will consume, and says which message ends with it; nothing where none ends. */
+static void note_received(struct link *link, const uint8_t *bytes, size_t length)
 {
     const uint8_t *nul = memchr(bytes, 0, length);
     size_t more = nul == NULL ? length : (size_t)(nul - bytes);
-    for (size_t i = 0; i < more && link->run_length + i < HEAD; i++)
-        link->head[link->run_length + i] = bytes[i];
+    if (link->ended)
+        link->run_length = 0;
+    for (size_t i = 0; i < more && link->run_length + i < RUN_KEPT; i++)
+        link->run[link->run_length + i] = bytes[i];
+    link->overlong += (unsigned)((link->run_length % TOO_LONG + more) / TOO_LONG);
     link->run_length += more;
-    if (nul == NULL)
+    link->ended = nul != NULL;
+    if (link->overlong >= TOO_LONG_GREATEST)
+        link->failed = "it sends runs that are too long again and again";
+    if (!link->ended)
         return;
-    bool digits = link->run_length >= HEAD;
-    for (size_t i = 4; digits && i < HEAD; i++)
-        digits = isdigit(link->head[i]);
-    if (digits)
-        say("session %td %s < %.4s", link - links, link->peer, (const char *)link->head + 4);
-    else
+    if (is_message(link)) {
+        link->overlong = 0;
+        session_said((unsigned)(link - links), link->run, link->run_length);
+        say("session %td %s < %.4s", link - links, link->peer, (const char *)link->run + 4);
+    } else {
         say("session %td %s < no message, %zu bytes", link - links, link->peer, link->run_length);
-    link->run_length = 0;
+    }
 }
 
+/* How many of the bytes are the link's share of a turn. */
+static size_t share_of(const uint8_t *bytes, size_t length)
+{
+    size_t share = 0;
+    for (unsigned runs = 0; runs < RUNS_AT_ONCE && share < length; runs++) {
+        const uint8_t *nul = memchr(bytes + share, 0, length - share);
+        share = nul == NULL ? length : (size_t)(nul - bytes) + 1;
+    }
+    return share;
+}
+
+/* The time that a second's share of bytes allows for so many. */
+static int64_t time_for(size_t bytes)
+{
+    return (int64_t)bytes * SECOND / BYTES_A_SECOND;
+}
+
+static bool may_be_heard(const struct link *link)
+{
+    return link->paid - now() < SECOND;
+}
+
+/* Takes the link's share of a turn; what else has come stays with the system, and so does all of it while a second's share is used up. */
 static void receive(struct link *link)
 {
     uint8_t bytes[RECEIVED_AT_ONCE];
-    ssize_t length = recv(link->socket, bytes, sizeof bytes, 0);
+    ssize_t length = recv(link->socket, bytes, sizeof bytes, MSG_PEEK);
+    if (length > 0)
+        length = recv(link->socket, bytes, share_of(bytes, (size_t)length), 0);
     if (length < 0 && (errno == EAGAIN || errno == EWOULDBLOCK || errno == EINTR))
         return;
     if (length <= 0) {
         hang_up(link, length == 0 ? "the peer left" : strerror(errno));
         return;
     }
+    if (link->paid < now())
+        link->paid = now();
     for (size_t at = 0; at < (size_t)length && link->socket >= 0;) {
-        say_received(link, bytes + at, (size_t)length - at);
-        at += call_bytes((unsigned)(link - links), bytes + at, (size_t)length - at);
+        note_received(link, bytes + at, (size_t)length - at);
+        size_t consumed = call_bytes((unsigned)(link - links), bytes + at, (size_t)length - at);
+        link->paid += time_for(consumed + BYTES_OF_A_CALL);
+        at += consumed;
     }
 }
 
 /* ---- the door */
 
+enum { ALLOWED_GREATEST = 32 };
+static struct {
+    in_addr_t address, mask;
+} allowed[ALLOWED_GREATEST];
+static unsigned allowed_count, of_an_address = SERIFLADDER_SESSIONS;
+static uint64_t refused;
+
+bool links_allow(const char *text)
+{
+    const char *slash = strchr(text, '/');
+    char host[INET_ADDRSTRLEN] = "";
+    struct in_addr address;
+    uint64_t bits;
+    if (allowed_count == ALLOWED_GREATEST || slash == NULL || (size_t)(slash - text) >= sizeof host)
+        return false;
+    memcpy(host, text, (size_t)(slash - text));
+    if (inet_pton(AF_INET, host, &address) != 1 || !read_number(slash + 1, 32, &bits))
+        return false;
+    in_addr_t mask = htonl(bits == 0 ? 0 : UINT32_MAX << (32 - bits));
+    allowed[allowed_count].mask = mask;
+    allowed[allowed_count++].address = address.s_addr & mask;
+    return true;
+}
+
+void links_limit(unsigned links_of_an_address)
+{
+    of_an_address = links_of_an_address;
+}
+
+uint64_t links_refused(void)
+{
+    return refused;
+}
+
+/* Why a peer may not have a link; NULL where it may. */
+static const char *why_refused(const struct sockaddr_in *peer)
+{
+    in_addr_t address = peer->sin_addr.s_addr;
+    unsigned i = 0, open = 0;
+    while (i < allowed_count && (address & allowed[i].mask) != allowed[i].address)
+        i++;
+    if (allowed_count > 0 && i == allowed_count)
+        return "its address is not allowed";
+    for (unsigned s = 0; s < SERIFLADDER_SESSIONS; s++)
+        open += links[s].socket >= 0 && links[s].address == address;
+    return open < of_an_address ? NULL : "its address has as many links as one may have";
+}
+
 static void take_in(void)
 {
     struct sockaddr_in address;
-    socklen_t size = sizeof address;
     char peer[INET_ADDRSTRLEN + 8];
-    int on = 1, room = SYSTEM_ROOM, socket = accept(door, (struct sockaddr *)&address, &size);
-    if (socket < 0) {
-        if (errno != EAGAIN && errno != EWOULDBLOCK && errno != EINTR && errno != ECONNABORTED)
-            say("a connection cannot be taken: %s", strerror(errno));
+    int on = 1, room = SYSTEM_ROOM, socket = door_take(&door, &address);
+    if (socket < 0)
         return;
-    }
     write_address(peer, &address);
     unsigned s = 0;
     while (s < SERIFLADDER_SESSIONS && links[s].socket >= 0)
         s++;
-    if (s == SERIFLADDER_SESSIONS) {
-        say("%s closed: all four sessions are taken", peer);
+    const char *why = why_refused(&address);
+    if (why == NULL && s == SERIFLADDER_SESSIONS)
+        why = "all four sessions are taken";
+    if (why != NULL) {
+        say("%s closed: %s", peer, why);
+        refused += 1;
         close(socket);
         return;
     }
-    unblock(socket);
     setsockopt(socket, IPPROTO_TCP, TCP_NODELAY, &on, sizeof on);
     setsockopt(socket, SOL_SOCKET, SO_SNDBUF, &room, sizeof room);
     struct link *link = &links[s];
     memcpy(link->peer, peer, sizeof peer);
+    link->address = address.sin_addr.s_addr;
     link->socket = socket;
     link->run_length = 0;
+    link->overlong = 0;
+    link->ended = false;
     link->failed = NULL;
     link->waiting.length = 0;
+    session_opened(s);
     call_open(s);
     say("session %u %s opened", s, peer);
 }
 
 void links_poll(struct pollfd set[LINKS_POLLED])
 {
-    set[0] = (struct pollfd){ .fd = door, .events = POLLIN };
+    set[0] = door_poll(&door);
+    for (unsigned s = 0; s < SERIFLADDER_SESSIONS; s++) {
+        short events = (short)((may_be_heard(&links[s]) ? POLLIN : 0) | (links[s].waiting.length > 0 ? POLLOUT : 0));
+        set[1 + s] = (struct pollfd){ .fd = events == 0 ? -1 : links[s].socket, .events = events };
+    }
+}
+
+int64_t links_heard_again(void)
+{
+    int64_t first = INT64_MAX;
     for (unsigned s = 0; s < SERIFLADDER_SESSIONS; s++)
-        set[1 + s] = (struct pollfd){ .fd = links[s].socket, .events = POLLIN | (links[s].waiting.length > 0 ? POLLOUT : 0) };
+        if (links[s].socket >= 0 && !may_be_heard(&links[s]) && links[s].paid - SECOND < first)
+            first = links[s].paid - SECOND;
+    return first;
 }
 
 void links_serve(const struct pollfd set[LINKS_POLLED])

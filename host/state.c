@@ -15,8 +15,8 @@ enum { TEXT = 256 };
 #define BEGINNING "serifladder state\nlast tightening number "
 
 static const char *state_path, *name;
-static char name_beside[NAME_MAX + 1];
-static int folder;
+static char name_beside[NAME_MAX + 1], name_locked[NAME_MAX + 1];
+static int folder, lock, current = -1; /* the folder, and the locked files: the lock's, and the state as it stands */
 
 /* CRC-32, as in zip files. */
 static uint32_t check_sum(const char *bytes, size_t length)
@@ -37,6 +37,51 @@ static size_t write_text(char text[TEXT], uint32_t number)
                                       check_sum(text, (size_t)length)));
 }
 
+/* ---- one host at a time. The lock stands on a file of its own, because the state file itself is replaced again and again, and is held
+   until the program ends. The state file is locked too, each from before it takes its place: so a lock file that was removed lets no second
+   host in. */
+
+static _Noreturn void in_use(const char *which)
+{
+    fail("state %s is in use by another host: %s is locked", state_path, which);
+}
+
+/* Whether a file that was opened stands under that name yet; false with errno where nothing does. */
+static bool stands_as(int file, const char *which)
+{
+    struct stat opened, found;
+    errno = 0;
+    return fstat(file, &opened) == 0 && fstatat(folder, which, &found, AT_SYMLINK_NOFOLLOW) == 0
+        && found.st_ino == opened.st_ino && found.st_dev == opened.st_dev;
+}
+
+static int open_lock(int exclusive)
+{
+    int opened = openat(folder, name_locked, O_RDWR | O_CREAT | O_NOFOLLOW | O_CLOEXEC | exclusive, file_mode);
+    if (opened < 0)
+        fail("state %s: %s.lock cannot be opened: %s", state_path, state_path, strerror(errno));
+    if (!lock_file(opened))
+        in_use(name_locked);
+    return opened;
+}
+
+/* Called when a number has been kept and before anything goes out with it. A lock file that was removed is made anew; one that another host
+   has made meanwhile ends this host. The other has read the state after it made its lock: so it has read the number that was kept here, or
+   it gives that number itself and this host does not. */
+static void hold_lock(void)
+{
+    if (stands_as(lock, name_locked))
+        return;
+    if (errno != ENOENT)
+        fail("state %s: another host has it, for %s.lock was removed or replaced; this one gives no number any more", state_path, state_path);
+    int anew = open_lock(O_EXCL);
+    close(lock);
+    lock = anew;
+    say("state %s: %s.lock was removed and is made anew", state_path, state_path);
+}
+
+/* ---- the file */
+
 static _Noreturn void damaged(const char *how)
 {
     fail("state %s is damaged: %s. Put a good copy in its place, or move it away and give the last tightening number with --new-state",
@@ -47,11 +92,14 @@ static uint32_t read_state(void)
 {
     char text[TEXT + 1], expected[TEXT];
     unsigned long long number;
-    int file = openat(folder, name, O_RDONLY);
-    ssize_t got = file < 0 ? -1 : read(file, text, TEXT);
+    current = openat(folder, name, O_RDWR | O_NOFOLLOW | O_CLOEXEC);
+    if (current < 0)
+        fail("state %s cannot be opened: %s", state_path, strerror(errno));
+    if (!lock_file(current) || !stands_as(current, name))
+        in_use(name);
+    ssize_t got = read(current, text, TEXT);
     if (got < 0)
         fail("state %s cannot be read: %s", state_path, strerror(errno));
-    close(file);
     size_t length = (size_t)got;
     text[length] = '\0';
     if (sscanf(text, BEGINNING "%19llu", &number) != 1)
@@ -66,19 +114,16 @@ static uint32_t read_state(void)
     return (uint32_t)number;
 }
 
-/* One host at a time: the lock stands on a file of its own, because the state file itself is replaced again and again. It is held until
-   the program ends. */
-static void lock_state(void)
+/* What a host that was killed left of a number. Anything else that stands there is not followed and not removed. */
+static void remove_left_over(void)
 {
-    char name_locked[NAME_MAX + 1];
-    if (snprintf(name_locked, sizeof name_locked, "%s.lock", name) > NAME_MAX
-        || snprintf(name_beside, sizeof name_beside, "%s.new", name) > NAME_MAX)
-        fail("state %s: the name is too long", state_path);
-    int lock = openat(folder, name_locked, O_RDWR | O_CREAT | O_CLOEXEC, 0644);
-    if (lock < 0)
-        fail("state %s: %s.lock cannot be opened: %s", state_path, state_path, strerror(errno));
-    if (!lock_file(lock))
-        fail("state %s is in use by another host: %s.lock: %s", state_path, state_path, strerror(errno));
+    struct stat found;
+    if (fstatat(folder, name_beside, &found, AT_SYMLINK_NOFOLLOW) != 0)
+        return;
+    if (!S_ISREG(found.st_mode))
+        fail("state %s: %s.new is no regular file, and is in the way of the next number: remove it", state_path, state_path);
+    if (unlinkat(folder, name_beside, 0) != 0)
+        fail("state %s: %s.new cannot be removed: %s", state_path, state_path, strerror(errno));
 }
 
 uint32_t state_open(const char *path, const uint32_t *fresh)
@@ -88,10 +133,13 @@ uint32_t state_open(const char *path, const uint32_t *fresh)
     name = name_in_folder(path);
     if (*name == '\0')
         fail("state %s is not the name of a file", path);
+    if (snprintf(name_locked, sizeof name_locked, "%s.lock", name) > NAME_MAX
+        || snprintf(name_beside, sizeof name_beside, "%s.new", name) > NAME_MAX)
+        fail("state %s: the name is too long", path);
     folder = open_folder(path);
     if (folder < 0)
         fail("state %s: its folder cannot be opened: %s", path, strerror(errno));
-    lock_state();
+    lock = open_lock(0);
     bool there = fstatat(folder, name, &found, AT_SYMLINK_NOFOLLOW) == 0;
     if (!there && errno != ENOENT)
         fail("state %s cannot be read: %s", path, strerror(errno));
@@ -99,20 +147,25 @@ uint32_t state_open(const char *path, const uint32_t *fresh)
         fail("state %s is not a regular file", path);
     if (fresh == NULL && !there)
         fail("state %s is not there: --new-state NUMBER creates it, NUMBER being the last tightening number that was given (0 for none)", path);
-    if (fresh == NULL)
-        return read_state();
-    if (there)
-        fail("state %s is there already: --new-state is for a controller that has none", path);
-    state_keep(*fresh);
-    return *fresh;
+    uint32_t number = there ? read_state() : *fresh;
+    remove_left_over();
+    if (there && fresh != NULL)
+        say("state %s is there: --new-state is not needed", path);
+    return number;
 }
 
 void state_keep(uint32_t number)
 {
     char text[TEXT];
     size_t length = write_text(text, number);
-    int file = openat(folder, name_beside, O_WRONLY | O_CREAT | O_TRUNC | O_CLOEXEC, 0644);
-    if (file < 0 || !write_all(file, text, length) || fsync(file) != 0 || close(file) != 0
+    int file = openat(folder, name_beside, O_WRONLY | O_CREAT | O_EXCL | O_NOFOLLOW | O_CLOEXEC, file_mode);
+    if (file < 0)
+        fail("state %s cannot be written: %s.new: %s", state_path, state_path, strerror(errno));
+    if (!lock_file(file) || !write_all(file, text, length) || fsync(file) != 0
         || renameat(folder, name_beside, folder, name) != 0 || fsync(folder) != 0)
         fail("state %s cannot be written: %s", state_path, strerror(errno));
+    if (current >= 0)
+        close(current);
+    current = file;
+    hold_lock();
 }

@@ -11,7 +11,10 @@
 #include <sys/un.h>
 #include <unistd.h>
 
-enum { FIFO_READS = 130 }; /* at once, of RECORD_GREATEST bytes: more than the largest FIFO holds, 1 MiB */
+enum {
+    FIFO_READS = 130, /* at once, of RECORD_GREATEST bytes: more than the largest FIFO holds, 1 MiB */
+    SILENT = 15       /* a tool that said nothing for so many ticks gives its place up where another waits for one */
+};
 
 /* Where records come from: the FIFO, or one connection. */
 static struct source {
@@ -20,12 +23,14 @@ static struct source {
     size_t length;                   /* so many bytes of it are there */
     bool skipping;                   /* what still comes cannot be told apart into records */
     bool ended;                      /* nothing comes any more, but answers wait */
+    unsigned silent;                 /* for so many ticks nothing came */
     struct waiting answers;
 } sources[TOOL_CONNECTIONS];
 
 static const char *tool_path;
 static bool fifo;
-static int door = -1; /* listens for connections */
+static bool missing; /* the FIFO is not where it was; it is looked for at each tick */
+static struct door door = { .whose = "tool", .socket = -1 };
 
 /* ---- a record */
 
@@ -71,6 +76,7 @@ static void begin_source(struct source *source, int descriptor)
     unblock(descriptor);
     source->descriptor = descriptor;
     source->length = 0;
+    source->silent = 0;
     source->skipping = source->ended = false;
     source->answers.length = 0;
 }
@@ -83,15 +89,42 @@ static void answer_line(struct source *source, const char *line)
     waiting_add(&source->answers, "\n", 1);
 }
 
-static void open_fifo(void)
+/* Opens the FIFO; answers why it cannot be, or NULL. */
+static const char *open_fifo(void)
 {
+    struct stat found;
     int descriptor = open(tool_path, O_RDONLY | O_NONBLOCK | O_CLOEXEC);
     if (descriptor < 0)
-        fail("tool %s cannot be opened: %s", tool_path, strerror(errno));
-    int before = sources[0].descriptor;
+        return strerror(errno);
+    if (fstat(descriptor, &found) != 0 || !S_ISFIFO(found.st_mode)) {
+        close(descriptor);
+        return "it is no FIFO any more";
+    }
     begin_source(&sources[0], descriptor);
+    return NULL;
+}
+
+/* Opens the FIFO anew, and only then closes it as it was open before. Where it is not there, that is said once. */
+static void open_fifo_again(void)
+{
+    int before = sources[0].descriptor;
+    sources[0].descriptor = -1;
+    const char *why = open_fifo();
+    if (why != NULL && !missing)
+        say("tool %s cannot be opened: %s; it is looked for at each tick", tool_path, why);
+    if (why == NULL && missing)
+        say("tool %s is there again", tool_path);
+    missing = why != NULL;
     if (before >= 0)
         close(before);
+}
+
+/* Whether another file stands where the FIFO was that is open, or none. */
+static bool fifo_replaced(void)
+{
+    struct stat opened, found;
+    return fstat(sources[0].descriptor, &opened) == 0
+           && (stat(tool_path, &found) != 0 || found.st_dev != opened.st_dev || found.st_ino != opened.st_ino);
 }
 
 /* The writers of the FIFO have left, or the peer of a connection sends no more. */
@@ -104,7 +137,7 @@ static void end_source(struct source *source)
     if (fifo && source->skipping)
         say("tool: the FIFO has no writer any more; what comes next is read");
     if (fifo)
-        open_fifo();
+        open_fifo_again();
     else
         source->ended = true;
 }
@@ -125,6 +158,7 @@ static bool receive(struct source *source)
         end_source(source);
         return false;
     }
+    source->silent = 0;
     source->length += (size_t)got;
     if (source->skipping || source->length < SERIFLADDER_RECORD_HEADER)
         return true;
@@ -198,18 +232,20 @@ void tool_open(const char *path)
         return;
     fifo = stat(path, &found) == 0 && S_ISFIFO(found.st_mode);
     if (fifo) {
-        open_fifo();
+        const char *why = open_fifo();
+        if (why != NULL)
+            fail("tool %s cannot be opened: %s", path, why);
         return;
     }
     if (strlen(path) >= sizeof address.sun_path)
         fail("tool %s: the path of a socket has at most %zu bytes", path, sizeof address.sun_path - 1);
     memcpy(address.sun_path, path, strlen(path));
     make_way(&address);
-    door = socket(AF_UNIX, SOCK_STREAM, 0);
-    if (door < 0 || bind(door, (const struct sockaddr *)&address, sizeof address) != 0 || listen(door, SOMAXCONN) != 0)
+    door.socket = socket(AF_UNIX, SOCK_STREAM, 0);
+    if (door.socket < 0 || bind(door.socket, (const struct sockaddr *)&address, sizeof address) != 0 || listen(door.socket, SOMAXCONN) != 0)
         fail("tool %s: no socket can be made there: %s", path, strerror(errno));
     atexit(remove_door);
-    unblock(door);
+    unblock(door.socket);
 }
 
 static struct source *free_source(void)
@@ -220,18 +256,34 @@ static struct source *free_source(void)
     return NULL;
 }
 
-static void take_in(struct source *source)
+/* The one that has been silent longest, where that is too long; NULL where none has been. */
+static struct source *silent_source(void)
 {
-    int descriptor = accept(door, NULL, NULL);
-    if (descriptor >= 0)
-        begin_source(source, descriptor);
-    else if (errno != EAGAIN && errno != EWOULDBLOCK && errno != EINTR && errno != ECONNABORTED)
-        say("tool: a connection cannot be taken: %s", strerror(errno));
+    struct source *most = &sources[0];
+    for (unsigned i = 1; i < TOOL_CONNECTIONS; i++)
+        if (sources[i].silent > most->silent)
+            most = &sources[i];
+    return most->silent < SILENT ? NULL : most;
+}
+
+static void take_in(void)
+{
+    int descriptor = door_take(&door, NULL);
+    struct source *source = free_source();
+    if (descriptor < 0)
+        return;
+    if (source == NULL) {
+        source = silent_source();
+        say("tool: a connection that was silent for %u ticks is closed, after %zu bytes of a record: another needs its place",
+            source->silent, source->length);
+        close_source(source);
+    }
+    begin_source(source, descriptor);
 }
 
 void tool_poll(struct pollfd set[TOOL_POLLED])
 {
-    set[0] = (struct pollfd){ .fd = free_source() == NULL ? -1 : door, .events = POLLIN };
+    set[0] = free_source() == NULL && silent_source() == NULL ? (struct pollfd){ .fd = -1 } : door_poll(&door);
     for (unsigned i = 0; i < TOOL_CONNECTIONS; i++) {
         struct source *source = &sources[i];
         short events = source->answers.length > 0 ? POLLOUT : source->ended ? 0 : POLLIN;
@@ -253,6 +305,18 @@ void tool_serve(const struct pollfd set[TOOL_POLLED])
             receive(source);
         send_answers(source);
     }
-    if (set[0].revents != 0 && free_source() != NULL)
-        take_in(free_source());
+    if (set[0].revents != 0 && (free_source() != NULL || silent_source() != NULL))
+        take_in();
+}
+
+void tool_tick(void)
+{
+    for (unsigned i = 0; i < TOOL_CONNECTIONS; i++)
+        sources[i].silent += sources[i].descriptor >= 0;
+    if (!fifo)
+        return;
+    if (missing)
+        open_fifo_again();
+    else if (fifo_replaced())
+        receive_fifo(&sources[0]); /* where it has no writer, it is at its end, and opened anew */
 }

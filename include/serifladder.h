@@ -14,6 +14,8 @@
 #include <stddef.h>
 #include <stdint.h>
 
+#define SERIFLADDER_VERSION "1.0"
+
 #ifdef __cplusplus
 extern "C" {
 #endif

@@ -26,8 +26,12 @@ RECORD_SETTLED = """\
     carry_out(answer.written);
 """
 
-STARTED = ("    links_bind(&address); /* before a file is made or renamed: a second host on the same port leaves all as it is */\n",
-           "    uint32_t last = state_open(given[STATE], given[NEW_STATE] == NULL ? NULL : &fresh);\n")
+STARTED = ("    links_listen(&address); /* before a file is made or renamed: a second host on the same port leaves all as it is */\n",
+           "    uint32_t kept = state_open(given[STATE], given[NEW_STATE] == NULL ? NULL : &fresh), last = last_of_both(kept, &journal);\n"
+           "    state_keep(last);\n")
+
+SHARES = ("RUNS_AT_ONCE = 16,        /* of a link in a turn: what else has come waits for the next */\n"
+          "    BYTES_A_SECOND = 262144,")
 
 # The fault, the test that finds it, the file, what stands there, and what is put in its place.
 FAULTS = [
@@ -46,19 +50,39 @@ FAULTS = [
     ("output of one session to another", "four-servers-and-a-fifth", "calls.c",
      "links_send(kind - SERIFLADDER_FRAME,", "links_send((kind - SERIFLADDER_FRAME) & 2,"),
     ("ticks not made up for", "ticks-are-made-up-for", "main.c", "timer->next += timer->period;", "timer->next = now() + timer->period;"),
+    ("all missed ticks made up for", "a-stall-of-the-host", "main.c", "late / timer->period - MADE_UP_GREATEST;", "0;"),
+    ("a flood heard to its end", "the-tools-answer-beside-flooders", "links.c", SHARES,
+     "RUNS_AT_ONCE = 8192,\n    BYTES_A_SECOND = 1 << 30,"),
+    ("a link that may bring anything", "what-a-link-may-bring", "links.c", "BYTES_A_SECOND = 262144,", "BYTES_A_SECOND = 1 << 30,"),
+    ("runs too long borne with", "runs-too-long-again-and-again", "links.c", "link->overlong >= TOO_LONG_GREATEST",
+     "link->overlong > 100 * TOO_LONG_GREATEST"),
+    ("a file taken for the FIFO", "a-fifo-that-goes-away", "tool.c", "|| !S_ISFIFO(found.st_mode)) {", ") {"),
+    ("the FIFO not looked for", "a-fifo-that-goes-away", "tool.c", "else if (fifo_replaced())", "else if (fifo_replaced() && missing)"),
+    ("silent tools keep their places", "silent-tools", "tool.c", "most->silent < SILENT ?", "most->silent < 100 * SILENT ?"),
+    ("a door that never rests", "few-descriptors", "door.c", "door->rests = now() + SECOND;", "door->rests = 0;"),
+    ("no descriptor spared", "few-descriptors", "door.c", "taken >= 0 && is_spare(taken);", "taken >= 0 && is_spare(taken) && taken < 0;"),
+    ("everybody may connect", "who-may-connect", "links.c", "if (allowed_count > 0 && i == allowed_count)", "if (i > allowed_count)"),
+    ("a hang-up that loses results in silence", "results-that-are-lost", "links.c",
+     "    session_ended((unsigned)(link - links), link->waiting.length, why);\n", ""),
+    ("an acknowledge not counted", "results-that-are-lost", "sessions.c", 'memcmp(message + 4, "0062", 4) == 0)\n',
+     'memcmp(message + 4, "0053", 4) == 0)\n'),
+    ("given up in silence", "results-that-are-lost", "sessions.c", "GIVEN_UP = 120,", "GIVEN_UP = 12000,"),
+    ("a ninth lost in silence", "results-that-are-lost", "sessions.c", '            say_lost(s, number, "not taken", "eight are held for it");\n', ""),
+    ("what was not sent lost in silence", "results-not-read", "sessions.c", "    drop_unsent(s, waiting, why);\n",
+     "    (void)drop_unsent;\n    (void)waiting;\n"),
     ("stale output kept over a hang-up", "a-peer-that-stops-reading", "links.c", "    link->waiting.length = 0;\n", ""),
     ("a hang-up that the library is not told", "a-link-cut-with-a-notice-open", "links.c",
      "    call_hang_up((unsigned)(link - links));\n    close_link(link, why);", "    close_link(link, why);"),
     ("a close record not carried out", "silence-until-the-time-out", "calls.c", "links_close(kind - SERIFLADDER_CLOSE);", ";"),
     ("ticks not journaled", "the-journal-replays", "calls.c",
      'settle_done("a tick", serifladder_tick(LENT, ANSWER), JOURNAL_TICK, NULL, 0);',
-     "serifladder_tick(LENT, ANSWER);\n    carry_out(answered().written);"),
+     "serifladder_tick(LENT, ANSWER);\n    carry_out(read_answer(answer_bytes).written);"),
     ("a tool's record journaled as another call", "refused-tool-records", "calls.c",
      "journal_record(journal_kind(kind),", "(void)journal_kind;\n    journal_record(kind,"),
     ("a peer that does not read is waited for", "a-peer-that-stops-reading", "links.c",
      'link->failed = "64 KiB wait for it, and it does not read";', "link->waiting.length = 0;"),
     ("sessions not hung up at the end", "ended-by-a-signal", "main.c", "    links_end();\n", ""),
-    ("no lock on the state", "a-state-in-use", "state.c", "if (!lock_file(lock))", "if (lock < 0)"),
+    ("no lock on the state", "a-lock-that-was-removed", "state.c", "if (!lock_file(opened))", "if (opened < 0)"),
     ("what a slow reader is owed is forgotten", "a-peer-that-stops-reading", "common.c",
      "    waiting->length -= sent;\n    memmove(waiting->bytes, waiting->bytes + sent, waiting->length);", "    waiting->length = 0;"),
     ("a tool that sent too much keeps its place", "tool-records-that-end-the-connection", "tool.c",
@@ -66,12 +90,36 @@ FAULTS = [
     ("a loop that never waits", "an-idle-host-rests", "links.c", "(links[s].waiting.length > 0 ? POLLOUT : 0)", "POLLOUT"),
     ("check sum not tested", "a-damaged-state", "state.c", "if (length != whole || memcmp(text, expected, whole) != 0)",
      "if (length < whole)"),
-    ("the end of a cut journal lost", "a-journal-with-a-cut-end", "journal.c", "write_all(kept, bytes, length)",
-     "write_all(kept, bytes, 0)"),
+    ("the end of a cut journal lost", "a-journal-with-a-cut-end", "journal.c", "    write_beside(CUT, bytes, earlier.rest);",
+     "    write_beside(CUT, bytes, 0);"),
+    ("old parts not deleted", "a-peer-that-fills-the-journal", "journal.c", "i + journal.keep < there.count;", "i > there.count;"),
+    ("tables of deleted parts not deleted", "a-peer-that-fills-the-journal", "journal.c",
+     "for (size_t e = 0; e < END_COUNT; e++)\n            remove_beside", "for (size_t e = 0; e < 1; e++)\n            remove_beside"),
+    ("the table of a part kept too late", "parts-replayed-alone", "calls.c",
+     "    journal_prepare(table);\n    uint64_t number = serifladder_bytes(LENT, session, bytes, length, ANSWER);",
+     "    uint64_t number = serifladder_bytes(LENT, session, bytes, length, ANSWER);\n    journal_prepare(table);"),
+    ("what repeats is written to the log", "lines-that-repeat", "log.c", "kind->said < LINES_A_SECOND", "kind->said + 1 > 0"),
+    ("a refusal not printed", "generated-histories-replayed", "replay.c", "answer->number != SERIFLADDER_DONE", "answer->number > 8"),
+    ("received bytes replayed to the first NUL only", "generated-histories-replayed", "replaying.c",
+     "answer.number == SERIFLADDER_DONE && length > 0", "answer.number != SERIFLADDER_DONE && length > 0"),
+    ("the state itself not locked", "a-lock-that-was-removed", "state.c", "if (!lock_file(current) || !stands_as(current, name))",
+     "if (!stands_as(current, name))"),
+    ("the lock not looked at again", "a-lock-that-was-removed", "state.c", "    hold_lock();\n", "    (void)hold_lock;\n"),
+    ("the journal's number not compared", "an-older-state", "main.c", "|| shown <= kept)", "|| shown > 0)"),
+    ("a journal that was removed is written on", "a-journal-that-is-removed", "journal.c",
+     "    return stat(journal.path, &found) == 0 && found.st_ino == ours.st_ino && found.st_dev == ours.st_dev;",
+     "    return stat(journal.path, &found) == 0 || ours.st_ino > 0;"),
+    ("a reader is waited for against a signal", "a-journal-whose-reader-stops", "journal.c", "    if (signals_end())\n",
+     "    if (signals_end() && signals_reopen())\n"),
+    ("a link followed to another file", "a-link-in-the-place-of-the-next-state", "state.c", "O_EXCL | O_NOFOLLOW | O_CLOEXEC, file_mode);\n    if (file",
+     "O_TRUNC | O_CLOEXEC, file_mode);\n    if (file"),
+    ("one file for two purposes", "one-file-for-two-purposes", "main.c", "for (size_t k = 0; k < i; k++)", "for (size_t k = i; k < i; k++)"),
+    ("a part number given twice", "the-last-part-number", "journal.c", "if (number > UINT32_MAX)", "if (number > UINT64_MAX - 1)"),
     ("a state made though the port is taken", "an-address-in-use", "main.c", STARTED[0] + STARTED[1], STARTED[1] + STARTED[0]),
 ]
 if tracing.possible():
     FAULTS += [
+        ("ticks before the links are heard", "a-slow-disk", "main.c", "        if (ticks) {\n", "        while (is_due(&tick)) {\n"),
         ("state not synced", "killed-before-every-call-of-the-system", "state.c", " || fsync(file) != 0", ""),
         ("folder of the state not synced", "killed-before-every-call-of-the-system", "state.c", " || fsync(folder) != 0", ""),
         ("the end of a FIFO's writer not sought", "a-fifo-writer-that-is-not-told", "tool.c",
@@ -88,15 +136,17 @@ def planted(name, file, old, new):
     return text.replace(old, new)
 
 
-def build(program, file, text, options):
-    """The host with that file instead of its own, built as its Makefile says."""
+def build(program, sources_name, file, text, options):
+    """A program of the host's with that file instead of its own, built as its Makefile says."""
     folder = program + "-sources"
     shutil.copytree(os.path.join(ROOT, "host"), folder)
     with open(os.path.join(folder, file), "w", encoding="ascii") as source:
         source.write(text)
     with open(os.path.join(folder, "Makefile"), encoding="ascii") as makefile:
         said = makefile.read()
-    names = re.search(r"^SOURCES := (.*)$", said, re.M).group(1).split()
+    names = re.search(r"^%s := (.*)$" % sources_name, said, re.M).group(1).split()
+    if file not in names:
+        return None
     flags = re.search(r"^STRICT := (.*)$", said, re.M).group(1).split()
     sources = [os.path.join(folder, name) for name in names]
     subprocess.run([options.compiler, *flags, "-O1", "-static", "-I", os.path.join(ROOT, "include"), *sources, options.archive,
@@ -119,7 +169,10 @@ def run_tests(host, replay, names, *more):
 def find(arguments):
     """Builds the host with a fault and runs the test that is to find it: the test, and what it said; None if it said nothing."""
     program, (_, finder, file, _, _), text, options = arguments
-    status, printed = run_tests(build(program, file, text, options), options.replay, [finder], "--seconds", "5")
+    own_replay = os.path.join(os.path.dirname(options.host), "serifladder-replay")
+    host = build(program, "SOURCES", file, text, options) or options.host
+    own_replay = build(program + "-replay", "REPLAY_SOURCES", file, text, options) or own_replay
+    status, printed = run_tests(host, options.replay, [finder], "--seconds", "5", "--own-replay", own_replay)
     return finder, None if status == 0 else printed.partition("WRONG: ")[2].partition("\n")[0]
 
 

@@ -2,12 +2,14 @@
 
 A test is a function of a Place, registered by @test. Its first sentence says what it shows. Whatever it starts or makes is
 made through the Place, which takes it all away again, however the test ends. Waiting ends by what is waited for; SECONDS is
-only there so that a test that waits in vain ends too."""
+only there so that a test that waits in vain ends too: every loop is bounded in time, by InTime or by what it waits for within. What a
+host may write is bounded by FILE_GREATEST."""
 
 import collections
 import contextlib
 import os
 import re
+import resource
 import select
 import shutil
 import signal
@@ -30,6 +32,7 @@ from openprotocol import message  # noqa: E402
 SECONDS = 30
 SESSIONS = 4
 GREATEST_NUMBER = 4294967295
+FILE_GREATEST = 64 << 20  # bytes of a file that a host writes; more where more results are asked for (see run.py)
 NO_TICKS = 1000000  # milliseconds: no tick comes while a test runs
 FAST_TICK = 0.04  # seconds; longer where the host is slow, as under an emulator (see run.py)
 GOOD_SETTINGS = "cell = 12\nchannel = 3\ngranted = yes\nname = LINE4\n"
@@ -42,8 +45,18 @@ class Wrong(Exception):
     """What differed."""
 
 
+class Skipped(Exception):
+    """Why nothing can be shown here."""
+
+
 def test(function):
     TESTS.append(function)
+    return function
+
+
+def long(function):
+    """The test takes too long for the gate: it is run where it is named."""
+    function.long = True
     return function
 
 
@@ -68,11 +81,22 @@ def content(path):
         return file.read()
 
 
+class InTime:
+    """What a loop asks before each of its turns: it is so for SECONDS, and as many more as are given; then the test is wrong."""
+
+    def __init__(self, what, more=0):
+        self.what, self.seconds = what, SECONDS + more
+        self.until = time.monotonic() + self.seconds
+
+    def __call__(self):
+        check(time.monotonic() < self.until, "not within %d s: %s", self.seconds, self.what)
+        return True
+
+
 def wait(condition, what):
     """Waits until the condition holds, and answers what it answered."""
-    until = time.monotonic() + SECONDS
-    while not (held := condition()):
-        check(time.monotonic() < until, "not within %d s: %s", SECONDS, what)
+    in_time = InTime(what)
+    while not (held := condition()) and in_time():
         time.sleep(0.002)
     return held
 
@@ -115,6 +139,20 @@ def result_fields(fields, number):
 
 # ---- the programs of a test
 
+def ends_within(process, seconds):
+    """Whether a process ends in that time. It is told at once: subprocess's own wait looks only now and then."""
+    with contextlib.suppress(OSError, AttributeError):  # where there is no such call of the system
+        told = os.pidfd_open(process.pid)
+        try:
+            select.select([told], [], [], seconds)
+        finally:
+            os.close(told)
+        return process.poll() is not None
+    with contextlib.suppress(subprocess.TimeoutExpired):
+        process.wait(seconds)
+    return process.returncode is not None
+
+
 class Host:
     """A host that was started; it is ready when its port is known. Its log goes to a file, if so wished through a pipe."""
 
@@ -126,6 +164,8 @@ class Host:
                 self.pipe = subprocess.Popen(["cat"], stdin=subprocess.PIPE, stdout=log)
             out = self.pipe.stdin if piped else log
             self.process = subprocess.Popen(command, **{"stdin": subprocess.DEVNULL, "stdout": out, "stderr": out, **how})
+        with contextlib.suppress(ProcessLookupError):
+            resource.prlimit(self.process.pid, resource.RLIMIT_FSIZE, (FILE_GREATEST, FILE_GREATEST))
         if piped:
             self.pipe.stdin.close()
         self.port = None
@@ -150,12 +190,9 @@ class Host:
 
     def status(self):
         """The status with which it ends, once it has."""
-        try:
-            self.process.wait(SECONDS)
-        except subprocess.TimeoutExpired:
-            raise Wrong("the host did not end within %d s:\n%s" % (SECONDS, self.log())) from None
+        check(ends_within(self.process, SECONDS), "the host did not end within %d s:\n%s", SECONDS, self.log())
         if self.pipe:
-            self.pipe.wait()
+            self.pipe.wait(SECONDS)
         return self.process.returncode
 
     def end(self, number=signal.SIGTERM):
@@ -164,9 +201,17 @@ class Host:
 
     def kill(self):
         self.process.kill()
-        self.process.wait()
+        self.process.wait(SECONDS)
         if self.pipe:
-            self.pipe.wait()
+            self.pipe.wait(SECONDS)
+
+    def stop(self, seconds):
+        """Keeps it from running for so long; answers for how long it was."""
+        began = time.monotonic()
+        self.process.send_signal(signal.SIGSTOP)
+        time.sleep(seconds)
+        self.process.send_signal(signal.SIGCONT)
+        return time.monotonic() - began
 
     def files(self):
         """How many descriptors it has open."""
@@ -187,7 +232,10 @@ class Link:
         link.settimeout(SECONDS)
 
     def send(self, data):
-        self.link.sendall(data)
+        try:
+            self.link.sendall(data)
+        except socket.timeout:
+            raise Wrong("what was sent was not taken within %d s" % SECONDS) from None
 
     def receive(self):
         """Some bytes; none at the end, be it in order or not."""
@@ -212,8 +260,10 @@ class Server(Link):
     """A line server. `seen` are all the runs that came, `open` tells whether the link has not ended, and `reads_all` whether all that
     was sent to it before has been read then."""
 
-    def __init__(self, host, receive_buffer=None):
+    def __init__(self, host, receive_buffer=None, address=None):
         link = socket.socket()
+        if address:
+            link.bind((address, 0))
         if receive_buffer:
             link.setsockopt(socket.SOL_SOCKET, socket.SO_RCVBUF, receive_buffer)
         link.setsockopt(socket.IPPROTO_TCP, socket.TCP_NODELAY, 1)
@@ -237,7 +287,8 @@ class Server(Link):
 
     def next(self):
         """The next run."""
-        while not self.waiting:
+        in_time = InTime("a further run")
+        while not self.waiting and in_time():
             check(self.take(), "the host closed a link on which more was to come")
         return self.waiting.popleft()
 
@@ -277,9 +328,12 @@ class Server(Link):
         """The runs that come before the mirror of a 9999 that is sent now: what the host had to send, it has sent."""
         self.fences += 1
         mark = message(openprotocol.KEEP_ALIVE, rest=b"%08d" % self.fences)
-        self.send(mark)
-        runs = []
-        while (run := self.next()) != mark[:-1]:
+        try:
+            self.send(mark)
+        except ConnectionError:
+            raise Wrong("the host closed a link that was to stay") from None
+        runs, in_time = [], InTime("the mirror of a 9999")
+        while in_time() and (run := self.next()) != mark[:-1]:
             runs.append(run)
         return runs
 
@@ -306,7 +360,8 @@ class Tool(Link):
 
     def answer(self):
         """The next line; None at the end."""
-        while b"\n" not in self.received:
+        in_time = InTime("an answer")
+        while b"\n" not in self.received and in_time():
             more = self.receive()
             if not more:
                 equal(self.received, b"", "a line cut by the end")
@@ -314,6 +369,13 @@ class Tool(Link):
             self.received += more
         line, self.received = self.received.split(b"\n", 1)
         return line.decode("ascii")
+
+    def answers(self):
+        """All the lines that come up to the end."""
+        lines, in_time = [], InTime("the end of the answers")
+        while in_time() and (line := self.answer()) is not None:
+            lines.append(line)
+        return lines
 
     def give(self, data):
         self.send(data)
@@ -336,8 +398,8 @@ def tell_and_acknowledge(tool, server, i, number):
 class Place:
     """Where a test runs: its folder, and all that it starts."""
 
-    def __init__(self, host, replay, count, parent=None):
-        self.program, self.replay, self.count = host, replay, count
+    def __init__(self, options, parent=None):
+        self.program, self.replay, self.own_replay, self.count = options.host, options.replay, options.own_replay, options.count
         self.said = []  # figures that the test wants to be printed behind its ok
         self.hosts = []
         self.links, self.undo = contextlib.ExitStack(), contextlib.ExitStack()  # before and after the hosts' end
@@ -415,6 +477,9 @@ class Place:
     def journal_bytes(self):
         return b"".join(map(content, self.journal_parts()))
 
+    def journal_size(self):
+        return sum(map(os.path.getsize, self.journal_parts()))
+
     def journaled(self):
         """The journal's whole records, as (kind, payload)."""
         return history.split(self.journal_bytes())[0]
@@ -428,6 +493,11 @@ class Place:
     def wait_for_hang_up(self, session, times=1):
         self.wait_for_journal(lambda records: sum(kind == HANG_UP + session for kind, _ in records) >= times,
                               "hang-up %d of session %d" % (times, session))
+
+    def own_replayed(self, data, table=None):
+        """What serifladder-replay prints of house records, from a table or from a start."""
+        command = [self.own_replay] + (["--table", table] if table else [])
+        return subprocess.run(command, input=data, stdout=subprocess.PIPE, timeout=SECONDS, check=True).stdout
 
     def replayed(self):
         """What replay prints of the journal: an Opening for each open record, and the refusals."""

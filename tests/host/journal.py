@@ -8,8 +8,8 @@ import socket
 import time
 
 import generate
-from harness import (BYTES, HANG_UP, OPEN, SCANNED, SETTINGS, TICK, TIGHTENING, check, content, equal, history, identifier_record, in_memory,
-                     openprotocol, record, test, tightening_fields, tightening_record)
+from harness import (BYTES, HANG_UP, OPEN, SCANNED, SETTINGS, TICK, TIGHTENING, InTime, check, content, equal, history, identifier_record,
+                     in_memory, openprotocol, record, test, tightening_fields, tightening_record)
 
 TICK_SECONDS = 0.03
 
@@ -30,7 +30,8 @@ class Play:
         server = self.place.server(self.host)
         with contextlib.suppress(ConnectionError):
             server.tell(openprotocol.START)
-        while not server.seen and server.take():
+        in_time = InTime("an answer to a 0001, or the end")
+        while in_time() and not server.seen and server.take():
             pass
         if server.seen:
             self.servers.append(server)
@@ -50,7 +51,8 @@ class Play:
         mark = openprotocol.message(openprotocol.KEEP_ALIVE, rest=b"%08d" % len(server.seen))[:-1]
         with contextlib.suppress(ConnectionError):
             server.send(b"\0" + mark + b"\0")
-        while server.open and mark not in server.seen:
+        in_time = InTime("the mirror of a 9999, or the end")
+        while server.open and mark not in server.seen and in_time():
             server.take()
         return server.open
 
@@ -65,7 +67,8 @@ class Play:
         if not self.here():
             self.enter()
         silent = self.source.choice(self.here())
-        while silent.open:
+        in_time = InTime("a silent one is closed")
+        while silent.open and in_time():
             for server in self.here():
                 if server is not silent:
                     self.settle(server)
@@ -150,7 +153,8 @@ class Generated:
         elif BYTES <= kind < TICK and server is not None:
             with contextlib.suppress(ConnectionError):
                 server.send(payload)
-            while server.open and select.select([server.link], [], [], 0)[0]:
+            in_time = InTime("what was sent is read")
+            while server.open and in_time() and select.select([server.link], [], [], 0)[0]:
                 server.take()
             if not server.open:
                 self.now.pop(session)
@@ -187,9 +191,9 @@ def generated_histories(place):
 
 @test
 def the_journal_in_parts(place):
-    """Parts begun by size hold whole records and replay as one; a further run of the host begins a further file."""
+    """Parts begun by size hold whole records and replay as one; a further run of the host goes on with the last."""
     play = Play(place, 4)
-    play.run(400, "--journal-size", 3000)
+    play.run(400, "--journal-size", 3000, "--journal-keep", 1000)
     parts = place.journal_parts()
     check(len(parts) > 4, "only %d parts: this shows too little", len(parts))
     for i, path in enumerate(parts):
@@ -202,8 +206,8 @@ def the_journal_in_parts(place):
     kept = place.journal_bytes()
     play.run(100)
     check(place.journal_bytes().startswith(kept), "the second run has altered what the first had journaled")
-    equal(len(place.journal_parts()), len(parts) + 1, "parts with the second run's")
-    equal(history.split(content(place.journal))[0][0][0], SETTINGS, "the kind of the first record of the second run's file")
+    equal(len(place.journal_parts()), len(parts), "parts with the second run's")
+    equal(history.split(place.journal_bytes()[len(kept):])[0][0][0], SETTINGS, "the kind of the first record of the second run")
 
 
 @test
@@ -220,7 +224,7 @@ def without_a_journal(place):
 def a_journal_with_a_cut_end(place):
     """What a power cut left of a last record is put into a file of its own at the next start, which says so; all parts replay as one."""
     servers = []
-    for cut in (b"\x19", b"\x19\0", b"\x19\0\x30\0", tightening_record(tightening_fields(0))[:-1]):
+    for part, cut in enumerate((b"\x19", b"\x19\0", b"\x19\0\x30\0", tightening_record(tightening_fields(0))[:-1]), 1):
         host = place.host()
         servers.append(place.server(host).start())
         host.kill()
@@ -230,7 +234,7 @@ def a_journal_with_a_cut_end(place):
         host.wait_for_log("%d bytes" % len(cut))
         servers.append(place.server(host).start())
         equal(host.end(), 0, "status")
-        equal(content(place.journal_parts()[-2] + ".cut"), cut, "what was cut off")
+        equal(content("%s.%d.cut" % (place.journal, part)), cut, "what was cut off")
     place.check_journal(servers)
 
 
@@ -263,5 +267,7 @@ def a_file_that_is_no_journal(place):
             equal(content(aside + ".cut"), other, "what was cut off")
             os.remove(aside)
         equal([kind for kind, _ in history.split(content(place.journal))[0]], [SETTINGS], "kinds of records in the new journal")
+        os.remove(place.journal)
     equal(place.host().end(), 0, "status of a further run")
-    equal([os.path.basename(path) for path in place.journal_parts()], ["journal.1", "journal.3", "journal"], "files")
+    equal([os.path.basename(path) for path in place.journal_parts()], ["journal.1", "journal"], "files")
+    check(os.path.exists(place.journal + ".3.times"), "the number of a part whose cut end is there was to be given twice")

@@ -11,8 +11,8 @@ import subprocess
 import zlib
 
 import tracing
-from harness import (BYTES, GREATEST_NUMBER, SETTINGS, TIGHTENING, Wrong, check, content, equal, history, openprotocol, result_fields,
-                     tell_and_acknowledge, test, tightening_fields, tightening_record, wait)
+from harness import (BYTES, GREATEST_NUMBER, SETTINGS, TIGHTENING, InTime, Skipped, Wrong, check, content, equal, history, openprotocol,
+                     result_fields, tell_and_acknowledge, test, tightening_fields, tightening_record, wait)
 
 
 def runs_of_the_host(records):
@@ -81,14 +81,15 @@ def killed_before_every_call_of_the_system(place):
     """The same with the host killed before each call of the system that it makes for a tightening, one run for each. The number is on
     the disk, and its folder with it, before anything is sent."""
     servers, begins, answered = [], [], False
-    while not answered:
+    in_time = InTime("a kill before every call")
+    while not answered and in_time():
         host, server, tool = begin_run(place)
         servers.append(server)
         begins.append(len(servers))
         trace = tracing.Trace(host.process.pid)
         tool.send(tightening_record(tightening_fields(len(servers))))
         calls = []
-        while len(calls) < len(servers) and not answered:
+        while len(calls) < len(servers) and not answered and in_time():
             calls.append(trace.next_call())
             answered = select.select([tool.link], [], [], 0)[0] != []
         host.kill()
@@ -102,13 +103,14 @@ def killed_before_every_call_of_the_system(place):
 # ---- disks that are full
 
 PAGE = os.sysconf("SC_PAGE_SIZE")
+DISK_PAGES = 16
 
 
 def small_disk(place):
     """A folder that can be filled up, or None where no file system may be mounted."""
     path = place.path("disk")
     os.mkdir(path)
-    done = subprocess.run(["mount", "-t", "tmpfs", "-o", "size=%d" % (16 * PAGE), "serifladder", path], stderr=subprocess.DEVNULL,
+    done = subprocess.run(["mount", "-t", "tmpfs", "-o", "size=%d" % (DISK_PAGES * PAGE), "serifladder", path], stderr=subprocess.DEVNULL,
                           check=False)
     if done.returncode != 0:
         place.said.append("without the right to mount a small disk")
@@ -121,7 +123,7 @@ def fill(disk):
     """Leaves no room on a disk but in the last pages of its files; answers what to remove to have room again."""
     path = os.path.join(disk, "filler")
     with open(path, "wb", buffering=0) as file, contextlib.suppress(OSError):
-        while True:
+        for _ in range(DISK_PAGES):
             file.write(bytes(PAGE))
     return path
 
@@ -186,9 +188,9 @@ def no_room_for_the_journal(place):
         fill(disk)
     else:
         limit_files(host, PAGE)
-    mirrored = 0
+    mirrored, in_time = 0, InTime("a full journal")
     with contextlib.suppress(Wrong, ConnectionError):
-        while server.open:
+        while server.open and in_time():
             server.fence()
             mirrored += 1
     ends_without_a_word(place, host, server, None, place.journal)
@@ -211,7 +213,8 @@ def a_tightening_that_is_not_journaled(place):
     else:
         limit_files(host, PAGE)
     # What room the journal has yet, records of bytes without an end fill up.
-    while room := -os.path.getsize(place.journal) % PAGE:
+    in_time = InTime("a full journal")
+    while in_time() and (room := -os.path.getsize(place.journal) % PAGE):
         size = room if room <= 4096 else 2048
         server.send(b"x" * (size - 4))
         wait(lambda: -os.path.getsize(place.journal) % PAGE == room - size, "%d bytes less room in the journal" % size)
@@ -231,8 +234,7 @@ def a_journal_that_takes_nothing(place):
     except PermissionError:
         device = "/dev/full"
         if os.access("/dev", os.W_OK):  # a wrong host could rename it
-            place.said.append("not shown here: no device can be made")
-            return
+            raise Skipped("no device can be made here") from None
     host = place.start("--journal", device, journal=False)
     place.refused(host, 1, device)
     check(stat.S_ISCHR(os.lstat(device).st_mode), "%s was renamed", device)
@@ -249,15 +251,18 @@ def a_state_that_cannot_be_made(place):
 
 @test
 def a_missing_state(place):
-    """Without a state file the host does not start, and says how to make one; it makes none by itself, nor a second one."""
+    """Without a state file the host does not start, and says how to make one; with --new-state it makes one, and goes on with that the
+    next time."""
     usual = ["--settings", place.settings, "--state", place.state, "--listen", "127.0.0.1:0"]
     place.refused(place.run(*usual), 1, place.state, "--new-state")
     check(not os.path.exists(place.state), "a state was made unasked")
     host = place.run(*usual, "--new-state", 41).ready()
     equal(host.end(), 0, "status")
     kept = content(place.state)
-    place.refused(place.run(*usual, "--new-state", 7), 1, place.state)
-    equal(content(place.state), kept, "the state after a refused --new-state")
+    host = place.run(*usual, "--new-state", 7).ready()
+    check("last tightening number is 41" in host.log(), "a second --new-state was not left alone:\n%s", host.log())
+    equal(host.end(), 0, "status")
+    equal(content(place.state), kept, "the state after a --new-state that was not needed")
     gives_next(place, 42)
 
 

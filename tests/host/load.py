@@ -3,7 +3,7 @@
 import select
 
 import harness
-from harness import Wrong, check, equal, in_memory, openprotocol, result_fields, test, tightening_fields, tightening_record
+from harness import InTime, Wrong, check, equal, in_memory, openprotocol, result_fields, test, tightening_fields, tightening_record
 
 # A session keeps eight results; one acknowledge of a server may be on its way, so that seven may be without one.
 WINDOW = 7
@@ -21,7 +21,8 @@ def drive(place, count):
     given = answered = 0
     acknowledge = openprotocol.message(openprotocol.ACKNOWLEDGE_RESULT)
     acknowledged = dict.fromkeys(servers, 0)
-    while answered < count or min(acknowledged.values()) < count:
+    in_time = InTime("%d results" % count, more=count / 100)
+    while in_time() and (answered < count or min(acknowledged.values()) < count):
         more = min(count, min(acknowledged.values()) + WINDOW)
         if more > given:
             tool.send(b"".join(tightening_record(tightening_fields(i)) for i in range(given + 1, more + 1)))

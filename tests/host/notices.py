@@ -4,7 +4,8 @@ import re
 import time
 
 import harness
-from harness import check, equal, in_memory, openprotocol, tell_and_acknowledge, test, tightening_fields
+from harness import (InTime, check, equal, in_memory, openprotocol, tell_and_acknowledge, test, tightening_fields, tightening_record,
+                     wait)
 
 
 @test
@@ -86,8 +87,8 @@ def a_notice_that_is_not_acknowledged(place):
     tool.tighten(tightening_fields(1), "0")
     tool.tighten(tightening_fields(2), "0")
     before = place.ticks()
-    runs = []
-    while place.ticks() < before + 123:
+    runs, in_time = [], InTime("123 ticks", more=200 * tick)
+    while place.ticks() < before + 123 and in_time():
         runs += server.fence()
         time.sleep(tick)
     runs += server.fence()
@@ -95,6 +96,91 @@ def a_notice_that_is_not_acknowledged(place):
     equal(results, [1, 1, 1, 1, 1, 1, 2], "numbers of the copies")
     equal(len(set(runs[:6])), 1, "how many sorts of copies")
     place.finish(host, [server])
+
+
+def losses(host):
+    """What the log says of results that were lost: (session, number, how, why)."""
+    return [(int(session), int(number), how, why) for session, number, how, why in
+            re.findall(r"Z session (\d) [0-9.:]+: result (\d+) ([a-z ,]+): (.+)\n", host.log())]
+
+
+@test
+@in_memory
+def results_that_are_lost(place):
+    """Each has its line, with the session and the number: not taken, given up, dropped at a stop, an unsubscribe, a time-out, a hang-up
+    or the host's end. None other has one."""
+    tick = harness.FAST_TICK
+    host = place.host(tick=int(tick * 1000))
+    tool = place.tool()
+    number, wanted = 0, []
+
+    def tell(count, taken_by):
+        nonlocal number
+        for _ in range(count):
+            number += 1
+            tool.tighten(tightening_fields(number), taken_by)
+
+    def dropped(session, numbers, why):
+        return [(session, n, "dropped, not sent" if i else "dropped, sent but not acknowledged", why) for i, n in enumerate(numbers)]
+
+    def lost(lines):
+        wanted.extend(lines)
+        wait(lambda: len(losses(host)) >= len(wanted), "lines for %s" % lines)
+        equal(losses(host), wanted, "results lost")
+
+    server = place.server(host).subscribe()
+    tell(2, "0")
+    server.tell(openprotocol.ACKNOWLEDGE_RESULT)
+    server.fence()
+    server.accepted(openprotocol.UNSUBSCRIBE_RESULTS)
+    lost(dropped(0, [2], "its subscription is ended"))
+    server.accepted(openprotocol.SUBSCRIBE_RESULTS)
+    tell(8, "0")
+    tell(1, "none")
+    lost([(0, 11, "not taken", "eight are held for it")])
+    server.fence()
+    server.tell(openprotocol.ACKNOWLEDGE_RESULT, data=b"x")  # too long to acknowledge anything
+    server.accepted(openprotocol.STOP)
+    lost(dropped(0, range(3, 11), "the session is stopped"))
+    server.subscribe()
+    tell(2, "0")
+    in_time = InTime("a result is given up", more=200 * tick)
+    while not losses(host)[len(wanted):] and in_time():
+        server.fence()
+        time.sleep(tick)
+    lost([(0, 12, "given up", "it was not acknowledged in 120 ticks")])
+    server.until_closed()
+    lost(dropped(0, [13], "idle for 15 ticks"))
+    server = place.server(host).subscribe()
+    tell(3, "0")
+    server.cut()
+    lost(dropped(0, [14, 15, 16], "Connection reset by peer"))
+    server = place.server(host).subscribe()
+    tell(2, "0")
+    equal(host.end(), 0, "status")
+    lost(dropped(0, [17, 18], "the host ends"))
+
+
+@test
+@in_memory
+def results_not_read(place):
+    """A server that asked for no acknowledge and does not read is hung up: each result that was not given to the system has its line, and
+    no other; what was is there to be read."""
+    host = place.host()
+    tool = place.tool()
+    deaf = place.server(host, receive_buffer=4096).subscribe(acknowledge=False)
+    number, in_time = 0, InTime("the deaf one is hung up")
+    while in_time() and "it does not read" not in host.log():
+        number += 1
+        tool.give(tightening_record(tightening_fields(number)))
+    lost = [n for _, n, how, _ in losses(host) if how == "dropped, not sent"]
+    check(len(lost) > 250, "only %d lines", len(lost))
+    deaf.until_closed()
+    results = [openprotocol.read(run).fields["number"] for run in deaf.seen if run[4:8] == b"0061"]
+    check(results == list(range(1, len(results) + 1)), "results that were read: %s", results)
+    equal(lost, list(range(lost[0], lost[0] + len(lost))), "results lost")
+    check(lost[0] > len(results), "result %d was read, and a line says that it was not sent", lost[0])
+    equal(lost[-1], number, "the last one lost")
 
 
 @test
@@ -119,12 +205,33 @@ def log_lines(place):
 
 
 @test
+def log_lines_with_values(place):
+    """The log shows the text of a 0050 that was accepted, the error of a 0004, and the number of a 0061."""
+    host = place.host("--new-state", 41)
+    server = place.server(host).subscribe()
+    server.tell(openprotocol.DOWNLOAD_IDENTIFIER, data=b"FROM THE \"LINE\"")
+    server.fence()
+    server.send(openprotocol.message(openprotocol.DOWNLOAD_IDENTIFIER, data=b"IN TWO " + b"PIECES")[:30])
+    place.wait_for_journal(lambda records: records[-1][1].endswith(b"IN TWO PIE"), "the first piece")
+    server.send(b"CES\0")
+    server.tell(openprotocol.DOWNLOAD_IDENTIFIER, data=b"NOT\nPRINTABLE")
+    server.tell(openprotocol.SUBSCRIBE_RESULTS)
+    server.tell(1234)
+    place.tool().tighten(tightening_fields(1), "0")
+    server.fence()
+    said = re.findall(r"Z session 0 [0-9.:]+ > (000[45] .*|0061.*)\n", host.log())
+    equal(said[2:], ['0005 to 0050 "FROM THE \"LINE\""', '0005 to 0050 "IN TWO PIECES"', "0004 to 0050, error 01", "0004 to 0060, error 09",
+                     "0004 to 1234, error 99", "0061 number 42"], "values logged")
+
+
+@test
 def the_demo(place):
     """--demo scans identifiers and tightens bolts of itself: results arrive in order, as a tool would have given them."""
     host = place.host("--demo", "--demo-seconds", 1, tool=False)
     server = place.server(host).subscribe()
     numbers, identifiers = [], []
-    while len(numbers) < 3 or not identifiers:
+    in_time = InTime("three results and an identifier")
+    while in_time() and (len(numbers) < 3 or not identifiers):
         frame = openprotocol.read(server.next())
         if frame.mid == openprotocol.IDENTIFIER:
             server.tell(openprotocol.ACKNOWLEDGE_IDENTIFIER)

@@ -4,12 +4,15 @@ import contextlib
 import os
 import random
 import re
+import resource
+import select
 import socket
 import struct
+import time
 
 import harness
 import tracing
-from harness import (BYTES, GOOD_SETTINGS, HANG_UP, OPEN, TICK, TIGHTENING, check, equal, history, identifier_record,
+from harness import (BYTES, GOOD_SETTINGS, HANG_UP, OPEN, TICK, TIGHTENING, InTime, check, equal, history, identifier_record, in_memory,
                      openprotocol, record, tell_and_acknowledge, test, tightening_fields, tightening_record)
 
 BAD = "7 tool record bad"
@@ -104,7 +107,7 @@ def tool_records_that_end_the_connection(place):
         tool = place.tool()
         tool.send(whole[:at])
         tool.link.shutdown(1)
-        while (answer := tool.answer()) is not None:
+        for answer in tool.answers():
             check(not answer.startswith("0"), "answer to a cut record: %r", answer)
         number += 1
         steady.tighten(tightening_fields(number), "0")
@@ -161,7 +164,8 @@ def a_tool_that_does_not_read(place):
     number = 0
     for _ in range(20):
         with contextlib.suppress(BlockingIOError):
-            while sent < len(data):
+            in_time = InTime("a send that is not taken")
+            while sent < len(data) and in_time():
                 sent += deaf.link.send(data[sent:sent + 8192])
         number += 1
         steady.tighten(tightening_fields(number), "0")
@@ -170,9 +174,7 @@ def a_tool_that_does_not_read(place):
     check(sent < len(data), "%d bytes were taken: this shows nothing", sent)
     deaf.link.settimeout(harness.SECONDS)
     deaf.link.shutdown(socket.SHUT_WR)
-    answers = []
-    while (answer := deaf.answer()) is not None:
-        answers.append(answer)
+    answers = deaf.answers()
     whole, rest = divmod(sent, len(identifier_record("DEAF") + record(5)))
     wanted = ["0 done, taken by none", BAD] * whole
     wanted += ["0 done, taken by none"] if rest >= len(identifier_record("DEAF")) else []
@@ -212,12 +214,12 @@ def garbage_from_tools(place):
         with contextlib.suppress(ConnectionError):
             tool.send(data)
             tool.link.shutdown(socket.SHUT_WR)
-        while (answer := tool.answer()) is not None:
+        for answer in tool.answers():
             check(re.match(r"0 done, taken by|7 tool record bad$|record ", answer), "answer to garbage: %r", answer)
         tool.close()
     equal(place.tool().give(identifier_record("GOOD")), "0 done, taken by 0", "answer to a good record")
-    runs = server.fence()
-    while openprotocol.read(runs[-1]).fields.get("identifier") != "GOOD":
+    runs, in_time = server.fence(), InTime("the last identifier")
+    while in_time() and openprotocol.read(runs[-1]).fields.get("identifier") != "GOOD":
         server.tell(openprotocol.ACKNOWLEDGE_IDENTIFIER)
         runs += server.fence()
     place.finish(host, [server], place.replayed()[1])
@@ -235,6 +237,7 @@ def what_stands_where_the_tools_socket_goes(place):
     server.expect_result(tightening_fields(1), 1)
     first.kill()
     check(os.path.exists(place.tool_path), "no socket file is left by a killed host: this shows nothing")
+    place.journal = place.path("journal-2")  # of the other state
     host = place.host()
     server = place.server(host).subscribe()
     place.tool().tighten(tightening_fields(1), "0")
@@ -249,6 +252,14 @@ def what_stands_where_the_tools_socket_goes(place):
     os.mkdir(place.tool_path)
     place.refused(place.start(), 1, place.tool_path)
     check(os.path.isdir(place.tool_path), "a folder that stood there is gone")
+
+
+def ticks_pass(place, server, count):
+    """So many ticks pass, and the server keeps alive."""
+    before, in_time = place.ticks(), InTime("%d ticks" % count)
+    while place.ticks() < before + count and in_time():
+        equal(server.fence(), [], "something besides")
+        time.sleep(harness.FAST_TICK)
 
 
 def write_fifo(place, data):
@@ -292,6 +303,100 @@ def tool_records_over_a_fifo(place):
 
 
 @test
+@in_memory
+def a_fifo_that_goes_away(place):
+    """A FIFO that is removed, or replaced by a file or by another FIFO: what was written is taken, the file's records are not, the log says
+    it, and the FIFO is found again."""
+    os.mkfifo(place.tool_path)
+    host = place.host(tick=int(harness.FAST_TICK * 1000))
+    server = place.server(host).subscribe(acknowledge=False)
+    number = 0
+
+    def taken():
+        nonlocal number
+        number += 1
+        server.expect_result(tightening_fields(number), number)
+        equal(server.fence(), [], "something besides")
+
+    with open(place.tool_path, "wb", buffering=0) as fifo:  # one who still has it open
+        os.remove(place.tool_path)
+        ticks_pass(place, server, 3)
+        fifo.write(tightening_record(tightening_fields(number + 1)))
+        taken()
+    host.wait_for_log("tool .* cannot be opened: No such file")
+    with open(place.path("file"), "wb") as file:
+        file.write(tightening_record(tightening_fields(99)) * 3)
+    os.rename(place.path("file"), place.tool_path)
+    ticks_pass(place, server, 3)
+    equal(host.log().count("cannot be opened"), 1, "lines that say so")
+    os.remove(place.tool_path)
+    os.mkfifo(place.tool_path)
+    host.wait_for_log("tool .* is there again")
+    write_fifo(place, tightening_record(tightening_fields(number + 1)))
+    taken()
+    os.remove(place.tool_path)  # while nobody has it open
+    os.mkfifo(place.tool_path)
+    ticks_pass(place, server, 3)
+    write_fifo(place, tightening_record(tightening_fields(number + 1)))
+    taken()
+    os.rename(place.tool_path, place.path("other"))
+    with open(place.tool_path, "wb") as file:
+        file.write(tightening_record(tightening_fields(99)) * 3)
+    host.wait_for_log("tool .* cannot be opened: it is no FIFO any more")
+    equal(server.fence(), [], "something of the file")
+    place.finish(host, [server])
+
+
+@test
+@in_memory
+def silent_tools(place):
+    """Eight tools that say nothing, or a part of a record: after fifteen ticks one gives its place to a further one, with a line; one that
+    speaks keeps it."""
+    host = place.host(tick=int(harness.FAST_TICK * 1000))
+    server = place.server(host).subscribe()
+    speaking, *silent = [place.tool() for _ in range(8)]
+    silent[0].send(b"\x6a")
+    for i in range(2):
+        further = place.tool()
+        further.send(record(5))
+        in_time = InTime("a further tool is answered")
+        while not select.select([further.link], [], [], harness.FAST_TICK)[0] and in_time():
+            equal(speaking.give(record(5)), BAD, "answer to the one that speaks")
+            equal(server.fence(), [], "something besides")
+        equal(further.answer(), BAD, "answer to a further tool")
+        equal(host.log().count("another needs its place"), i + 1, "lines that say so")
+    closed = [tool for tool in silent if select.select([tool.link], [], [], 0)[0]]
+    equal(len(closed), 2, "tools that gave up their places")
+    equal(speaking.give(record(5)), BAD, "answer to the one that speaks")
+
+
+@test
+def few_descriptors(place):
+    """Where few file descriptors are left, connections are turned away with a line, the host rests, and a tightening is kept and told; when
+    there are more again, so are connections."""
+    host = place.host(tick=1000)
+    server = place.server(host).subscribe(acknowledge=False)
+    tool = place.tool()
+    tool.tighten(tightening_fields(1), "0")
+    server.expect_result(tightening_fields(1), 1)
+    greatest = resource.prlimit(host.process.pid, resource.RLIMIT_NOFILE)[1]
+    resource.prlimit(host.process.pid, resource.RLIMIT_NOFILE, (host.files() + 8, greatest))
+    for turned_away in (place.server(host), place.tool()):
+        equal(turned_away.receive(), b"", "what one that is turned away is sent")
+    equal(len(re.findall(r"(?:links|tool): a connection cannot be taken: too few", host.log())), 2, "lines that say so")
+    resource.prlimit(host.process.pid, resource.RLIMIT_NOFILE, (host.files(), greatest))
+    waiting = [place.server(host), place.tool()]
+    host.wait_for_log(r"links: a connection cannot be taken: Too many open files")
+    ran, began = host.processor_seconds(), time.monotonic()
+    time.sleep(1)
+    check(host.processor_seconds() - ran < (time.monotonic() - began) / 5, "the host runs without rest")
+    resource.prlimit(host.process.pid, resource.RLIMIT_NOFILE, (host.files() + 20, greatest))
+    waiting[0].start()
+    waiting[1].tighten(tightening_fields(2), "0")
+    server.expect_result(tightening_fields(2), 2)
+
+
+@test
 @tracing.traced
 def a_fifo_writer_that_is_not_told(place):
     """A writer that comes and goes just before the FIFO is opened anew, of which poll does not tell that it left: what it wrote of a record
@@ -301,7 +406,8 @@ def a_fifo_writer_that_is_not_told(place):
     server = place.server(host).subscribe()
     trace = tracing.Trace(host.process.pid)
     write_fifo(place, b"")
-    while trace.next_call() != "open":
+    in_time = InTime("the FIFO opened anew")
+    while trace.next_call() != "open" and in_time():
         pass
     write_fifo(place, tightening_record(tightening_fields(0))[:60])
     trace.end()

@@ -8,6 +8,8 @@ import signal
 import struct
 import subprocess
 
+from harness import InTime, Skipped
+
 NAMES = {
     "x86_64": {2: "open", 257: "open", 44: "send", 74: "sync", 75: "sync", 82: "rename", 264: "rename", 316: "rename"},
     "aarch64": {56: "open", 206: "send", 82: "sync", 83: "sync", 38: "rename", 276: "rename"},
@@ -38,7 +40,8 @@ class Trace:
 
     def next_call(self):
         """Lets the process run up to its next call of the system, and answers what that is."""
-        while True:
+        in_time = InTime("a call of the system")
+        while in_time():
             self.ask(CALL_STOPS)
             _, status = os.waitpid(self.process, 0)
             if not os.WIFSTOPPED(status):
@@ -70,11 +73,10 @@ def possible():
 
 
 def traced(function):
-    """The test traces the host; where that can't be, it says so."""
+    """The test traces the host; where that can't be, it is skipped."""
     @functools.wraps(function)
     def where_possible(place):
-        if possible():
-            function(place)
-        else:
-            place.said.append("not shown here: the host can't be traced")
+        if not possible():
+            raise Skipped("the host can't be traced here")
+        function(place)
     return where_possible

@@ -7,8 +7,8 @@ import socket
 
 from harness import CONTROLLER, GOOD_SETTINGS, Wrong, check, equal, openprotocol, test, tightening_fields, wait
 
-OPTIONS = ["--settings", "--state", "--new-state", "--listen", "--tool", "--demo", "--demo-seconds", "--journal", "--journal-size",
-           "--tick-milliseconds", "--help"]
+OPTIONS = ["--settings", "--state", "--new-state", "--listen", "--allow", "--links-of-an-address", "--tool", "--demo", "--demo-seconds",
+           "--journal", "--journal-size", "--tick-milliseconds", "--help"]
 
 
 @test
@@ -36,6 +36,8 @@ def bad_usage(place):
     for option, values in {
         "--new-state": ["", "-1", "x", "1x", " 1", "4294967296", "99999999999999999999"],
         "--listen": ["", "127.0.0.1", "127.0.0.1:", ":4545", "127.0.0.1:x", "127.0.0.1:65536", "127.0.0.1:-1", "nowhere:4545:1"],
+        "--allow": ["", "127.0.0.1", "127.0.0.1/", "127.0.0.1/33", "/8", "127.0.0/8", "here/8", "127.0.0.1/8x"],
+        "--links-of-an-address": ["", "0", "5", "x"],
         "--tick-milliseconds": ["", "0", "-5", "x", "1.5"],
         "--journal-size": ["", "0", "-5", "x"],
         "--demo-seconds": ["", "0", "-5", "x"],

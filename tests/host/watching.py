@@ -111,8 +111,8 @@ def watch_with_another_controller(place):
 
         def expect(link, *mids):
             wanted = b"".join(openprotocol.message(mid) for mid in mids)
-            got = b""
-            while len(got) < len(wanted) and (more := link.receive()):
+            got, in_time = b"", harness.InTime("what watch sends")
+            while in_time() and len(got) < len(wanted) and (more := link.receive()):
                 got += more
             equal(got, wanted, "what watch sends")
 

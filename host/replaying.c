@@ -1,0 +1,104 @@
+/* A journal given to the library again: the calls that its records stand for, as the test program replay makes them. */
+#include "host.h"
+
+#include <errno.h>
+#include <string.h>
+#include <unistd.h>
+
+static uint8_t *lent_table;
+static const struct listener *listener;
+static uint8_t output[SERIFLADDER_OUTPUT_SIZE], answer_bytes[SERIFLADDER_ANSWER_SIZE];
+
+#define LENT lent_table, SERIFLADDER_TABLE_SIZE, output, sizeof output
+#define ANSWER answer_bytes, sizeof answer_bytes
+
+static struct answer answered(void)
+{
+    struct answer answer = read_answer(answer_bytes);
+    if (listener != NULL)
+        listener->answered(&answer, output);
+    return answer;
+}
+
+/* One call at least, and with what is left again until nothing is, or a call is refused. */
+static void replay_bytes(unsigned session, const uint8_t *bytes, size_t length)
+{
+    struct answer answer;
+    do {
+        serifladder_bytes(LENT, session, bytes, length, ANSWER);
+        answer = answered();
+        bytes += answer.consumed;
+        length -= (size_t)answer.consumed;
+    } while (answer.number == SERIFLADDER_DONE && length > 0);
+}
+
+static void replay_record(const uint8_t *record, size_t length)
+{
+    unsigned kind = (unsigned)little(record + 2, 2);
+    if (kind >= JOURNAL_BYTES && kind < JOURNAL_TICK) {
+        replay_bytes(kind - JOURNAL_BYTES, record + SERIFLADDER_RECORD_HEADER, length - SERIFLADDER_RECORD_HEADER);
+        return;
+    }
+    if (kind == SERIFLADDER_SETTINGS)
+        serifladder_start(lent_table, SERIFLADDER_TABLE_SIZE, record, length, ANSWER);
+    else if (kind >= JOURNAL_OPEN && kind < JOURNAL_HANG_UP)
+        serifladder_open(LENT, kind - JOURNAL_OPEN, ANSWER);
+    else if (kind >= JOURNAL_HANG_UP && kind < JOURNAL_BYTES)
+        serifladder_hang_up(LENT, kind - JOURNAL_HANG_UP, ANSWER);
+    else if (kind == JOURNAL_TICK)
+        serifladder_tick(LENT, ANSWER);
+    else
+        serifladder_record(LENT, record, length, ANSWER);
+    answered();
+}
+
+/* Replays the whole records that bytes begin with; how many bytes those are. A record that is too long is none. */
+static size_t replay_whole(const uint8_t *bytes, size_t length)
+{
+    size_t at = 0;
+    while (length - at >= SERIFLADDER_RECORD_HEADER) {
+        size_t size = SERIFLADDER_RECORD_HEADER + (size_t)little(bytes + at, 2);
+        if (size > RECORD_GREATEST || size > length - at)
+            break;
+        replay_record(bytes + at, size);
+        at += size;
+    }
+    return at;
+}
+
+struct replayed replay_journal(int file, uint8_t table[SERIFLADDER_TABLE_SIZE], const struct listener *who)
+{
+    static uint8_t bytes[65536];
+    struct replayed replayed = { 0 };
+    lent_table = table;
+    listener = who;
+    while (!replayed.too_long) {
+        ssize_t got = read(file, bytes + replayed.rest, sizeof bytes - replayed.rest);
+        if (got < 0 && errno == EINTR)
+            continue;
+        replayed.failed = got < 0;
+        if (got <= 0)
+            break;
+        size_t length = replayed.rest + (size_t)got, whole = replay_whole(bytes, length);
+        replayed.whole += whole;
+        replayed.rest = length - whole;
+        memmove(bytes, bytes + whole, replayed.rest);
+        replayed.too_long = replayed.rest >= SERIFLADDER_RECORD_HEADER && little(bytes, 2) > PAYLOAD_GREATEST;
+        if (listener != NULL)
+            listener->served();
+    }
+    return replayed;
+}
+
+/* An opening of a session that is none is refused, and alters nothing; of a table that is not well formed the refusal is another. */
+bool table_is_formed(uint8_t table[SERIFLADDER_TABLE_SIZE])
+{
+    return serifladder_open(table, SERIFLADDER_TABLE_SIZE, output, sizeof output, SERIFLADDER_SESSIONS, ANSWER)
+        == SERIFLADDER_SESSION_TOO_HIGH;
+}
+
+bool table_read(int file, uint8_t table[SERIFLADDER_TABLE_SIZE])
+{
+    uint8_t more;
+    return read(file, table, SERIFLADDER_TABLE_SIZE) == SERIFLADDER_TABLE_SIZE && read(file, &more, 1) == 0 && table_is_formed(table);
+}

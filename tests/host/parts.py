@@ -1,0 +1,231 @@
+"""The journal's parts: how many are kept, and that each can be replayed alone; and the log, which is bounded as they are."""
+
+import contextlib
+import os
+import re
+import signal
+import subprocess
+
+import generate
+from harness import SECONDS, Wrong, check, content, equal, in_memory, message, openprotocol, tell_and_acknowledge, test
+from journal import Play
+
+SIZE, KEEP = 20000, 3
+RECORD_GREATEST = 4 + 8192
+TABLE_SIZE = 16384
+
+
+def beside(place, end):
+    """The numbers of the files FILE.N with that end."""
+    name = os.path.basename(place.journal)
+    found = (re.fullmatch(re.escape(name) + r"\.(\d+)" + re.escape(end), other) for other in os.listdir(os.path.dirname(place.journal)))
+    return sorted(int(match.group(1)) for match in found if match)
+
+
+def journal_size(place):
+    """The bytes of all that is there of the journal, and beside it."""
+    name, folder, size = os.path.basename(place.journal), os.path.dirname(place.journal), 0
+    for other in os.listdir(folder):
+        if other.startswith(name):
+            with contextlib.suppress(FileNotFoundError):  # it was just deleted
+                size += os.path.getsize(os.path.join(folder, other))
+    return size
+
+
+def replayed(place, data):
+    """What the proved test program prints."""
+    return subprocess.run([place.replay], input=data, stdout=subprocess.PIPE, timeout=SECONDS, check=True).stdout
+
+
+@test
+@in_memory
+def a_peer_that_fills_the_journal(place):
+    """Whatever one that never starts sends, the journal has no more bytes than its parts may have, the others go on, and so does the
+    next run of the host."""
+    bound = (KEEP + 1) * (SIZE + RECORD_GREATEST + TABLE_SIZE + 1000)
+    options = ["--journal-size", SIZE, "--journal-keep", KEEP]
+    number = greatest = sent = 0
+    for run in (1, 2):
+        host = place.host(*options)
+        tool = place.tool()
+        server = place.server(host).subscribe()
+        bad = place.server(host)
+        while max(beside(place, ""), default=0) < 30 * run:
+            check(sent < 50_000_000, "after %d bytes there are only the parts %s", sent, beside(place, ""))
+            try:
+                bad.send(b"x" * 60000)
+            except ConnectionError:  # it may be hung up
+                bad = place.server(host)
+            sent += 60000
+            number += 1
+            tell_and_acknowledge(tool, server, number, number)
+            equal(server.fence(), [], "something besides")
+            greatest = max(greatest, journal_size(place))
+        check(len(beside(place, "")) == KEEP, "parts that are kept: %s", beside(place, ""))
+        check(greatest <= bound, "the journal had %d bytes, more than %d", greatest, bound)
+        equal(host.end(), 0, "status")
+    equal(beside(place, ".table"), beside(place, "") + [max(beside(place, "")) + 1], "tables beside the parts and the journal")
+    place.said.append("%d bytes sent, the journal never had more than %d" % (sent, greatest))
+
+
+@test
+@in_memory
+def parts_replayed_alone(place):
+    """Each part from its table gives what it gives within the whole; so does all that is behind it. serifladder-replay and the proved
+    test program print the same of the whole."""
+    Play(place, 5).run(400, "--journal-size", 200, "--journal-keep", 1000)
+    data = [content(path) for path in place.journal_parts()]
+    check(len(data) > 40, "only %d parts: this shows too little", len(data))
+    whole = replayed(place, b"".join(data))
+    equal(place.own_replayed(b"".join(data)), whole, "what is printed of the whole")
+    equal(beside(place, ".table"), list(range(2, len(data) + 1)), "tables")
+    printed = []
+    for part, written in enumerate(data, 1):
+        table = "%s.%d.table" % (place.journal, part) if part > 1 else None
+        check(whole.endswith(place.own_replayed(b"".join(data[part - 1:]), table)), "from part %d on it is not the whole's tail", part)
+        printed.append(place.own_replayed(written, table))
+    equal(b"".join(printed), whole, "what the parts alone print, joined")
+    place.said.append("%d parts, %d lines" % (len(data), whole.count(b"\n")))
+
+
+@test
+def generated_histories_replayed(place):
+    """serifladder-replay prints what the proved test program prints, of generated histories and of such that are cut or damaged."""
+    histories = max(30, place.count // 40)
+    lines = 0
+    for seed in range(1, histories + 1):
+        data = generate.generate(seed, 300)
+        cases = [data, data[:-1 - seed], data[:seed * 37] + bytes([seed % 256, 200]) + data[seed * 37:]]
+        for case in cases:
+            printed = replayed(place, case)
+            equal(place.own_replayed(case), printed, "what is printed of a history of seed %d" % seed)
+            lines += printed.count(b"\n")
+    place.said.append("%d histories, %d lines" % (3 * histories, lines))
+
+
+@test
+def bad_use_of_serifladder_replay(place):
+    """A table that is none, a file that is not there and a wrong command line: a message that names it, and nothing printed."""
+    bad = place.path("bad")
+    with open(bad, "wb") as file:
+        file.write(bytes(TABLE_SIZE))
+    for arguments, status, word in ((["--table", bad], 1, bad), (["--table", place.path("none")], 1, "none"), (["--table"], 2, "--table"),
+                                    ([place.path("none")], 1, "none"), (["--unknown"], 2, "--unknown"), ([bad, bad], 2, "second"),
+                                    ([place.folder], 1, place.folder)):
+        done = subprocess.run([place.own_replay, *arguments], input=b"", capture_output=True, timeout=SECONDS, check=False)
+        equal((done.returncode, done.stdout), (status, b""), "status and output of %s" % arguments)
+        check(word.encode() in done.stderr, "no %r in the message of %s: %r", word, arguments, done.stderr)
+    for option in ("--help", "-h", "--version"):
+        done = subprocess.run([place.own_replay, option], capture_output=True, timeout=SECONDS, check=True)
+        check(done.stdout.startswith(b"serifladder-replay "), "%s prints %r", option, done.stdout)
+
+
+@test
+@in_memory
+def lines_that_repeat(place):
+    """What a peer repeats is counted in the log: a few lines a second and their number, however much it sends."""
+    host = place.host(tick=1000)
+    server = place.server(host)
+    sent = 20000
+    server.send(b"\0" * sent)
+    server.send(b"".join(message(openprotocol.KEEP_ALIVE, rest=b"%08d" % i) for i in range(2000)))
+    server.start()
+    equal(host.end(), 0, "status")
+    lines = re.findall(r"Z (?:(\d+) lines like this are left out, the last: )?session 0 \S+ < (no message|\d)", host.log())
+    counted = [sum(int(count or 1) for count, what in lines if (what == "no message") == bad) for bad in (True, False)]
+    equal(counted, [sent, 2001], "lines of runs and of messages, said and counted")
+    check(len(lines) < 400, "%d lines are not few", len(lines))
+    place.said.append("%d lines for %d runs" % (len(lines), sent + 2000))
+
+
+@test
+def a_journal_that_is_removed(place):
+    """A journal that is removed, renamed or replaced under the host is begun anew, which the log says; what is sent from then on can be
+    replayed from the table beside it, and what was put in its place is not lost."""
+    host = place.host()
+    server = place.server(host).subscribe()
+    tool = place.tool()
+    for number, (take_away, put_there) in enumerate(((os.remove, None), (lambda path: os.rename(path, path + "-old"), None),
+                                                     (os.remove, b"another's")), 1):
+        tell_and_acknowledge(tool, server, 2 * number - 1, 2 * number - 1)
+        equal(server.fence(), [], "something besides")
+        seen = len(server.seen)
+        take_away(place.journal)
+        if put_there:
+            with open(place.journal, "wb") as file:
+                file.write(put_there)
+        tell_and_acknowledge(tool, server, 2 * number, 2 * number)
+        equal(server.fence(), [], "something besides")
+        sent = b"".join(b"0 S " + run.replace(b" ", b"_") + b"\n" for run in server.seen[seen:])
+        table = "%s.%d.table" % (place.journal, max(beside(place, ".table")))
+        equal(place.own_replayed(content(place.journal), table), sent, "what the new journal shows")
+        check(host.log().count("was removed or renamed") == number, "the log does not say it %d times:\n%s", number, host.log())
+    check(b"another's" in [content(path) for path in place.journal_parts()], "what was put in the journal's place is gone")
+    equal(host.end(), 0, "status")
+
+
+class Reader:
+    """Reads a journal that is a FIFO, as much as it is asked to."""
+
+    def __init__(self, place):
+        place.journal = place.path("fifo")
+        os.mkfifo(place.journal)
+        self.file = os.open(place.journal, os.O_RDONLY | os.O_NONBLOCK)
+        place.undo.callback(os.close, self.file)
+        self.data = b""
+
+    def read(self):
+        with contextlib.suppress(BlockingIOError):
+            while more := os.read(self.file, 65536):
+                self.data += more
+        return self.data
+
+
+@test
+def a_journal_whose_reader_stops(place):
+    """A FIFO as journal: while its reader stops the host waits, which the log says, and nothing is lost; a signal ends it all the same."""
+    reader = Reader(place)
+    host = place.host()
+    server = place.server(host).start()
+    server.link.settimeout(0.3)
+    sent = 0
+    with contextlib.suppress(Wrong):
+        while sent < 100_000:
+            server.send(message(openprotocol.KEEP_ALIVE, rest=b"%08d" % sent))
+            sent += 1
+            server.next()
+    check(sent < 100_000, "the FIFO took everything: this shows nothing")
+    host.wait_for_log("takes nothing")
+    server.link.settimeout(SECONDS)
+    reader.read()
+    server.next()
+    equal(server.fence(), [], "something besides")
+    printed = replayed(place, reader.read())
+    equal(printed, b"".join(b"0 S " + run.replace(b" ", b"_") + b"\n" for run in server.seen), "what the journal shows")
+    server.link.settimeout(0.3)
+    with contextlib.suppress(Wrong):
+        while True:
+            server.fence()
+    host.process.send_signal(signal.SIGTERM)
+    place.refused(host, 1, place.journal)
+
+
+@test
+def the_last_part_number(place):
+    """Where no number is left for a part the host does not start, and says so; nothing is renamed. Other names are left alone."""
+    last = place.journal + ".4294967295"
+    with open(last, "wb"):
+        pass
+    place.refused(place.start(), 1, place.journal, "4294967295")
+    os.rename(last, place.journal + ".4294967294")
+    others = [place.journal + end for end in (".4294967296", ".07", ".1x", ".-1", "-5", ".5.tables", ".")]
+    for other in others:
+        with open(other, "wb") as file:
+            file.write(b"another's")
+    host = place.host("--journal-size", 100)
+    server = place.server(host).start()
+    server.send(message(openprotocol.KEEP_ALIVE) * 20)
+    place.refused(host, 1, place.journal, "4294967295")
+    equal(content(place.journal + ".4294967294"), b"", "the part before the last")
+    check(os.path.getsize(last) > 100, "the last part is not whole")
+    equal({content(other) for other in others}, {b"another's"}, "files that are no parts")
