@@ -48,8 +48,8 @@ run: host
 	@echo "In another terminal:"
 	@echo "  make watch                          a line server that shows each result"
 	@echo "  tools/ladder $(DEMO)/journal    the journal drawn: what was sent to whom, and what was lost; --svg for a picture"
-	@exec tests/x86-64 target/host/serifladder-host --settings host/demo.settings --state $(DEMO)/state \
-	  $$(test -e $(DEMO)/state || echo --new-state 0) --journal $(DEMO)/journal --demo
+	@exec tests/x86-64 target/host/serifladder-host --settings host/demo.settings --state $(DEMO)/state --new-state 0 \
+	  --journal $(DEMO)/journal --demo
 
 watch:
 	@exec tools/watch

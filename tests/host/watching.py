@@ -146,7 +146,8 @@ def watch_turned_away(place):
     servers = [place.server(host).start() for _ in range(harness.SESSIONS)]
     watch = Watch(place, "--connect", "127.0.0.1:%d" % host.port)
     watch.wait_for("turned away by 127.0.0.1:%d: it closed the link before it answered. All its four sessions are taken" % host.port)
-    host.wait_for_log("(?s)all four sessions are taken.*all four sessions are taken")
+    away = "closed: (all four sessions are taken|its address has as many links as one may have)"
+    host.wait_for_log("(?s)%s.*%s" % (away, away))
     equal(len(watch.lines()), 1, "lines of a watch that was turned away twice: %s" % watch.lines())
     servers[2].close()
     watch.wait_for("connected to 127.0.0.1:%d" % host.port)
