@@ -1,6 +1,9 @@
 """A journal for tools/ladder: its records, and the lines that replay prints for each. It is read in blocks, so that a long one
 takes no more memory than a short one."""
 
+import calendar
+import contextlib
+import glob
 import os
 import re
 import struct
@@ -8,6 +11,7 @@ import subprocess
 import sys
 import tempfile
 import threading
+import time
 from dataclasses import dataclass
 
 import history
@@ -15,6 +19,7 @@ from history import BYTES, OPEN, SETTINGS, TICK
 
 PAYLOAD_LONGEST = 8192  # a longer one ends replay's run
 BLOCK = 65536
+TABLE = 5120  # the bytes of a lent table that have a meaning
 
 
 class Fault(Exception):
@@ -34,15 +39,16 @@ class Journal:
 
     def __init__(self, names):
         self.parts = []  # file and size
+        self.times = []  # what the host noted beside the parts: a place in the journal, and the time of day in seconds
+        self.size = 0
         for name in names or ["-"]:
-            try:
+            with reading(name):
                 file = sys.stdin.buffer if name == "-" else open(name, "rb")
                 if not os.path.isfile(file.fileno()) or name == "-":
                     file = copied(file)
+                self.times += [(self.size + at, time) for at, time in read_times(name)]
                 self.parts.append((file, os.fstat(file.fileno()).st_size))
-            except OSError as error:
-                raise Fault("%s: %s" % (name, error.strerror)) from error
-        self.size = sum(size for _, size in self.parts)
+                self.size += self.parts[-1][1]
 
     def blocks(self):
         for file, size in self.parts:
@@ -55,6 +61,43 @@ class Journal:
                 at += len(block)
 
 
+@contextlib.contextmanager
+def reading(name):
+    try:
+        yield
+    except OSError as error:
+        raise Fault("%s: %s" % (name, error.strerror)) from error
+
+
+def beside(name, end):
+    """The file that the host keeps beside a part FILE.7, FILE.7.END, or None. What stands beside FILE has the next part's number."""
+    if re.search(r"\.[1-9]\d*$", name):
+        found = [name + end]
+    else:
+        found = [each for each in glob.glob(glob.escape(name) + ".*" + end) if not os.path.exists(each[:-len(end)])]
+    found = [each for each in found if re.search(r"\.[1-9]\d*$", each[:-len(end)]) and os.path.isfile(each)]
+    return max(found, key=lambda each: int(each[:-len(end)].rpartition(".")[2]), default=None)
+
+
+def read_times(name):
+    """The lines of FILE.7.times: the bytes of the part so far, and the time of day."""
+    path = beside(name, ".times")
+    if not path:
+        return []
+    with reading(path), open(path, encoding="ascii", errors="replace") as file:
+        found = [re.fullmatch(r"(\d+) (\d{4}-\d\d-\d\dT\d\d:\d\d:\d\d)Z\n", line) for line in file]
+    return [(int(line[1]), calendar.timegm(time.strptime(line[2], "%Y-%m-%dT%H:%M:%S"))) for line in found if line]
+
+
+def read_table(path):
+    """The lent table with which a journal begins."""
+    with reading(path), open(path, "rb") as file:
+        table = file.read(TABLE)
+    if len(table) < TABLE or not table.startswith(b"SERIFLAD"):
+        raise Fault("%s is no table" % path)
+    return table
+
+
 def copied(file):
     copy = tempfile.TemporaryFile()
     while block := file.read(BLOCK):
@@ -64,11 +107,11 @@ def copied(file):
 
 
 class Records:
-    """The records of a journal up to where replay ends the run, as kind and payload; then the bytes from there on."""
+    """The records of a journal up to where replay ends the run, as place, kind and payload; then the bytes from there on."""
 
     def __init__(self, journal):
         self.blocks = journal.blocks()
-        self.left = journal.size  # bytes that are in no record yet
+        self.size = self.left = journal.size  # left are the bytes that are in no record yet
         self.buffer = b""
 
     def __iter__(self):
@@ -79,7 +122,7 @@ class Records:
                 length, kind = struct.unpack_from("<HH", self.buffer, at)
                 if length > PAYLOAD_LONGEST or at + 4 + length > len(self.buffer):
                     break
-                yield kind, self.buffer[at + 4:at + 4 + length]
+                yield self.size - self.left, kind, self.buffer[at + 4:at + 4 + length]
                 at += 4 + length
                 self.left -= 4 + length
             self.buffer = self.buffer[at:]
@@ -110,6 +153,7 @@ class Piece:
     """What replay is given at a time: a record, or of a bytes record one run, with the NUL that ends it."""
 
     record: int  # its number in the journal, from 1
+    place: int  # where in the journal the record begins
     kind: int
     payload: bytes
     lines: list = ()  # what replay printed for it
@@ -121,12 +165,12 @@ class Piece:
 
 def pieces_of(records):
     """A bytes record is given run by run, so that an answer stands behind its message: how bytes are cut does not matter."""
-    for number, (kind, payload) in enumerate(records, 1):
+    for number, (place, kind, payload) in enumerate(records, 1):
         if BYTES <= kind < TICK and payload:
             for part in re.findall(rb"[^\0]*\0|[^\0]+", payload):
-                yield Piece(number, kind, part)
+                yield Piece(number, place, kind, part)
         else:
-            yield Piece(number, kind, payload)
+            yield Piece(number, place, kind, payload)
 
 
 # ---- what replay prints

@@ -1,5 +1,6 @@
 """The pictures of tools/ladder: which rows are shown, and how they look, as text and as SVG."""
 
+import time
 from dataclasses import dataclass
 from xml.sax.saxutils import escape, quoteattr
 
@@ -74,9 +75,14 @@ class Picture:
         many = sum(1 for notice in shown if len(notice.seconds) > 1)
         words = "%s, %d of them sent more than once; %d lost; %d refused" % (
             count(len(shown), "notice"), many, sum(row.lost for row in self.rows), sum(1 for row in self.rows if row.refused))
+        if self.has_times():
+            words += "; from %s on" % time.strftime("%Y-%m-%d %H:%M:%S UTC", time.gmtime(next(row.time for row in self.rows if row.time)))
         if self.pages() > 1:
             words = "page %d of %d (--page), %d of %d rows: %s" % (self.window.page, self.pages(), len(self.rows), self.count, words)
         return words
+
+    def has_times(self):
+        return any(row.time for row in self.rows)
 
     def repeats(self):
         """A line for each notice that was sent more than once."""
@@ -109,28 +115,33 @@ def second_words(row):
     return "%d s" % row.second if row.started else "-"
 
 
+def time_words(row):
+    """The time of day, as near as the seconds since it was last noted tell it."""
+    return time.strftime("%m-%d %H:%M:%S", time.gmtime(row.time)) if row.time else ""
+
+
 # ---- as text
 
-TIME, PITCH = 13, 14
+DAY, TIME, PITCH = 15, 13, 14
 
 
 def draw_text(shown):
     rails = shown.rails()
     places = {rail: TIME + 4 + PITCH * place for place, rail in enumerate(rails)}
     width = TIME + 4 + PITCH * (len(rails) - 1) + 1
-    lines = ["%s: %s" % (shown.title, shown.heading()), ""]
+    margin = DAY if shown.has_times() else 0
     names = [" "] * (width + PITCH)
     for rail, place in places.items():
         name = rail_name(rail)
         begin = place - len(name) // 2
         names[begin:begin + len(name)] = name
-    lines.append("".join(names).rstrip())
+    lines = ["%s: %s" % (shown.title, shown.heading()), "", " " * margin + "".join(names)]
     for row, fold in zip(shown.rows, shown.folds):
         if fold:
-            lines.append(text_fold(places, width, row.open, fold))
-        lines.append(text_row(places, width, row))
+            lines.append(" " * margin + text_fold(places, width, row.open, fold))
+        lines.append(time_words(row).ljust(margin) + text_row(places, width, row))
     if shown.folds[-1]:
-        lines.append(text_fold(places, width, shown.open, shown.folds[-1]))
+        lines.append(" " * margin + text_fold(places, width, shown.open, shown.folds[-1]))
     lines += [""] + shown.footers if shown.footers else []
     return "".join(line.rstrip() + "\n" for line in lines)
 
@@ -169,8 +180,8 @@ def text_row(places, width, row):
 
 # ---- as SVG: rails at the left, each with the words of its arrows before it, and the labels in a column of their own
 
-MARGIN, TIME_X, TOOL_X, APART = 24, 84, 112, 108
-TO_LABELS, LABELS = 40, 560  # from the last rail, and how wide they are
+MARGIN, DAY_X, TIME_X, TOOL_X, APART = 24, 90, 84, 112, 108
+TO_LABELS, LABELS = 40, 600  # from the last rail, and how wide they are
 TOP, STEP, LEADING = 118, 23, 14  # where the rails begin, a row, a further line of a label
 COLOURS = ("#1769aa", "#c4570a", "#12805c", "#7a4fb5", "#b3246f", "#7d6208", "#3f7d1e", "#0b7c8c")
 INK, GREY, PALE, FAINT, RED = "#222222", "#707070", "#c8c8c8", "#e8e8e8", "#c01818"
@@ -215,7 +226,7 @@ def arrow(x1, x2, y, colour, width=THIN, dash="", crossed=False):
 
 def width_of(text):
     """About as wide as the widest of the fonts sets it."""
-    return sum(11 if c in "MWmw@%" else 8 if c.isupper() else 7.1 if c.isdigit() else 3.6 if c == " " else 6.2 for c in text)
+    return sum(11 if c in "MWmw@%" else 8 if c.isupper() else 7.1 if c.isdigit() else 3.6 if c in " .,:;'ijl|" else 6.8 for c in text)
 
 
 def wrapped(text, first, width):
@@ -244,7 +255,8 @@ def row_colour(row):
 class Svg:
     def __init__(self, shown):
         self.shown = shown
-        self.places = {rail: TOOL_X + APART * place for place, rail in enumerate(shown.rails())}
+        self.left = DAY_X if shown.has_times() else 0  # so much further to the right stands all that follows the time of day
+        self.places = {rail: self.left + TOOL_X + APART * place for place, rail in enumerate(shown.rails())}
         self.labels = max(self.places.values()) + TO_LABELS
         self.width = self.labels + LABELS + MARGIN
         self.y, self.clock = TOP, ""
@@ -286,7 +298,7 @@ class Svg:
     def draw_fold(self, is_open, seconds):
         if seconds:
             self.reach(is_open, self.y + STEP, fold=True)
-            self.over.append(text_at(TIME_X, self.y - 6, fold_words(seconds), "time"))
+            self.over.append(text_at(self.left + TIME_X, self.y - 6, fold_words(seconds), "time"))
 
     def draw_row(self, row):
         badge = str(row.notice.number) if row.notice else ""
@@ -297,7 +309,9 @@ class Svg:
         base = y + 4
         if second_words(row) != self.clock:
             self.clock = second_words(row)
-            self.over.append(text_at(TIME_X, base, self.clock, "time"))
+            self.over.append(text_at(self.left + TIME_X, base, self.clock, "time"))
+            if row.time:
+                self.over.append(text_at(MARGIN, base, time_words(row), "", GREY))
         colour = row_colour(row)
         source = row.source_line()
         parts = [tag("title", escape(history.quote(source.encode("latin-1"))[1:-1]))] if source else []
@@ -344,11 +358,11 @@ def legend(y):
     parts, x = [], MARGIN
     for text, colour, width, dash, crossed in (
             ("message, reply", INK, THIN, "", False),
-            ("notice, its copies in its colour", COLOURS[0], THICK, "", False),
-            ("link: open, gone, closed", GREY, THIN, DOTS, False),
+            ("notice, copies in its colour", COLOURS[0], THICK, "", False),
+            ("link comes or goes", GREY, THIN, DOTS, False),
             ("acknowledge of nothing", INK, THIN, "", True),
             ("refused", RED, THIN, "", True)):
-        parts += [arrow(x, x + 34, y - 4, colour, width, dash, crossed), text_at(x + 40, y, text)]
-        x += int(58 + width_of(text))
-    parts += [cross(x + 4, y - 4, RED), text_at(x + 14, y, "lost")]
-    return parts + [text_at(x + 60, y, fold_words(14) + " nothing happened", "", GREY)]
+        parts += [arrow(x, x + 26, y - 4, colour, width, dash, crossed), text_at(x + 31, y, text)]
+        x += int(41 + width_of(text))
+    parts += [cross(x + 4, y - 4, RED), text_at(x + 12, y, "lost")]
+    return parts + [text_at(x + 46, y, fold_words(14) + " nothing happened", "", GREY)]

@@ -1,5 +1,6 @@
 """The rows of tools/ladder: a journal's pieces as arrows between rails, and what becomes of each notice."""
 
+import collections
 from dataclasses import dataclass, field
 from functools import partial
 
@@ -37,7 +38,7 @@ SUBSCRIBES = {"0051": IDENTIFIER, "0060": TIGHTENED}
 UNSUBSCRIBES = {"0054": IDENTIFIER, "0063": TIGHTENED}
 ACKNOWLEDGES = {"0053": IDENTIFIER, "0062": TIGHTENED}
 MOST = {IDENTIFIER: 2, TIGHTENED: 8}  # notices of a kind that a session holds, the open one included
-GIVEN_UP = 120  # ticks after the first copy
+REPEATED, GIVEN_UP = 20, 120  # ticks after the first copy
 SESSIONS = 4
 
 TOOL, CONTROLLER = -2, -1  # the rails; a session's is its number
@@ -218,6 +219,19 @@ class Books:
         open_ones = [notices for notices in self.held() if second - notices[0].seconds[0] == GIVEN_UP]
         return [notices.pop(0) for notices in open_ones if notices[0].session not in closed]
 
+    def count(self, notice):
+        self.sent += 1
+        notice.number = self.sent
+
+    def begin(self, lent):
+        """A session of the table with which the journal begins."""
+        for kind in MOST:
+            subscription = lent.subscription(kind)
+            if subscription:
+                self.subscriptions[lent.number][kind] = subscription
+                for notice in subscription.notices[:1]:
+                    self.count(notice)
+
     def send(self, session, frame, second):
         """The notice of which replay sent a copy."""
         kind = frame[4:8]
@@ -226,8 +240,8 @@ class Books:
             raise Fault("at second %d replay sent server %d a %s that nothing in the journal explains: %s" % (second, session, kind, frame))
         notice = subscription.notices[0]
         if not notice.seconds:
-            self.sent += 1
-            notice.number, notice.frame = self.sent, frame
+            self.count(notice)
+        notice.frame = frame
         notice.seconds.append(second)
         if not subscription.asks:
             subscription.notices.pop(0)
@@ -239,12 +253,54 @@ class Books:
                 raise Fault("at second %d replay did not send server %d %s" % (second, notices[0].session, notices[0].event_words()))
 
 
+# ---- the lent table with which a part of a journal begins: docs/TABLE.md
+
+REGION = 1024  # bytes, of what is shared and of each session
+
+
+def little(data):
+    return int.from_bytes(data, "little")
+
+
+@dataclass
+class Lent:
+    """What a session's region says of it."""
+
+    number: int  # of the session
+    region: bytes
+
+    def is_open(self):
+        return self.region[0] != 0
+
+    def run(self):
+        """The run that was being received, or None."""
+        length = little(self.region[32:34])
+        return Run(0, self.region[34:79][:length], length, 1) if length else None
+
+    def events(self, kind):
+        """Of the notices that are held."""
+        if kind == IDENTIFIER:
+            return [self.region[at:at + 25] for at in range(80, 130, 25)][:self.region[4]]
+        return [little(self.region[at + 106:at + 110]) for at in range(136, 1016, 110)][:self.region[7]]
+
+    def subscription(self, kind):
+        """With its notices, or None. The open one was sent before second 0, as often as its clock tells."""
+        asks, clock = self.region[2:4] if kind == IDENTIFIER else self.region[5:7]
+        if not asks:
+            return None
+        notices = [Notice(self.number, kind, event) for event in self.events(kind)]
+        for notice in notices[:1]:
+            notice.seconds = list(range(-clock, 1, REPEATED))
+        return Subscription(asks == 2, notices)
+
+
 # ---- rows
 
 
 @dataclass
 class Row:
     second: int
+    time: int  # of day, in seconds; None where it is not known
     started: bool  # a start was done: the second counts
     ticked: bool  # a tick caused it
     open: frozenset  # the sessions that are open before it
@@ -308,10 +364,11 @@ class Run:
 
 
 class Ladder:
-    """Makes the rows piece by piece, and gives each to `show`."""
+    """Makes the rows piece by piece, and gives each to `show`. `times` are places in the journal, each with its time of day."""
 
-    def __init__(self, show):
+    def __init__(self, show, times=()):
         self.show = show
+        self.times, self.zero = collections.deque(times), None  # the time of day of second 0, by the last of the times that was met
         self.second, self.started, self.ticked = 0, False, False
         self.open = frozenset()
         self.runs = {}
@@ -322,12 +379,28 @@ class Ladder:
     def add(self, origin, target, word, caption, source, **more):
         if max(origin, target) >= 0:
             more["concerns"] = (max(origin, target),)
-        self.show(Row(self.second, self.started, self.ticked, self.open, origin, target, word, caption, source, **more))
+        time = None if self.zero is None else self.zero + self.second
+        self.show(Row(self.second, time, self.started, self.ticked, self.open, origin, target, word, caption, source, **more))
+
+    def begin(self, table):
+        """With the lent table, where no start comes first."""
+        self.started, self.last = True, little(table[8:12])
+        for session in range(SESSIONS):
+            lent = Lent(session, table[REGION * (1 + session):REGION * (2 + session)])
+            if lent.is_open():
+                self.open |= {session}
+                self.books.begin(lent)
+                if lent.run():
+                    self.runs[session] = lent.run()
+        self.add(CONTROLLER, CONTROLLER, "table", "the part before ended so: %s; last number %d" % (
+            "servers " + " ".join(map(str, sorted(self.open))) + " open" if self.open else "no server open", self.last), None)
 
     def lose(self, session, caption):
         self.add(session, session, "lost", caption, None, lost=True)
 
     def take(self, piece):
+        while self.times and self.times[0][0] <= piece.place:
+            self.zero = self.times.popleft()[1] - self.second
         refused = piece.refused()
         self.ticked = piece.kind == TICK and not refused
         if self.ticked:

@@ -521,6 +521,11 @@ def test_places():
     picture = xml.etree.ElementTree.fromstring(draw(four_servers(), "--svg"))
     rails = sorted(int(text.get("x")) for text in picture.iter(SVG + "text") if text.get("class") == "name")
     expect("rails", len(rails), 6)
+    for data in (four_servers(), made(read(STORY))):
+        drawn = xml.etree.ElementTree.fromstring(draw(data, "--svg"))
+        for text in drawn.iter(SVG + "text"):
+            words, wide = "".join(text.itertext()), 0 if text.get("class") == "title" else 5.8
+            expect("the end of " + words, float(text.get("x")) + wide * len(words) < int(drawn.get("width")), True)
     groups = [group for group in picture.iter(SVG + "g")]
     expect("rows", len(groups), len(labels(draw(four_servers()))))
     for text in (text for group in groups for text in group.findall(SVG + "text")):
@@ -640,6 +645,9 @@ def test_faults():
         for text, said in wrong:
             done = call(data=data, replay=script(folder, text))
             expect(text, (done.returncode, done.stdout, said in done.stderr.decode()), (1, b"", True))
+        table = script(folder, "no table")
+        done = call("--table", table, data=data)
+        expect("no table", (done.returncode, done.stdout, done.stderr.decode()), (1, b"", "ladder: %s is no table\n" % table))
         done = call(os.path.join(folder, "nothing"))
         expect("no such file", (done.returncode, done.stderr.decode().endswith("nothing: No such file or directory\n")), (1, True))
         done = call(replay=os.path.join(folder, "nothing"))
