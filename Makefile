@@ -2,7 +2,7 @@
 SHELL := /bin/bash
 .SHELLFLAGS := -euo pipefail -c
 .DEFAULT_GOAL := help
-.PHONY: help run watch test install host proved soak bench built wrong format tools clean
+.PHONY: help run watch test install uninstall host proved soak bench built wrong format tools clean
 
 # How many histories make soak compares.
 COUNT := 2000
@@ -18,7 +18,8 @@ help:
 	@echo "make run     proves the library, builds the host around it, and starts that with a simulated tool on 127.0.0.1:4545"
 	@echo "make watch   a small line server that shows what the host sends; in another terminal"
 	@echo "make test    everything that the gate runs: layout, proofs, must-fail edits, the comparison with the implementation in C, the host"
-	@echo "make install header, archive, pkg-config file and host, to PREFIX=$(PREFIX)"
+	@echo "make install header, archive, pkg-config file, host, serifladder-replay, ladder, watch, unit file and man pages, to PREFIX=$(PREFIX)"
+	@echo "make uninstall removes them"
 	@echo "make proved  proves every crate and lists the public functions"
 	@echo "make soak    a longer comparison: COUNT=2000 histories, a million calls, every planted fault; the host under load and with faults planted"
 	@echo "make bench   the library's time and stack beside those of the implementation in C"
@@ -66,6 +67,9 @@ $(ARCHIVE): crates.txt $(shell find crates -type f -not -path '*/must-fail/*') |
 install: host
 	@$(MAKE) --silent --no-print-directory -C host install PREFIX=$(PREFIX)
 	@test -z "$(FOREIGN)" || echo "archive and host are for x86-64: tests/x86-64 $(PREFIX)/bin/serifladder-host runs the host here"
+
+uninstall:
+	@$(MAKE) --silent --no-print-directory -C host uninstall PREFIX=$(PREFIX)
 
 proved: tools
 	@rt check | grep --line-buffered '^rt:'

@@ -101,13 +101,15 @@ static unsigned journal_kind(unsigned kind)
     return kind == SERIFLADDER_SETTINGS || (kind >= JOURNAL_OPEN && kind <= JOURNAL_TICK) ? 0 : kind;
 }
 
-struct answer call_record(const uint8_t *record, size_t length)
+struct answer call_record(const uint8_t *serial, const uint8_t *record, size_t length)
 {
     unsigned kind = (unsigned)little(record + 2, 2);
     journal_prepare(table);
     uint64_t number = serifladder_record(LENT, record, length, ANSWER);
     struct answer answer = read_answer(answer_bytes);
     bool numbered = number == SERIFLADDER_DONE && kind == SERIFLADDER_TIGHTENING;
+    if (number == SERIFLADDER_DONE && serial != NULL)
+        serial_keep(serial, numbered ? last + 1 : 0, answer.taken);
     if (numbered)
         state_keep(++last);
     journal_record(journal_kind(kind), record + SERIFLADDER_RECORD_HEADER, length - SERIFLADDER_RECORD_HEADER);

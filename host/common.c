@@ -10,6 +10,8 @@
 #include <time.h>
 #include <unistd.h>
 
+mode_t file_mode = 0644;
+
 uint64_t little(const uint8_t *bytes, size_t size)
 {
     uint64_t number = 0;

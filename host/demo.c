@@ -40,7 +40,7 @@ static void add_text(size_t size, const char *text)
 static void give(void)
 {
     char line[ANSWER_LINE];
-    tool_record(record.bytes, record.length, line);
+    tool_record(NULL, record.bytes, record.length, line);
 }
 
 static void write_time(char text[TIME_LENGTH + 1], time_t when)

@@ -49,7 +49,7 @@ const char *signals_ended_by(void);
 
 /* ---- common.c: what several files need */
 
-extern mode_t file_mode; /* of the files that are made; main.c has it */
+extern mode_t file_mode; /* of the files that are made */
 
 /* Numbers of `size` bytes, little-endian. */
 uint64_t little(const uint8_t *bytes, size_t size);
@@ -101,7 +101,7 @@ bool waiting_send(struct waiting *waiting, int socket);
 struct door {
     const char *whose;
     int socket;    /* -1: none */
-    int64_t rests; /* until then nobody is let in: where the system has no descriptor left, it has none either when it is asked at once again */
+    int64_t rests; /* until then nobody is let in: a system that has no descriptor left has none either when it is asked at once again */
 };
 
 struct pollfd door_poll(const struct door *door);
@@ -109,6 +109,20 @@ struct pollfd door_poll(const struct door *door);
 /* Takes a connection in, which does not block, and where the address is asked for, its peer's; -1 where there is none that can be kept. */
 int door_take(struct door *door, struct sockaddr_in *address);
 void door_close(struct door *door);
+
+/* ---- access.c: modes and groups, as options give them */
+bool read_mode(const char *text, mode_t *mode);   /* of octal digits */
+bool read_group(const char *text, gid_t *group);  /* of a number, or a name that /etc/group has */
+
+struct socket_access {
+    mode_t mode;
+    gid_t group; /* NO_GROUP: that of the host */
+};
+#define NO_GROUP ((gid_t)-1)
+
+/* Binds a socket so that nobody else has access at any time. False with errno where it cannot be. */
+struct sockaddr_un;
+bool bind_with(int socket, const struct sockaddr_un *address, const struct socket_access *access);
 
 /* ---- settings.c: the settings file as a settings record, its last number 0 */
 void settings_read(const char *path, uint8_t record[SETTINGS_RECORD]);
@@ -120,6 +134,22 @@ uint32_t state_open(const char *path, const uint32_t *fresh);
 
 /* Keeps the number: when this returns it has reached the disk, and no other host has the state. */
 void state_keep(uint32_t number);
+
+/* CRC-32, as in zip files. */
+uint32_t check_sum(const char *bytes, size_t length);
+
+/* ---- serials.c: the names that tools give to their records */
+
+enum { SERIAL_LENGTH = 16 };
+
+/* Reads what is kept beside the state. Tightenings up to the number `given` were given. */
+void serials_open(const char *state, uint32_t given);
+
+/* Keeps the answer to a record, on the disk where it has a number (0: it has none); before the number itself is kept. */
+void serial_keep(const uint8_t serial[SERIAL_LENGTH], uint32_t number, uint64_t taken);
+
+/* Whether a record of that name was done, and what the answer was. */
+bool serial_known(const uint8_t serial[SERIAL_LENGTH], uint32_t *number, uint64_t *taken);
 
 /* ---- journal.c: every call as house records, as the program serifladder-replay reads them */
 
@@ -170,7 +200,7 @@ void call_open(unsigned session);
 void call_hang_up(unsigned session);
 size_t call_bytes(unsigned session, const uint8_t *bytes, size_t length); /* answers how many were consumed */
 void call_tick(void);
-struct answer call_record(const uint8_t *record, size_t length);
+struct answer call_record(const uint8_t *serial, const uint8_t *record, size_t length); /* serial: its name, or NULL */
 
 /* The last tightening number that was given. */
 uint32_t last_number(void);
@@ -224,14 +254,15 @@ const struct session_losses *session_losses(void);
 unsigned long result_number(const uint8_t *frame, size_t length);
 
 /* ---- tool.c: house records from a FIFO or over a Unix socket */
-void tool_open(const char *path);
+void tool_open(const char *path, const struct socket_access *access);
 void tool_poll(struct pollfd set[TOOL_POLLED]);
 void tool_serve(const struct pollfd set[TOOL_POLLED]);
 void tool_tick(void); /* a tick has passed: tools may be silent for too long, and a FIFO may be gone */
 
-/* Gives a record to the library, says what came of it in the log and in `line`. */
+/* Gives a record, with its serial or NULL, to the library, says what came of it in the log and in `line`. */
 enum { ANSWER_LINE = 80 };
-void tool_record(const uint8_t *record, size_t length, char line[ANSWER_LINE]);
+void tool_record(const uint8_t *serial, const uint8_t *record, size_t length, char line[ANSWER_LINE]);
+uint64_t tool_refused(void); /* so many records */
 
 /* ---- demo.c: a simulated tool; does one thing each time it is asked */
 void demo_step(void);

@@ -1,7 +1,7 @@
 /* The journal: every call as a house record, in the order of the calls. Parts that are full are FILE.1, FILE.2 and so on; they and then
    FILE, one behind the other, are one journal. The oldest parts are deleted. Beside the part FILE.7 stand
      FILE.7.table  the lent table as it was when the part began, unless the part begins with a start;
-     FILE.7.times  lines with the bytes of the part so far and the time of day;
+     FILE.7.times  lines with the bytes of the part so far and the time of day, one at each start and behind each 60th tick;
      FILE.7.cut    where the part ended within a record, the bytes of that.
    What stands beside FILE itself has from its beginning the number that FILE gets when it is put aside. */
 #include "host.h"
@@ -22,7 +22,7 @@
 #define TIMES ".times"
 #define CUT ".cut"
 static const char *const ENDS[] = { "", TABLE, TIMES, CUT };
-enum { END_COUNT = sizeof ENDS / sizeof ENDS[0], SECONDS_BETWEEN_TIMES = 60, TABLE_LAST_NUMBER = 8 /* docs/TABLE.md */ };
+enum { END_COUNT = sizeof ENDS / sizeof ENDS[0], TICKS_BETWEEN_TIMES = 60, TABLE_LAST_NUMBER = 8 /* docs/TABLE.md */ };
 
 static struct journal_options journal;
 static int file = -1;
@@ -152,17 +152,6 @@ static void note_time(void)
         say("%s, the times of the journal, cannot be written: %s", name, strerror(errno));
     if (times >= 0)
         close(times);
-}
-
-static void note_time_each_minute(void)
-{
-    static time_t last;
-    struct timespec now;
-    clock_gettime(CLOCK_MONOTONIC, &now);
-    if (last != 0 && now.tv_sec - last >= SECONDS_BETWEEN_TIMES)
-        note_time();
-    if (last == 0 || now.tv_sec - last >= SECONDS_BETWEEN_TIMES)
-        last = now.tv_sec;
 }
 
 /* ---- FILE and its parts */
@@ -350,7 +339,6 @@ void journal_prepare(const uint8_t *table)
     struct stat found;
     if (file < 0 || !regular)
         return;
-    note_time_each_minute();
     bool here = stands_at_its_place();
     if (here && size <= journal.size)
         return;
@@ -395,6 +383,7 @@ static bool write_waiting(const uint8_t *bytes, size_t length)
 
 void journal_record(unsigned kind, const uint8_t *payload, size_t length)
 {
+    static uint64_t ticks;
     uint8_t record[RECORD_GREATEST];
     if (file < 0)
         return;
@@ -411,4 +400,6 @@ void journal_record(unsigned kind, const uint8_t *payload, size_t length)
         cannot("written");
     }
     size += length;
+    if (regular && kind == JOURNAL_TICK && ++ticks % TICKS_BETWEEN_TIMES == 0)
+        note_time();
 }

@@ -8,14 +8,15 @@
 #include <stdio.h>
 #include <stdlib.h>
 #include <string.h>
+#include <sys/stat.h>
 #include <time.h>
 #include <unistd.h>
 
 static const char HELP[] =
     "serifladder-host --settings FILE --state FILE [--new-state NUMBER] [--listen ADDRESS:PORT]\n"
     "                 [--allow ADDRESS/BITS].. [--links-of-an-address N] [--tool PATH | --demo [--demo-seconds N]]\n"
-    "                 [--journal FILE] [--journal-size BYTES] [--journal-keep N] [--state-behind]\n"
-    "                 [--tick-milliseconds N] [--version] [--help]\n"
+    "                 [--journal FILE] [--journal-size BYTES] [--journal-keep N] [--state-behind] [--log FILE]\n"
+    "                 [--file-mode OCTAL] [--tool-mode OCTAL] [--tool-group GROUP] [--tick-milliseconds N] [--version] [--help]\n"
     "\n"
     "Keeps Open Protocol sessions with up to four line servers, and tells them what a tool does.\n"
     "\n"
@@ -30,7 +31,8 @@ static const char HELP[] =
     "  --allow ADDRESS/BITS   who may connect, say 192.168.4.0/24; may be given several times; everybody if not given\n"
     "  --links-of-an-address N  so many links one address may have at once, 1 to 4; 4 if not given\n"
     "  --tool PATH            house records come from the FIFO at PATH, or else over a Unix stream socket made at PATH,\n"
-    "                         which answers a line for each: 0 done, taken by 0 2, or the number and meaning of a refusal\n"
+    "                         which answers a line for each: 0 done, taken by 0 2, number 17 (a tightening's), or the\n"
+    "                         number and meaning of a refusal\n"
     "  --demo                 a simulated tool\n"
     "  --demo-seconds N       so many seconds between its bolts; 3 if not given\n"
     "  --journal FILE         every call as house records, which the program serifladder-replay reads; an existing FILE is\n"
@@ -38,16 +40,21 @@ static const char HELP[] =
     "  --journal-size BYTES   a journal that is longer is renamed to FILE.1, FILE.2 and so on, and a new one begun, with the\n"
     "                         lent table beside it in FILE.2.table, so that it can be replayed alone; 16777216 if not given\n"
     "  --journal-keep N       so many of these parts are kept, the oldest are deleted; 7 if not given\n"
+    "  --log FILE             the log goes there and not to standard error; longer than 8 MiB it is renamed to FILE.1\n"
+    "  --file-mode OCTAL      the mode of the files that the host makes; 644 less the umask if not given\n"
+    "  --tool-mode OCTAL      the mode of the tool's socket; 777 less the umask if not given\n"
+    "  --tool-group GROUP     its group, a number or a name of /etc/group\n"
     "  --tick-milliseconds N  for tests: a tick has so many milliseconds; 1000 if not given\n"
     "  --version              says the version\n"
     "  --help, -h             this text\n"
     "\n"
-    "The log goes to standard error: < is received from a session, > is sent to it. SIGTERM and SIGINT end the host in\n"
-    "order, with status 0; status 1: it could not go on; status 2: wrong usage.\n";
+    "The log goes to standard error: < is received from a session, > is sent to it. SIGHUP opens the log and the journal\n"
+    "again where they were renamed. SIGTERM and SIGINT end the host in order, with status 0; status 1: it could not go on;\n"
+    "status 2: wrong usage.\n";
 
 enum option {
     SETTINGS, STATE, NEW_STATE, STATE_BEHIND, LISTEN, ALLOW, LINKS_OF_AN_ADDRESS, TOOL, DEMO, DEMO_SECONDS, JOURNAL, JOURNAL_SIZE,
-    JOURNAL_KEEP, TICK_MILLISECONDS, OPTION_COUNT
+    JOURNAL_KEEP, LOG, FILE_MODE, TOOL_MODE, TOOL_GROUP, TICK_MILLISECONDS, OPTION_COUNT
 };
 
 static const struct {
@@ -67,10 +74,13 @@ static const struct {
     [JOURNAL] = { "--journal", true },
     [JOURNAL_SIZE] = { "--journal-size", true },
     [JOURNAL_KEEP] = { "--journal-keep", true },
+    [LOG] = { "--log", true },
+    [FILE_MODE] = { "--file-mode", true },
+    [TOOL_MODE] = { "--tool-mode", true },
+    [TOOL_GROUP] = { "--tool-group", true },
     [TICK_MILLISECONDS] = { "--tick-milliseconds", true },
 };
 
-mode_t file_mode = 0644;
 static const char *given[OPTION_COUNT]; /* the values; for an option without one its name */
 
 static _Noreturn void wrong_usage(const char *format, ...) __attribute__((format(printf, 1, 2)));
@@ -111,18 +121,17 @@ static void read_options(int count, char **arguments)
             wrong_usage("%s is missing", OPTIONS[o].name);
     if (given[TOOL] != NULL && given[DEMO] != NULL)
         wrong_usage("--tool and --demo exclude each other");
-    if (given[DEMO_SECONDS] != NULL && given[DEMO] == NULL)
-        wrong_usage("--demo-seconds goes with --demo");
-    static const enum option WITH_JOURNAL[] = { JOURNAL_SIZE, JOURNAL_KEEP, STATE_BEHIND };
-    for (size_t i = 0; i < sizeof WITH_JOURNAL / sizeof WITH_JOURNAL[0]; i++)
-        if (given[WITH_JOURNAL[i]] != NULL && given[JOURNAL] == NULL)
-            wrong_usage("%s goes with --journal", OPTIONS[WITH_JOURNAL[i]].name);
+    static const enum option GO_WITH[][2] = { { JOURNAL_SIZE, JOURNAL }, { JOURNAL_KEEP, JOURNAL }, { STATE_BEHIND, JOURNAL },
+                                              { DEMO_SECONDS, DEMO }, { TOOL_MODE, TOOL }, { TOOL_GROUP, TOOL } };
+    for (size_t i = 0; i < sizeof GO_WITH / sizeof GO_WITH[0]; i++)
+        if (given[GO_WITH[i][0]] != NULL && given[GO_WITH[i][1]] == NULL)
+            wrong_usage("%s goes with %s", OPTIONS[GO_WITH[i][0]].name, OPTIONS[GO_WITH[i][1]].name);
 }
 
 /* No file may be given for two purposes: one would be written over the other. */
 static void check_places(void)
 {
-    static const enum option PLACES[] = { SETTINGS, STATE, TOOL, JOURNAL };
+    static const enum option PLACES[] = { SETTINGS, STATE, TOOL, JOURNAL, LOG };
     enum { COUNT = sizeof PLACES / sizeof PLACES[0] };
     for (size_t i = 0; i < COUNT; i++)
         for (size_t k = 0; k < i; k++)
@@ -138,6 +147,25 @@ static uint64_t number_of(enum option option, uint64_t least, uint64_t greatest,
         wrong_usage("%s is %s, but allowed is a number from %llu to %llu", OPTIONS[option].name, given[option],
                     (unsigned long long)least, (unsigned long long)greatest);
     return number;
+}
+
+static mode_t mode_of(enum option option, mode_t usual)
+{
+    mode_t mode = usual;
+    if (given[option] != NULL && !read_mode(given[option], &mode))
+        wrong_usage("%s is %s, but allowed are octal digits, from 0 to 777", OPTIONS[option].name, given[option]);
+    return mode;
+}
+
+/* The modes of files and of the tool's socket. Those that are given are not lessened by the umask. */
+static struct socket_access read_access(void)
+{
+    mode_t lessens = umask(0);
+    struct socket_access tool = { .mode = mode_of(TOOL_MODE, 0777 & ~lessens), .group = NO_GROUP };
+    if (given[TOOL_GROUP] != NULL && !read_group(given[TOOL_GROUP], &tool.group))
+        wrong_usage("--tool-group is %s, but allowed is a number, or a name that /etc/group has", given[TOOL_GROUP]);
+    file_mode = mode_of(FILE_MODE, file_mode & ~lessens);
+    return tool;
 }
 
 static struct sockaddr_in address_of(const char *text)
@@ -245,15 +273,14 @@ static void run(struct timer tick, struct timer demo)
 }
 
 /* The number to begin with: the state's, unless the journal shows that a greater one was given. */
-static uint32_t last_of_both(uint32_t kept, const struct journal_options *journal)
+static uint32_t last_of_both(uint32_t kept, uint32_t shown)
 {
-    uint32_t shown;
-    if (journal->path == NULL || !journal_find(journal, &shown) || shown <= kept)
+    if (shown <= kept)
         return kept;
     if (given[STATE_BEHIND] == NULL)
         fail("state %s says %u, but journal %s shows that %u was given: an older state stands there. Put the newer one back, or give "
-             "--state-behind to go on from %u", given[STATE], kept, journal->path, shown, shown);
-    say("state %s says %u: the host goes on from %u, which journal %s shows", given[STATE], kept, shown, journal->path);
+             "--state-behind to go on from %u", given[STATE], kept, given[JOURNAL], shown, shown);
+    say("state %s says %u: the host goes on from %u, which journal %s shows", given[STATE], kept, shown, given[JOURNAL]);
     return shown;
 }
 
@@ -272,19 +299,25 @@ int main(int count, char **arguments)
     links_limit((unsigned)number_of(LINKS_OF_AN_ADDRESS, 1, SERIFLADDER_SESSIONS, SERIFLADDER_SESSIONS));
     struct sockaddr_in address = address_of(given[LISTEN] == NULL ? "127.0.0.1:4545" : given[LISTEN]);
 
+    struct socket_access tool = read_access();
+
     check_places();
     keep_standard_streams();
     signals_catch();
-    log_open(NULL);
+    log_open(given[LOG]);
     atexit(sessions_end);
     settings_read(given[SETTINGS], settings);
     links_listen(&address); /* before a file is made or renamed: a second host on the same port leaves all as it is */
-    uint32_t kept = state_open(given[STATE], given[NEW_STATE] == NULL ? NULL : &fresh), last = last_of_both(kept, &journal);
+    uint32_t kept = state_open(given[STATE], given[NEW_STATE] == NULL ? NULL : &fresh), shown = kept;
+    if (given[JOURNAL] != NULL && !journal_find(&journal, &shown))
+        shown = kept;
+    uint32_t last = last_of_both(kept, shown);
+    serials_open(given[STATE], shown);
     state_keep(last);
     if (given[JOURNAL] != NULL)
         journal_open();
     call_start(settings, last);
-    tool_open(given[TOOL]);
+    tool_open(given[TOOL], &tool);
     say("the last tightening number is %u", last);
     links_ready();
     tick.next = now() + tick.period;

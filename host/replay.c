@@ -8,8 +8,6 @@
 #include <string.h>
 #include <unistd.h>
 
-mode_t file_mode; /* of files that are made; this program makes none */
-
 static const char HELP[] =
     "serifladder-replay [--table FILE] [JOURNAL]\n"
     "\n"

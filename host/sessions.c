@@ -1,5 +1,5 @@
-/* What each session is, and the results that it holds, as the host can tell from what came and went (docs/HOST.md says how). The library holds
-   the same; here it is kept so that the log has a line for each result that is lost, and that the host's status can be asked for. */
+/* What each session is, and the results that it holds, as the host can tell from what came and went (docs/HOST.md says how). The library
+   holds the same; here it is kept so that the log has a line for each result that is lost, and for the status. */
 #include "host.h"
 
 #include <stdio.h>

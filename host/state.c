@@ -18,8 +18,7 @@ static const char *state_path, *name;
 static char name_beside[NAME_MAX + 1], name_locked[NAME_MAX + 1];
 static int folder, lock, current = -1; /* the folder, and the locked files: the lock's, and the state as it stands */
 
-/* CRC-32, as in zip files. */
-static uint32_t check_sum(const char *bytes, size_t length)
+uint32_t check_sum(const char *bytes, size_t length)
 {
     uint32_t sum = UINT32_MAX;
     for (size_t i = 0; i < length; i++) {

@@ -13,6 +13,7 @@
 
 enum {
     FIFO_READS = 130, /* at once, of RECORD_GREATEST bytes: more than the largest FIFO holds, 1 MiB */
+    WITH_SERIAL = 4,  /* the kind of a record that has a serial in front of another record */
     SILENT = 15       /* a tool that said nothing for so many ticks gives its place up where another waits for one */
 };
 
@@ -29,38 +30,80 @@ static struct source {
 
 static const char *tool_path;
 static bool fifo;
+static uint64_t refused; /* records */
 static bool missing; /* the FIFO is not where it was; it is looked for at each tick */
 static struct door door = { .whose = "tool", .socket = -1 };
 
 /* ---- a record */
 
-static void write_taken(char text[ANSWER_LINE], uint64_t taken)
+enum { TAKEN_TEXT = 24 };
+
+static void write_taken(char text[TAKEN_TEXT], uint64_t taken)
 {
-    int at = snprintf(text, ANSWER_LINE, "taken by%s", taken == 0 ? " none" : "");
+    int at = snprintf(text, TAKEN_TEXT, "taken by%s", taken == 0 ? " none" : "");
     for (unsigned s = 0; s < SERIFLADDER_SESSIONS; s++)
         if (taken >> s & 1)
-            at += snprintf(text + at, ANSWER_LINE - (size_t)at, " %u", s);
+            at += snprintf(text + at, TAKEN_TEXT - (size_t)at, " %u", s);
 }
 
-void tool_record(const uint8_t *record, size_t length, char line[ANSWER_LINE])
+/* The answer to a record that is done; number 0: it has none. */
+static void write_done(char line[ANSWER_LINE], uint64_t taken, uint32_t number)
 {
-    char taken[ANSWER_LINE];
-    struct answer answer = call_record(record, length);
-    const char *text = meaning(answer.number);
-    write_taken(taken, answer.taken);
+    char text[TAKEN_TEXT];
+    write_taken(text, taken);
+    int at = snprintf(line, ANSWER_LINE, "%u %s, %s", SERIFLADDER_DONE, meaning(SERIFLADDER_DONE), text);
+    if (number > 0)
+        snprintf(line + at, ANSWER_LINE - (size_t)at, ", number %u", number);
+}
+
+void tool_record(const uint8_t *serial, const uint8_t *record, size_t length, char line[ANSWER_LINE])
+{
+    char taken[TAKEN_TEXT];
+    struct answer answer = call_record(serial, record, length);
     if (answer.number != SERIFLADDER_DONE) {
-        snprintf(line, ANSWER_LINE, "%u %s", (unsigned)answer.number, text);
+        snprintf(line, ANSWER_LINE, "%u %s", (unsigned)answer.number, meaning(answer.number));
         say("tool: refused, %s", line);
+        refused += 1;
         return;
     }
-    snprintf(line, ANSWER_LINE, "0 %s, %.40s", text, taken);
-    if (little(record + 2, 2) == SERIFLADDER_TIGHTENING) {
+    bool numbered = little(record + 2, 2) == SERIFLADDER_TIGHTENING;
+    write_taken(taken, answer.taken);
+    write_done(line, answer.taken, numbered ? last_number() : 0);
+    if (numbered) {
         say("tool: tightening %u, %s", last_number(), taken);
         return;
     }
-    while (length > SERIFLADDER_RECORD_HEADER && record[length - 1] == ' ')
-        length--;
-    say("tool: identifier \"%.*s\", %s", (int)(length - SERIFLADDER_RECORD_HEADER), (const char *)record + SERIFLADDER_RECORD_HEADER, taken);
+    const char *text = (const char *)record + SERIFLADDER_RECORD_HEADER;
+    size_t size = length - SERIFLADDER_RECORD_HEADER;
+    while (size > 0 && text[size - 1] == ' ')
+        size--;
+    say("tool: identifier \"%.*s\", %s", (int)size, text, taken);
+}
+
+uint64_t tool_refused(void)
+{
+    return refused;
+}
+
+/* Takes a record that may have a serial in front of it. Anything else of that kind is a bad record, which the library refuses. */
+static void take_record(const uint8_t *record, size_t length, char line[ANSWER_LINE])
+{
+    const size_t before = SERIFLADDER_RECORD_HEADER + SERIAL_LENGTH;
+    const uint8_t *serial = NULL;
+    uint32_t number;
+    uint64_t taken;
+    if (little(record + 2, 2) == WITH_SERIAL && length >= before + SERIFLADDER_RECORD_HEADER
+        && little(record + before, 2) == length - before - SERIFLADDER_RECORD_HEADER) {
+        serial = record + SERIFLADDER_RECORD_HEADER;
+        record += before;
+        length -= before;
+    }
+    if (serial != NULL && serial_known(serial, &number, &taken)) {
+        write_done(line, taken, number);
+        say("tool: a record came again, answered as before: %s", line);
+    } else {
+        tool_record(serial, record, length, line);
+    }
 }
 
 /* ---- a source */
@@ -168,7 +211,7 @@ static bool receive(struct source *source)
         answer_line(source, "record too long");
         source->skipping = true;
     } else if (source->length == whole) {
-        tool_record(source->record, whole, line);
+        take_record(source->record, whole, line);
         answer_line(source, line);
         source->length = 0;
         return false;
@@ -221,7 +264,7 @@ static void remove_door(void)
     unlink(tool_path);
 }
 
-void tool_open(const char *path)
+void tool_open(const char *path, const struct socket_access *access)
 {
     struct sockaddr_un address = { .sun_family = AF_UNIX };
     struct stat found;
@@ -242,7 +285,7 @@ void tool_open(const char *path)
     memcpy(address.sun_path, path, strlen(path));
     make_way(&address);
     door.socket = socket(AF_UNIX, SOCK_STREAM, 0);
-    if (door.socket < 0 || bind(door.socket, (const struct sockaddr *)&address, sizeof address) != 0 || listen(door.socket, SOMAXCONN) != 0)
+    if (door.socket < 0 || !bind_with(door.socket, &address, access) || listen(door.socket, SOMAXCONN) != 0)
         fail("tool %s: no socket can be made there: %s", path, strerror(errno));
     atexit(remove_door);
     unblock(door.socket);

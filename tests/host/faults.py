@@ -21,14 +21,34 @@ import tracing
 HERE = os.path.dirname(os.path.abspath(__file__))
 ROOT = os.path.join(HERE, "..", "..")
 
-RECORD_SETTLED = """\
+SERIAL_KEPT = """\
+    if (number == SERIFLADDER_DONE && serial != NULL)
+        serial_keep(serial, numbered ? last + 1 : 0, answer.taken);
+"""
+NUMBER_KEPT = """\
+    if (numbered)
+        state_keep(++last);
+"""
+RECORD_JOURNALED = """\
     journal_record(journal_kind(kind), record + SERIFLADDER_RECORD_HEADER, length - SERIFLADDER_RECORD_HEADER);
+"""
+RESULT_SENT = """\
+    if (numbered)
+        sessions_result(last, answer.taken);
     carry_out(answer.written);
 """
 
-STARTED = ("    links_listen(&address); /* before a file is made or renamed: a second host on the same port leaves all as it is */\n",
-           "    uint32_t kept = state_open(given[STATE], given[NEW_STATE] == NULL ? NULL : &fresh), last = last_of_both(kept, &journal);\n"
-           "    state_keep(last);\n")
+ADDRESS_TAKEN = """\
+    links_listen(&address); /* before a file is made or renamed: a second host on the same port leaves all as it is */
+"""
+STATE_MADE = """\
+    uint32_t kept = state_open(given[STATE], given[NEW_STATE] == NULL ? NULL : &fresh), shown = kept;
+    if (given[JOURNAL] != NULL && !journal_find(&journal, &shown))
+        shown = kept;
+    uint32_t last = last_of_both(kept, shown);
+    serials_open(given[STATE], shown);
+    state_keep(last);
+"""
 
 SHARES = ("RUNS_AT_ONCE = 16,        /* of a link in a turn: what else has come waits for the next */\n"
           "    BYTES_A_SECOND = 262144,")
@@ -37,8 +57,8 @@ SHARES = ("RUNS_AT_ONCE = 16,        /* of a link in a turn: what else has come 
 FAULTS = [
     ("state not written", "killed-between-results", "calls.c", "state_keep(++last);", "++last;"),
     ("state written after sending", "no-room-for-the-state", "calls.c",
-     "state_keep(++last);\n" + RECORD_SETTLED,
-     "++last;\n" + RECORD_SETTLED + "    if (number == SERIFLADDER_DONE && kind == SERIFLADDER_TIGHTENING)\n        state_keep(last);\n"),
+     NUMBER_KEPT + RECORD_JOURNALED + RESULT_SENT,
+     NUMBER_KEPT.replace("state_keep(++last)", "++last") + RECORD_JOURNALED + RESULT_SENT + NUMBER_KEPT.replace("++last", "last")),
     ("journal written after sending", "no-room-for-the-journal", "calls.c",
      "    journal_record(kind, payload, length);\n    carry_out(answer.written);",
      "    carry_out(answer.written);\n    journal_record(kind, payload, length);"),
@@ -67,9 +87,14 @@ FAULTS = [
     ("an acknowledge not counted", "results-that-are-lost", "sessions.c", 'memcmp(message + 4, "0062", 4) == 0)\n',
      'memcmp(message + 4, "0053", 4) == 0)\n'),
     ("given up in silence", "results-that-are-lost", "sessions.c", "GIVEN_UP = 120,", "GIVEN_UP = 12000,"),
-    ("a ninth lost in silence", "results-that-are-lost", "sessions.c", '            say_lost(s, number, "not taken", "eight are held for it");\n', ""),
+    ("a ninth lost in silence", "results-that-are-lost", "sessions.c",
+     '            say_lost(s, number, "not taken", "eight are held for it");\n', ""),
     ("what was not sent lost in silence", "results-not-read", "sessions.c", "    drop_unsent(s, waiting, why);\n",
      "    (void)drop_unsent;\n    (void)waiting;\n"),
+    ("a serial that is known taken again", "records-with-a-serial", "tool.c",
+     "if (serial != NULL && serial_known(serial, &number, &taken)) {",
+     "number = 0;\n    taken = 0;\n    if (serial != NULL && number > taken) {"),
+    ("serials forgotten with the host", "records-with-a-serial", "serials.c", "        put_line(next, line);\n", ""),
     ("stale output kept over a hang-up", "a-peer-that-stops-reading", "links.c", "    link->waiting.length = 0;\n", ""),
     ("a hang-up that the library is not told", "a-link-cut-with-a-notice-open", "links.c",
      "    call_hang_up((unsigned)(link - links));\n    close_link(link, why);", "    close_link(link, why);"),
@@ -105,7 +130,7 @@ FAULTS = [
     ("the state itself not locked", "a-lock-that-was-removed", "state.c", "if (!lock_file(current) || !stands_as(current, name))",
      "if (!stands_as(current, name))"),
     ("the lock not looked at again", "a-lock-that-was-removed", "state.c", "    hold_lock();\n", "    (void)hold_lock;\n"),
-    ("the journal's number not compared", "an-older-state", "main.c", "|| shown <= kept)", "|| shown > 0)"),
+    ("the journal's number not compared", "an-older-state", "main.c", "if (shown <= kept)", "if (shown <= kept || shown > 0)"),
     ("a journal that was removed is written on", "a-journal-that-is-removed", "journal.c",
      "    return stat(journal.path, &found) == 0 && found.st_ino == ours.st_ino && found.st_dev == ours.st_dev;",
      "    return stat(journal.path, &found) == 0 || ours.st_ino > 0;"),
@@ -115,10 +140,22 @@ FAULTS = [
      "O_TRUNC | O_CLOEXEC, file_mode);\n    if (file"),
     ("one file for two purposes", "one-file-for-two-purposes", "main.c", "for (size_t k = 0; k < i; k++)", "for (size_t k = i; k < i; k++)"),
     ("a part number given twice", "the-last-part-number", "journal.c", "if (number > UINT32_MAX)", "if (number > UINT64_MAX - 1)"),
-    ("a state made though the port is taken", "an-address-in-use", "main.c", STARTED[0] + STARTED[1], STARTED[1] + STARTED[0]),
+    ("a state that is there made anew", "a-missing-state", "state.c", "= there ? read_state() : *fresh;",
+     "= there && fresh == NULL ? read_state() : *fresh;"),
+    ("a given mode lessened by the umask", "modes-and-groups", "main.c", "file_mode = mode_of(FILE_MODE, file_mode & ~lessens);",
+     "file_mode = mode_of(FILE_MODE, file_mode) & ~lessens;"),
+    ("SIGHUP not heard", "log-and-journal-opened-again", "main.c", "            log_reopen();\n", "            continue;\n"),
+    ("a full log not put aside", "a-log-that-is-full", "log.c", "file_size > FILE_GREATEST)", "file_size < 0)"),
+    ("a time too late", "the-time-of-day-beside-the-journal", "journal.c", "TICKS_BETWEEN_TIMES = 60", "TICKS_BETWEEN_TIMES = 61"),
+    ("a state made though the port is taken", "an-address-in-use", "main.c", ADDRESS_TAKEN + STATE_MADE,
+     STATE_MADE + ADDRESS_TAKEN),
 ]
 if tracing.possible():
     FAULTS += [
+        ("a serial kept behind its record", "told-again-after-every-kill", "calls.c", SERIAL_KEPT + NUMBER_KEPT + RECORD_JOURNALED,
+         NUMBER_KEPT + RECORD_JOURNALED + SERIAL_KEPT.replace("last + 1", "last")),
+        ("a serial known that was not journaled", "told-again-after-every-kill", "serials.c", "if (kept[place].number > given)",
+         "if (kept[place].number > given + 1)"),
         ("ticks before the links are heard", "a-slow-disk", "main.c", "        if (ticks) {\n", "        while (is_due(&tick)) {\n"),
         ("state not synced", "killed-before-every-call-of-the-system", "state.c", " || fsync(file) != 0", ""),
         ("folder of the state not synced", "killed-before-every-call-of-the-system", "state.c", " || fsync(folder) != 0", ""),

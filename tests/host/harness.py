@@ -132,6 +132,19 @@ def identifier_record(identifier):
     return record(SCANNED, b"%-25s" % identifier.encode("ascii"))
 
 
+WITH_SERIAL = 4
+
+
+def with_serial(serial, data):
+    """A record with a serial in front of it, of 16 bytes."""
+    return record(WITH_SERIAL, b"%16d" % serial + data)
+
+
+def done(taken_by, number):
+    """The answer to a tightening."""
+    return "0 done, taken by %s, number %d" % (taken_by, number)
+
+
 def result_fields(fields, number):
     """What a 0061 has to say of that tightening."""
     return {**CONTROLLER, **fields, "number": number}
@@ -171,6 +184,9 @@ class Host:
         self.port = None
 
     def log(self):
+        """What it has said; nothing where its log was renamed."""
+        if not os.path.exists(self.log_path):
+            return ""
         with open(self.log_path, encoding="latin-1") as log:
             return log.read()
 
@@ -216,6 +232,11 @@ class Host:
     def files(self):
         """How many descriptors it has open."""
         return len(os.listdir("/proc/%d/fd" % self.process.pid))
+
+    def lowest_free_file(self):
+        """The number that the next descriptor which it opens gets."""
+        taken = set(map(int, os.listdir("/proc/%d/fd" % self.process.pid)))
+        return min(set(range(len(taken) + 1)) - taken)
 
     def processor_seconds(self):
         """How long it has been running on a processor."""
@@ -382,7 +403,11 @@ class Tool(Link):
         return self.answer()
 
     def tighten(self, fields, taken_by):
-        equal(self.give(tightening_record(fields)), "0 done, taken by " + taken_by, "answer to a tightening")
+        """Answers the number that the tightening got."""
+        answer = self.give(tightening_record(fields))
+        found = re.fullmatch(r"0 done, taken by (none|[0-3 ]+), number (\d+)", answer or "")
+        check(found and found.group(1) == taken_by, "answer to a tightening: %r, not taken by %s", answer, taken_by)
+        return int(found.group(2))
 
     def scan(self, identifier, taken_by):
         equal(self.give(identifier_record(identifier)), "0 done, taken by " + taken_by, "answer to an identifier")
@@ -390,7 +415,7 @@ class Tool(Link):
 
 def tell_and_acknowledge(tool, server, i, number):
     """The i-th tightening reaches the server of session 0 under that number, and is acknowledged."""
-    tool.tighten(tightening_fields(i), "0")
+    equal(tool.tighten(tightening_fields(i), "0"), number, "the number that a tightening got")
     server.expect_result(tightening_fields(i), number)
     server.tell(openprotocol.ACKNOWLEDGE_RESULT)
 

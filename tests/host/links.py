@@ -13,7 +13,7 @@ import time
 
 import harness
 import tracing
-from harness import (BYTES, OPEN, TICK, InTime, check, equal, identifier_record, in_memory, message, test, tightening_fields,
+from harness import (BYTES, OPEN, TICK, InTime, check, done, equal, identifier_record, in_memory, message, test, tightening_fields,
                      tightening_record, wait)
 import openprotocol
 
@@ -267,7 +267,7 @@ def a_slow_disk(place):
     server.tell(openprotocol.KEEP_ALIVE)
     time.sleep(10 * tick)
     trace.end()
-    equal(tool.answer(), "0 done, taken by 0", "answer")
+    equal(tool.answer(), done("0", 1), "answer")
     server.expect_result(tightening_fields(1), 1)
     server.expect(openprotocol.KEEP_ALIVE)
     equal(server.fence(), [], "something besides")

@@ -3,7 +3,7 @@
 import select
 
 import harness
-from harness import InTime, Wrong, check, equal, in_memory, openprotocol, result_fields, test, tightening_fields, tightening_record
+from harness import InTime, Wrong, check, done, equal, in_memory, openprotocol, result_fields, test, tightening_fields, tightening_record
 
 # A session keeps eight results; one acknowledge of a server may be on its way, so that seven may be without one.
 WINDOW = 7
@@ -31,10 +31,10 @@ def drive(place, count):
         check(ready, "nothing more came within %d s", harness.SECONDS)
         for link in ready:
             if link is tool.link:
-                equal(tool.answer(), "0 done, taken by 0 1 2 3", "answer %d" % (answered + 1))
+                equal(tool.answer(), done("0 1 2 3", answered + 1), "answer %d" % (answered + 1))
                 answered += 1
                 while b"\n" in tool.received:
-                    equal(tool.answer(), "0 done, taken by 0 1 2 3", "answer %d" % (answered + 1))
+                    equal(tool.answer(), done("0 1 2 3", answered + 1), "answer %d" % (answered + 1))
                     answered += 1
             else:
                 server = by_link[link]

@@ -1,10 +1,18 @@
 """How the host starts on what is there: one host to a state, no number twice, no file for two purposes."""
 
+import calendar
+import contextlib
+import itertools
 import os
 import shutil
+import signal
 import socket
+import stat
+import time
 
-from harness import check, content, equal, record, tell_and_acknowledge, test, tightening_fields, tightening_record, wait
+import harness
+from harness import (SETTINGS, TICK, check, content, equal, history, in_memory, record, tell_and_acknowledge, test, tightening_fields,
+                     tightening_record, wait)
 from kept import ends_without_a_word, gives_next
 
 
@@ -158,3 +166,87 @@ def the_same_command_line_every_time(place):
             host.kill()
         else:
             equal(host.end(), 0, "status")
+
+
+def mode(path):
+    return stat.S_IMODE(os.stat(path).st_mode)
+
+
+@test
+def modes_and_groups(place):
+    """Files and the tool's socket have the modes and the group that are given, whatever the umask; else the usual ones less the umask."""
+    group = os.getgid()
+    with open("/etc/group", encoding="utf-8") as groups:
+        name = next((line.split(":")[0] for line in groups if line.split(":")[2] == str(group)), str(group))
+    for given, files, socket_mode in ((["--file-mode", "664", "--tool-mode", "660", "--tool-group", name], 0o664, 0o660),
+                                      (["--file-mode", "600", "--tool-group", group], 0o600, 0o750), ([], 0o640, 0o750)):
+        host = place.host("--journal-size", 100, *given, preexec_fn=lambda: os.umask(0o027))
+        server = place.server(host).subscribe()
+        tell_and_acknowledge(place.tool(), server, 1, 1)
+        equal(server.fence(), [], "something besides")
+        made = [entry for entry in os.listdir(place.folder) if entry.startswith(("state", "journal"))]
+        check(any(entry.endswith(".table") for entry in made), "no table: this shows too little")
+        equal({entry: mode(place.path(entry)) for entry in made}, dict.fromkeys(made, files), "modes of the files")
+        equal((mode(place.tool_path), os.stat(place.tool_path).st_gid), (socket_mode, group), "mode and group of the socket")
+        equal(host.end(), 0, "status")
+        for entry in made:
+            with contextlib.suppress(FileNotFoundError):
+                os.remove(place.path(entry))
+
+
+@test
+def log_and_journal_opened_again(place):
+    """With --log the log goes to a file. SIGHUP opens it anew where it was renamed, and so the journal; the host goes on meanwhile."""
+    log, old = place.path("the.log"), place.path("the.log.old")
+    host = place.start("--log", log, tick=int(harness.FAST_TICK * 1000))
+    host.log_path = log
+    wait(lambda: os.path.exists(log), "a log")
+    server = place.server(host.ready()).subscribe()
+    os.rename(log, old)
+    os.rename(place.journal, place.journal + "-old")
+    host.process.send_signal(signal.SIGHUP)
+    wait(lambda: os.path.exists(log) and os.path.exists(place.journal), "a log and a journal that are begun anew")
+    tell_and_acknowledge(place.tool(), server, 1, 1)
+    equal(server.fence(), [], "something besides")
+    wait(lambda: "tool: tightening 1" in host.log(), "a line in the new log")
+    check("listening on" in content(old).decode() and "listening on" not in host.log(), "the lines are in the wrong log")
+    kept = history.split(content(place.journal + "-old"))[0]
+    equal([kind for kind, _ in kept if kind != TICK][0], SETTINGS, "the first record of the journal that was renamed")
+    equal(host.end(), 0, "status")
+
+
+@test
+def a_log_that_is_full(place):
+    """A log of more than 8 MiB is put aside, in the place of the one before it; one that cannot be opened ends the host at once."""
+    log = place.path("the.log")
+    for size in (8 << 20, 100, 8 << 20):
+        with open(log, "ab") as file:
+            file.write(b"x" * (size - 1) + b"\n")
+        host = place.start("--log", log)
+        host.log_path = log
+        wait(lambda: os.path.exists(place.tool_path), "a host that has begun")
+        equal(host.end(), 0, "status")
+    equal(sorted(name for name in os.listdir(place.folder) if name.startswith("the.log")), ["the.log", "the.log.1"], "logs")
+    check(os.path.getsize(log) < 100000 and os.path.getsize(log + ".1") > 8 << 20, "the wrong log was put aside")
+    place.refused(place.start("--log", place.path("none/log")), 1, place.path("none/log"))
+
+
+@test
+@in_memory
+def the_time_of_day_beside_the_journal(place):
+    """Lines with the bytes of the journal so far and the time: one at each start, and one behind each 60th tick."""
+    lines = []
+    for run in (1, 2):
+        began = int(time.time())
+        host = place.host(tick=10)
+        read = lambda: content(place.journal + ".1.times").decode().splitlines()  # noqa: E731
+        wait(lambda: len(read()) >= len(lines) + 3, "three lines more in run %d" % run)
+        equal(host.end(), 0, "status")
+        records = history.split(content(place.journal))[0]
+        ends = [0, *itertools.accumulate(4 + len(payload) for _, payload in records)]
+        told = [(int(line.split()[0]), line.split()[1]) for line in read()[len(lines):]]
+        ticks = [sum(kind == TICK for kind, _ in records[ends.index(told[0][0]):ends.index(at)]) for at, _ in told]
+        equal(ticks, [60 * i for i in range(len(told))], "ticks of run %d before each line" % run)
+        times = [calendar.timegm(time.strptime(text, "%Y-%m-%dT%H:%M:%SZ")) for _, text in told]
+        check(began <= times[0] and times == sorted(times) and times[-1] <= time.time(), "times: %s", told)
+        lines = read()

@@ -12,8 +12,9 @@ import time
 
 import harness
 import tracing
-from harness import (BYTES, GOOD_SETTINGS, HANG_UP, OPEN, TICK, TIGHTENING, InTime, check, equal, history, identifier_record, in_memory,
-                     openprotocol, record, tell_and_acknowledge, test, tightening_fields, tightening_record)
+from harness import (BYTES, GOOD_SETTINGS, HANG_UP, OPEN, SCANNED, SETTINGS, TICK, TIGHTENING, WITH_SERIAL, InTime, check, content, done,
+                     equal, history, identifier_record, in_memory, openprotocol, record, tell_and_acknowledge, test, tightening_fields,
+                     tightening_record, with_serial)
 
 BAD = "7 tool record bad"
 
@@ -73,12 +74,12 @@ def tool_records_cut_and_joined(place):
             if end < size:
                 equal(server.fence(), [], "what is sent before a record is whole")
             begin = end
-        equal(tool.answer(), "0 done, taken by 0", "answer to a record cut at %s" % places)
+        equal(tool.answer(), done("0", number), "answer to a record cut at %s" % places)
         server.expect_result(tightening_fields(number), number)
     several, answers = b"", []
     for i in range(300):
         several += tightening_record(tightening_fields(number + 1 + i)) + record(5) + identifier_record("I %d" % i)
-        answers += ["0 done, taken by 0", BAD, "0 done, taken by none"]
+        answers += [done("0", number + 1 + i), BAD, "0 done, taken by none"]
     tool.send(several)
     equal([tool.answer() for _ in answers], answers, "answers to many records in one write")
     for i in range(300):
@@ -133,7 +134,7 @@ def several_tools(place):
             halves.append(data[50:])
         for tool, half in zip(tools, halves):
             number += 1
-            equal(tool.give(half), "0 done, taken by 0", "answer")
+            equal(tool.give(half), done("0", number), "answer")
             server.expect_result(tightening_fields(number), number)
             server.tell(openprotocol.ACKNOWLEDGE_RESULT)
             equal(server.fence(), [], "something besides")
@@ -223,6 +224,131 @@ def garbage_from_tools(place):
         server.tell(openprotocol.ACKNOWLEDGE_IDENTIFIER)
         runs += server.fence()
     place.finish(host, [server], place.replayed()[1])
+
+
+# ---- records with a serial
+
+@test
+def records_with_a_serial(place):
+    """A record whose serial is known is answered as it was first, by whichever tool it comes, and not taken again, over an end and a kill
+    too; its journal has plain records. A refused record, and what only looks like one with a serial, leave nothing behind."""
+    host = place.host()
+    server = place.server(host).subscribe(acknowledge=False)
+    servers, tool = [server], place.tool()
+    first, identifier = with_serial(1, tightening_record(tightening_fields(1))), with_serial(2, identifier_record("NAMED"))
+    for giver in (tool, tool, place.tool()):
+        equal(giver.give(first), done("0", 1), "answer to a tightening with a serial")
+        equal(giver.give(identifier), "0 done, taken by 0", "answer to an identifier with a serial")
+    equal(tool.give(with_serial(1, identifier_record("OTHER"))), done("0", 1), "answer to another record of a serial that is known")
+    server.expect_result(tightening_fields(1), 1)
+    equal(server.expect(openprotocol.IDENTIFIER)["identifier"], "NAMED", "identifier")
+    bad = [with_serial(3, tightening_record(tightening_fields(1, job=100))), record(WITH_SERIAL), record(WITH_SERIAL, bytes(19)),
+           record(WITH_SERIAL, bytes(16) + identifier_record("X")[:-1]), record(WITH_SERIAL, bytes(16) + identifier_record("X") + b"x"),
+           with_serial(3, with_serial(4, identifier_record("X"))), with_serial(3, record(OPEN))]
+    for i, data in enumerate(bad):
+        equal(tool.give(data), BAD, "answer to bad record %d" % i)
+    equal(tool.give(with_serial(3, tightening_record(tightening_fields(2)))), done("0", 2), "answer to a serial that was refused before")
+    server.expect_result(tightening_fields(2), 2)
+    equal(server.fence(), [], "something besides")
+    for end in (harness.Host.end, harness.Host.kill):
+        end(host)
+        host = place.host()
+        servers.append(place.server(host).subscribe(acknowledge=False))
+        tool = place.tool()
+        equal(tool.give(first), done("0", 1), "answer to a serial of an earlier run")
+        equal(tool.give(with_serial(3, b"")), BAD, "answer to a serial in front of nothing")
+        equal(tool.give(with_serial(3, record(0))), done("0", 2), "answer to the last serial of an earlier run")
+        equal(servers[-1].fence(), [], "something besides")
+    place.finish(host, servers, [7] * (len(bad) + 2))
+    kinds = [kind for kind, _ in place.journaled() if kind in (TIGHTENING, SCANNED)]
+    equal(kinds, [TIGHTENING, SCANNED, TIGHTENING, TIGHTENING], "what was journaled of them")  # the third is the refused one
+
+
+@test
+@in_memory
+def many_serials(place):
+    """The last 64 serials are known, in whichever run they came, and older ones are not; what is damaged of their file is left out."""
+    host = place.host()
+    tool = place.tool()
+    for i in range(1, 101):
+        equal(tool.give(with_serial(i, tightening_record(tightening_fields(i)))), done("none", i), "answer")
+    equal(host.end(), 0, "status")
+    with open(place.state + ".serials", "r+b") as file:  # serial 66 stands in the second line
+        file.seek(80)
+        file.write(b"?")
+    place.host()
+    tool = place.tool()
+    for i in [*range(37, 66), *range(67, 101)]:
+        equal(tool.give(with_serial(i, tightening_record(tightening_fields(i)))), done("none", i), "answer to serial %d" % i)
+    for k, i in enumerate((66, 36, 1)):
+        equal(tool.give(with_serial(i, tightening_record(tightening_fields(i)))), done("none", 101 + k), "answer to serial %d" % i)
+
+
+def told_again(place, serial, kill):
+    """A tightening with that serial, during which the host is killed, and which a further host is told again: the number that it got."""
+    host = place.host()
+    tool = place.tool()
+    kill(host, tool, with_serial(serial, tightening_record(tightening_fields(serial))))
+    host.kill()
+    host = place.host()
+    answer = place.tool().give(with_serial(serial, tightening_record(tightening_fields(serial))))
+    host.kill()
+    return int(re.fullmatch(r"0 done, taken by none, number (\d+)", answer).group(1))
+
+
+def check_told_again(place, numbers, kills):
+    """Each tightening stands in the journal once, under the number that was answered; a kill uses up one number at most."""
+    journaled, last = {}, 0
+    for kind, payload in place.journaled():
+        if kind == SETTINGS:
+            last = history.SETTINGS_FORM.unpack(payload)[4]
+        elif kind == TIGHTENING:
+            last += 1
+            journaled.setdefault(payload, []).append(last)
+    lost = sum(tightening_record(tightening_fields(serial))[4:] not in journaled for serial in numbers)
+    doubled = sum(len(given) - 1 for given in journaled.values())
+    unused = last - sum(map(len, journaled.values()))
+    place.said.append("%d kills, lost %d, doubled %d, %d numbers used up without being journaled" % (kills, lost, doubled, unused))
+    check(lost == doubled == 0 and unused <= kills, "%s", place.said[-1])
+    for serial, number in numbers.items():
+        equal(journaled[tightening_record(tightening_fields(serial))[4:]], [number], "the number of tightening %d" % serial)
+
+
+@test
+@tracing.traced
+def told_again_after_every_kill(place):
+    """A tightening with a serial, the host killed before each call of the system that it makes for it, and told again to the next."""
+    numbers, answered = {}, False
+
+    def kill(host, tool, data):
+        nonlocal answered
+        trace = tracing.Trace(host.process.pid)
+        tool.send(data)
+        for _ in range(len(numbers) + 1):
+            trace.next_call()
+            answered = answered or select.select([tool.link], [], [], 0)[0] != []
+
+    in_time = InTime("a kill before every call")
+    while not answered and in_time():
+        serial = len(numbers) + 1
+        numbers[serial] = told_again(place, serial, kill)
+    check_told_again(place, numbers, len(numbers))
+
+
+@test
+@in_memory
+def told_again_after_kills(place):
+    """The same with the host killed some time after it was told."""
+    source = random.Random(8)
+    numbers = {}
+
+    def kill(_, tool, data):
+        tool.send(data)
+        time.sleep(source.random() * 0.002)
+
+    for serial in range(1, max(12, place.count // 100) + 1):
+        numbers[serial] = told_again(place, serial, kill)
+    check_told_again(place, numbers, len(numbers))
 
 
 @test
@@ -380,11 +506,11 @@ def few_descriptors(place):
     tool.tighten(tightening_fields(1), "0")
     server.expect_result(tightening_fields(1), 1)
     greatest = resource.prlimit(host.process.pid, resource.RLIMIT_NOFILE)[1]
-    resource.prlimit(host.process.pid, resource.RLIMIT_NOFILE, (host.files() + 8, greatest))
+    resource.prlimit(host.process.pid, resource.RLIMIT_NOFILE, (host.lowest_free_file() + 8, greatest))
     for turned_away in (place.server(host), place.tool()):
         equal(turned_away.receive(), b"", "what one that is turned away is sent")
     equal(len(re.findall(r"(?:links|tool): a connection cannot be taken: too few", host.log())), 2, "lines that say so")
-    resource.prlimit(host.process.pid, resource.RLIMIT_NOFILE, (host.files(), greatest))
+    resource.prlimit(host.process.pid, resource.RLIMIT_NOFILE, (host.lowest_free_file(), greatest))
     waiting = [place.server(host), place.tool()]
     host.wait_for_log(r"links: a connection cannot be taken: Too many open files")
     ran, began = host.processor_seconds(), time.monotonic()

@@ -3,21 +3,30 @@
 import contextlib
 import os
 import random
+import re
 import socket
 
-from harness import CONTROLLER, GOOD_SETTINGS, Wrong, check, equal, openprotocol, test, tightening_fields, wait
+from harness import CONTROLLER, GOOD_SETTINGS, ROOT, Wrong, check, equal, openprotocol, test, tightening_fields, wait
 
-OPTIONS = ["--settings", "--state", "--new-state", "--listen", "--allow", "--links-of-an-address", "--tool", "--demo", "--demo-seconds",
-           "--journal", "--journal-size", "--tick-milliseconds", "--help"]
+OPTIONS = ["--settings", "--state", "--new-state", "--state-behind", "--listen", "--allow", "--links-of-an-address", "--tool", "--tool-mode",
+           "--tool-group", "--demo", "--demo-seconds", "--journal", "--journal-size", "--journal-keep", "--log", "--file-mode",
+           "--tick-milliseconds", "--version", "--help", "-h"]
 
 
 @test
 def help_says_it_all(place):
-    """--help names every option and ends with status 0."""
-    host = place.run("--help")
-    equal(host.status(), 0, "status")
+    """--help and -h name every option and end with status 0, and so does the man page; --version says the version."""
+    host, short, version = (place.run(option) for option in ("--help", "-h", "--version"))
+    equal([one.status() for one in (host, short, version)], [0, 0, 0], "status")
+    equal(short.log(), host.log(), "what -h says")
+    check(re.fullmatch(r"serifladder-host \d+\.\d+\n", version.log()), "--version says %r", version.log())
+    with open(os.path.join(ROOT, "host", "serifladder-host.8"), encoding="ascii") as file:
+        page = file.read().replace("\\-", "-")
     for option in OPTIONS:
         check(option in host.log(), "--help does not name %s:\n%s", option, host.log())
+        check(option in page, "the man page does not name %s", option)
+    for option in re.findall(r"(?<![\w-])--[a-z][a-z-]*", host.log()):
+        check(option in OPTIONS, "%s is in --help, but not tried here", option)
 
 
 @test
@@ -32,6 +41,10 @@ def bad_usage(place):
         (usual + ["further"], "further"),
         (usual + ["--listen"], "--listen"),
         (usual + ["--demo", "--tool", place.tool_path], "--tool"),
+        (usual + ["--tool-mode", "660"], "--tool-mode"),
+        (usual + ["--tool-group", "0"], "--tool-group"),
+        (usual + ["--journal-keep", "5"], "--journal-keep"),
+        (usual + ["--state-behind"], "--state-behind"),
     ]
     for option, values in {
         "--new-state": ["", "-1", "x", "1x", " 1", "4294967296", "99999999999999999999"],
@@ -40,9 +53,14 @@ def bad_usage(place):
         "--links-of-an-address": ["", "0", "5", "x"],
         "--tick-milliseconds": ["", "0", "-5", "x", "1.5"],
         "--journal-size": ["", "0", "-5", "x"],
+        "--journal-keep": ["", "0", "-5", "x"],
+        "--file-mode": ["", "8", "1000", "-1", "x", "00644"],
+        "--tool-mode": ["", "8", "1000", "-1", "x"],
+        "--tool-group": ["", "no such group", "-1", "4294967295", "root:"],
         "--demo-seconds": ["", "0", "-5", "x"],
     }.items():
-        needs = {"--demo-seconds": ["--demo"], "--journal-size": ["--journal", place.journal]}.get(option, [])
+        needs = {"--demo-seconds": ["--demo"], "--journal-size": ["--journal", place.journal], "--journal-keep": ["--journal", place.journal],
+                 "--tool-mode": ["--tool", place.tool_path], "--tool-group": ["--tool", place.tool_path]}.get(option, [])
         without = usual[:4] if option == "--new-state" else usual
         cases += [(without + needs + [option, value], option) for value in values]
     for arguments, word in cases:
