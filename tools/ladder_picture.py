@@ -10,18 +10,36 @@ from ladder_rows import CONTROLLER, TIGHTENED, TOOL
 
 
 @dataclass
-class Window:
-    """What is asked for: seconds, sessions (None: all), and one page of so many rows."""
+class Moment:
+    """A second, or a time of day."""
 
-    begin: int
-    end: int
+    value: int
+    of_day: bool = False
+
+    def of(self, row):
+        """The same of a row; None where its time of day is not known."""
+        return row.time if self.of_day else row.second
+
+
+@dataclass
+class Window:
+    """What is asked for: from which moment to which, sessions (None: all), and one page of so many rows."""
+
+    begin: Moment
+    end: Moment
     sessions: list
     page: int
     rows: int
 
-    def has(self, row):
-        if not self.begin <= row.second <= self.end:
-            return False
+    def is_before(self, row):
+        at = self.begin.of(row)
+        return at is None or at < self.begin.value
+
+    def is_behind(self, row):
+        at = self.end.of(row)
+        return at is not None and at > self.end.value
+
+    def concerns(self, row):
         return not self.sessions or row.concerns is None or any(session in self.sessions for session in row.concerns)
 
 
@@ -32,34 +50,41 @@ class Picture:
         self.title, self.window = title, window
         self.rows, self.folds, self.footers = [], [], []
         self.count = 0  # rows of all pages
-        self.at = window.begin
-        self.open = None  # the sessions that are open behind the last row
+        self.at = None if window.begin.of_day else window.begin.value  # the second of the row before
+        self.open = None  # the sessions that are open behind the last row of the page
 
     def show(self, row):
-        if not self.window.has(row):
-            if row.second > self.window.end and self.open is None:
-                self.open = row.open
+        if self.window.is_before(row):
             return
         page = self.count // self.window.rows + 1
+        if self.open is None and (page > self.window.page or self.window.is_behind(row)):
+            self.open = row.open
+        if self.window.is_behind(row) or not self.window.concerns(row):
+            return
         if page == self.window.page:
-            silent = row.second - self.at - row.ticked
+            silent = 0 if self.at is None else row.second - self.at - row.ticked
             self.folds.append(silent if silent > 1 else 0)  # a single one shows in the seconds at the left
             self.rows.append(row)
-        elif page > self.window.page and self.open is None:
-            self.open = row.open
         self.at = row.second
         self.count += 1
 
     def end(self, ladder):
         """Behind the last row of the journal."""
-        last = self.window.page == self.pages()
-        self.folds.append(max(0, min(self.window.end, ladder.second) - self.at) if last else 0)
+        is_last = self.window.page == self.pages()
+        until = self.silent_until(ladder.second)
+        self.folds.append(max(0, until - self.at) if is_last and self.at is not None else 0)
         if self.open is None:
             self.open = ladder.open
         self.footers = self.repeats()
-        if last and ladder.second <= self.window.end:
+        if is_last and until == ladder.second:
             self.footers += [held_words(notices) for notices in ladder.books.held()
                              if not self.window.sessions or notices[0].session in self.window.sessions]
+
+    def silent_until(self, last):
+        """The second up to which nothing happens behind the last row, within the window."""
+        if not self.window.end.of_day:
+            return min(self.window.end.value, last)
+        return last if self.open is None else self.at
 
     def pages(self):
         return max(1, -(-self.count // self.window.rows))

@@ -51,6 +51,7 @@ def time_of_day_is_drawn(place):
     """The rows of a journal have the time of day that the host noted at each of its starts."""
     began = time.time()
     for run in (1, 2):
+        time.sleep(run - 1)  # the second run has another time
         host = place.host()
         tell_and_acknowledge(place.tool(), place.server(host).subscribe(), run, run)
         host.wait_for_log("< 0062")
@@ -59,6 +60,13 @@ def time_of_day_is_drawn(place):
     check(len(rows) > 20 and all(when for when, _ in rows), "rows without a time: %s", rows)
     times = [time.strftime("%m-%d %H:%M:%S", time.gmtime(began + second)) for second in range(int(time.time() - began) + 2)]
     check(all(when in times for when, _ in rows), "a time that was not: %s, not among %s", rows, times)
+    year = time.strftime("%Y-", time.gmtime(began))
+    between = (rows[0][0], rows[-1][0])
+    windows = [drawn([place.journal, "--from", year + begin.replace(" ", "T"), "--to", year + end.replace(" ", "T")]) for begin, end in
+               (between, between[::-1], between[:1] * 2)]
+    equal(windows[0], rows, "from the first to the last time")
+    equal(windows[1], rows if len(set(between)) == 1 else [], "from the last to the first time")
+    equal(windows[2], [row for row in rows if row[0] == between[0]], "at the first time")
 
 
 @test

@@ -2,6 +2,7 @@
 """Tests tools/ladder over a test program.
 
     run.py PROGRAM            all tests
+    run.py PROGRAM --large    64 MiB of journal, drawn in less than 500 MB
     run.py PROGRAM --draw     draws the pictures of docs anew, of each story one as text and one as SVG
 
 Histories are written in the line form of vectors/history.py."""
@@ -12,6 +13,7 @@ import re
 import subprocess
 import sys
 import tempfile
+import time
 import xml.etree.ElementTree
 
 ROOT = os.path.join(os.path.dirname(os.path.abspath(__file__)), "..", "..")
@@ -575,19 +577,24 @@ def busy(results):
     return made(START + servers) + (one * 5 + record(TICK)) * (results // 5)
 
 
+# A process has at least the memory of the one that started it: so that is a small one.
+MEASURE = """import resource, subprocess, sys
+status = subprocess.run(sys.argv[2:], stdout=open(sys.argv[1], "wb")).returncode
+print(status, resource.getrusage(resource.RUSAGE_CHILDREN).ru_maxrss)"""
+
+
 def memory(data):
-    """The most memory, in KiB, that drawing a journal takes."""
+    """The most memory, in KiB, that drawing a page of a journal takes."""
     with tempfile.TemporaryDirectory() as folder:
         journal, drawn = os.path.join(folder, "journal"), os.path.join(folder, "drawn")
         with open(journal, "wb") as file:
             file.write(data)
-        with open(drawn, "wb") as out:
-            process = subprocess.Popen([LADDER, "--replay", program, "--svg", "--page", "2", journal], stdout=out)
-            _, status, used = os.wait4(process.pid, 0)
-            process.returncode = os.waitstatus_to_exitcode(status)
-        expect("status", process.returncode, 0)
-        expect("notices", b"page 2 of" in content(drawn), True)
-    return used.ru_maxrss
+        command = [sys.executable, "-c", MEASURE, drawn, LADDER, "--replay", program, "--svg", "--page", "2", journal]
+        said = subprocess.run(command, stdout=subprocess.PIPE, timeout=10 * SECONDS, check=True).stdout
+        status, used = map(int, said.split())
+        expect("status", status, 0)
+        expect("heading", b"page 2 of" in content(drawn), True)
+    return used
 
 
 def test_memory():
@@ -595,6 +602,15 @@ def test_memory():
     short, long = memory(busy(1000)), memory(busy(5000))
     if long > short + 4096:
         raise AssertionError("%d KiB for a journal, %d KiB for one five times as long" % (short, long))
+
+
+def draw_large():
+    """What four busy servers leave in a journal of 64 MiB."""
+    data = busy(320000)
+    began = time.monotonic()
+    used = memory(data)
+    print("ladder: a journal of %d bytes drawn in %d KiB of memory and %d s" % (len(data), used, time.monotonic() - began))
+    return 0 if len(data) >= 64 << 20 and used * 1024 < 500_000_000 else 1
 
 
 def test_growing():
@@ -645,6 +661,9 @@ def test_faults():
         for text, said in wrong:
             done = call(data=data, replay=script(folder, text))
             expect(text, (done.returncode, done.stdout, said in done.stderr.decode()), (1, b"", True))
+        done = call("--to", "2026-01-31T23:59", data=data)
+        expect("no times", (done.returncode, done.stdout, "no times of day" in done.stderr.decode()), (1, b"", True))
+        expect("no moment", call("--to", "noon", data=data).returncode, 2)
         table = script(folder, "no table")
         done = call("--table", table, data=data)
         expect("no table", (done.returncode, done.stdout, done.stderr.decode()), (1, b"", "ladder: %s is no table\n" % table))
@@ -664,6 +683,8 @@ def main(arguments):
             with open(path, "wb") as file:
                 file.write(drawn)
         return 0
+    if arguments[1:] == ["--large"]:
+        return draw_large()
     tests = [(name[5:].replace("_", " "), test) for name, test in globals().items() if name.startswith("test_")]
     wrong = 0
     for name, test in tests:
