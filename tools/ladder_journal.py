@@ -38,7 +38,7 @@ class Journal:
     journal can be drawn while it is written. What can't be read twice is copied first."""
 
     def __init__(self, names):
-        self.parts = []  # file and size
+        self.parts = []  # name, file and size
         self.times = []  # what the host noted beside the parts: a place in the journal, and the time of day in seconds
         self.size = 0
         for name in names or ["-"]:
@@ -46,17 +46,19 @@ class Journal:
                 file = sys.stdin.buffer if name == "-" else open(name, "rb")
                 if not os.path.isfile(file.fileno()) or name == "-":
                     file = copied(file)
-                self.times += [(self.size + at, time) for at, time in read_times(name)]
-                self.parts.append((file, os.fstat(file.fileno()).st_size))
-                self.size += self.parts[-1][1]
+                size = os.fstat(file.fileno()).st_size
+            self.times += [(self.size + at, when) for at, when in read_times(name)]
+            self.parts.append((name, file, size))
+            self.size += size
 
     def blocks(self):
-        for file, size in self.parts:
+        for name, file, size in self.parts:
             at = 0
             while at < size:
-                block = os.pread(file.fileno(), min(BLOCK, size - at), at)
+                with reading(name):
+                    block = os.pread(file.fileno(), min(BLOCK, size - at), at)
                 if not block:
-                    raise Fault("%s became shorter while it was read" % file.name)
+                    raise Fault("%s became shorter while it was read" % name)
                 yield block
                 at += len(block)
 

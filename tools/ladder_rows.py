@@ -382,6 +382,12 @@ class Ladder:
         time = None if self.zero is None else self.zero + self.second
         self.show(Row(self.second, time, self.started, self.ticked, self.open, origin, target, word, caption, source, **more))
 
+    def add_open(self, session, source, **more):
+        self.add(session, CONTROLLER, "open", "server %d calls in" % session, source, link=True, **more)
+
+    def add_hang_up(self, session, source, **more):
+        self.add(session, CONTROLLER, "hang-up", "the link of server %d is gone" % session, source, link=True, **more)
+
     def begin(self, table):
         """With the lent table, where no start comes first."""
         self.started, self.last = True, little(table[8:12])
@@ -423,9 +429,9 @@ class Ladder:
         if kind == SETTINGS:
             self.add(CONTROLLER, CONTROLLER, "start", partial(start_words, payload), **more)
         elif OPEN <= kind < HANG_UP:
-            self.add(kind - OPEN, CONTROLLER, "open", "server %d calls in" % (kind - OPEN), link=True, **more)
+            self.add_open(kind - OPEN, **more)
         elif HANG_UP <= kind < BYTES:
-            self.add(kind - HANG_UP, CONTROLLER, "hang-up", "the link of server %d is gone" % (kind - HANG_UP), link=True, **more)
+            self.add_hang_up(kind - HANG_UP, **more)
         elif BYTES <= kind < TICK:
             self.add(kind - BYTES, CONTROLLER, "bytes", count(len(payload), "byte"), **more)
         elif kind == TICK:
@@ -443,13 +449,12 @@ class Ladder:
                 self.end_session(session, "when the controller was started anew")
             self.last = history.SETTINGS_FORM.unpack(payload)[-1]
         elif OPEN <= kind < HANG_UP:
-            session = kind - OPEN
-            self.add(session, CONTROLLER, "open", "server %d calls in" % session, source, link=True)
-            self.open |= {session}
+            self.add_open(kind - OPEN, source)
+            self.open |= {kind - OPEN}
         elif HANG_UP <= kind < BYTES:
             session = kind - HANG_UP
             self.show_unended(session)
-            self.add(session, CONTROLLER, "hang-up", "the link of server %d is gone" % session, source, link=True)
+            self.add_hang_up(session, source)
             self.end_session(session, "when the link went")
         elif BYTES <= kind < TICK:
             self.take_bytes(kind - BYTES, payload, source)
