@@ -18,7 +18,7 @@ help:
 	@echo "make run     proves the library, builds the host around it, and starts that with a simulated tool on 127.0.0.1:4545"
 	@echo "make watch   a small line server that shows what the host sends; in another terminal"
 	@echo "make test    everything that the gate runs: layout, proofs, must-fail edits, the comparison with the implementation in C, the host"
-	@echo "make install header, archive, pkg-config file, host, serifladder-replay, ladder, watch, unit file and man pages, to PREFIX=$(PREFIX)"
+	@echo "make install the library for C, the host, serifladder-replay, ladder, watch, unit file and man pages, to PREFIX=$(PREFIX)"
 	@echo "make uninstall removes them"
 	@echo "make proved  proves every crate and lists the public functions"
 	@echo "make soak    a longer comparison: COUNT=2000 histories, a million calls, every planted fault; the host under load and with faults planted"

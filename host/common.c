@@ -89,14 +89,19 @@ int open_folder(const char *path)
     return opened;
 }
 
+bool same_file(const struct stat *one, const struct stat *other)
+{
+    return one->st_ino == other->st_ino && one->st_dev == other->st_dev;
+}
+
 bool same_place(const char *one, const char *other)
 {
     struct stat first, second;
     if (stat(one, &first) == 0 && stat(other, &second) == 0)
-        return first.st_ino == second.st_ino && first.st_dev == second.st_dev;
+        return same_file(&first, &second);
     int folders[] = { open_folder(one), open_folder(other) };
     bool same = strcmp(name_in_folder(one), name_in_folder(other)) == 0 && folders[0] >= 0 && folders[1] >= 0
-        && fstat(folders[0], &first) == 0 && fstat(folders[1], &second) == 0 && first.st_ino == second.st_ino && first.st_dev == second.st_dev;
+        && fstat(folders[0], &first) == 0 && fstat(folders[1], &second) == 0 && same_file(&first, &second);
     close(folders[0]);
     close(folders[1]);
     return same;

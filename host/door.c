@@ -2,6 +2,7 @@
 #include "host.h"
 
 #include <errno.h>
+#include <fcntl.h>
 #include <string.h>
 #include <sys/resource.h>
 #include <sys/socket.h>
@@ -14,11 +15,16 @@ struct pollfd door_poll(const struct door *door)
     return (struct pollfd){ .fd = now() < door->rests ? -1 : door->socket, .events = POLLIN };
 }
 
-/* Whether so few descriptors are left that this one, the lowest that was free, is to be given back. */
+/* Whether so few descriptors are left behind this one, the lowest that was free, that it is to be given back. */
 static bool is_spare(int descriptor)
 {
     struct rlimit limit;
-    return getrlimit(RLIMIT_NOFILE, &limit) == 0 && (rlim_t)descriptor + DESCRIPTORS_SPARE >= limit.rlim_cur;
+    unsigned left = 0;
+    if (getrlimit(RLIMIT_NOFILE, &limit) != 0)
+        return false;
+    for (rlim_t other = (rlim_t)descriptor + 1; other < limit.rlim_cur && left < DESCRIPTORS_SPARE; other++)
+        left += fcntl((int)other, F_GETFD) < 0;
+    return left < DESCRIPTORS_SPARE;
 }
 
 int door_take(struct door *door, struct sockaddr_in *address)

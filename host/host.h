@@ -74,6 +74,9 @@ bool lock_file(int file);
 const char *name_in_folder(const char *path);
 int open_folder(const char *path);
 
+struct stat;
+bool same_file(const struct stat *one, const struct stat *other);
+
 /* Whether two paths are one file, or would be if it were made. */
 bool same_place(const char *one, const char *other);
 

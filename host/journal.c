@@ -15,6 +15,7 @@
 #include <stdlib.h>
 #include <string.h>
 #include <sys/stat.h>
+#include <sys/statvfs.h>
 #include <time.h>
 #include <unistd.h>
 
@@ -294,7 +295,8 @@ static void cut_end(void)
     write_beside(CUT, bytes, earlier.rest);
     if (ftruncate(file, (off_t)earlier.whole) != 0)
         cannot("ended with its last whole record");
-    say("journal %s ended within a record: its last %zu bytes are now in %s.%" PRIu64 CUT, journal.path, earlier.rest, journal.path, number);
+    say("journal %s ended within a record: its last %zu bytes are now in %s.%" PRIu64 CUT, journal.path, earlier.rest, journal.path,
+        number);
 }
 
 /* Whether a start can be put behind what FILE has. A file that is no journal is put aside as it is; one whose last write was cut, by a
@@ -306,6 +308,26 @@ static bool goes_on(void)
     else if (earlier.rest > 0)
         cut_end();
     return earlier.rest == 0 && earlier.whole <= journal.size && (earlier.whole == 0 || earlier_started);
+}
+
+/* The parts may come to take more than the disk has room for: better said at the start than by the end of the host. */
+static void look_at_disk(void)
+{
+    struct statvfs disk;
+    struct stat found;
+    struct numbers there = numbers_there();
+    char name[PATH_MAX];
+    uint64_t more = journal.size > INT64_MAX / (journal.keep + 1) ? INT64_MAX : journal.size * (journal.keep + 1), taken = size;
+    for (size_t i = 0; i < there.count; i++) {
+        part_name(name, there.of[i], "");
+        if (stat(name, &found) == 0)
+            taken += (uint64_t)found.st_size;
+    }
+    free(there.of);
+    more -= taken < more ? taken : more;
+    if (fstatvfs(file, &disk) == 0 && disk.f_bavail < more / disk.f_frsize)
+        say("journal %s may come to take %" PRIu64 " bytes more, and its disk has room for %" PRIu64 ": give a smaller --journal-size or "
+            "--journal-keep", journal.path, more, (uint64_t)disk.f_bavail * disk.f_frsize);
 }
 
 void journal_open(void)
@@ -323,6 +345,7 @@ void journal_open(void)
     if (regular) {
         delete_oldest();
         note_time();
+        look_at_disk();
     }
 }
 
@@ -331,7 +354,7 @@ void journal_open(void)
 static bool stands_at_its_place(void)
 {
     struct stat found;
-    return stat(journal.path, &found) == 0 && found.st_ino == ours.st_ino && found.st_dev == ours.st_dev;
+    return stat(journal.path, &found) == 0 && same_file(&found, &ours);
 }
 
 void journal_prepare(const uint8_t *table)

@@ -283,7 +283,7 @@ uint64_t links_refused(void)
 }
 
 /* Why a peer may not have a link; NULL where it may. */
-static const char *why_refused(const struct sockaddr_in *peer)
+static const char *why_refused(const struct sockaddr_in *peer, bool room)
 {
     in_addr_t address = peer->sin_addr.s_addr;
     unsigned i = 0, open = 0;
@@ -291,6 +291,8 @@ static const char *why_refused(const struct sockaddr_in *peer)
         i++;
     if (allowed_count > 0 && i == allowed_count)
         return "its address is not allowed";
+    if (!room)
+        return "all four sessions are taken";
     for (unsigned s = 0; s < SERIFLADDER_SESSIONS; s++)
         open += links[s].socket >= 0 && links[s].address == address;
     return open < of_an_address ? NULL : "its address has as many links as one may have";
@@ -307,9 +309,7 @@ static void take_in(void)
     unsigned s = 0;
     while (s < SERIFLADDER_SESSIONS && links[s].socket >= 0)
         s++;
-    const char *why = why_refused(&address);
-    if (why == NULL && s == SERIFLADDER_SESSIONS)
-        why = "all four sessions are taken";
+    const char *why = why_refused(&address, s < SERIFLADDER_SESSIONS);
     if (why != NULL) {
         say("%s closed: %s", peer, why);
         refused += 1;

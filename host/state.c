@@ -50,8 +50,7 @@ static bool stands_as(int file, const char *which)
 {
     struct stat opened, found;
     errno = 0;
-    return fstat(file, &opened) == 0 && fstatat(folder, which, &found, AT_SYMLINK_NOFOLLOW) == 0
-        && found.st_ino == opened.st_ino && found.st_dev == opened.st_dev;
+    return fstat(file, &opened) == 0 && fstatat(folder, which, &found, AT_SYMLINK_NOFOLLOW) == 0 && same_file(&found, &opened);
 }
 
 static int open_lock(int exclusive)
@@ -72,7 +71,8 @@ static void hold_lock(void)
     if (stands_as(lock, name_locked))
         return;
     if (errno != ENOENT)
-        fail("state %s: another host has it, for %s.lock was removed or replaced; this one gives no number any more", state_path, state_path);
+        fail("state %s: another host has it, for %s.lock was removed or replaced; this one gives no number any more", state_path,
+             state_path);
     int anew = open_lock(O_EXCL);
     close(lock);
     lock = anew;
@@ -145,7 +145,8 @@ uint32_t state_open(const char *path, const uint32_t *fresh)
     if (there && !S_ISREG(found.st_mode))
         fail("state %s is not a regular file", path);
     if (fresh == NULL && !there)
-        fail("state %s is not there: --new-state NUMBER creates it, NUMBER being the last tightening number that was given (0 for none)", path);
+        fail("state %s is not there: --new-state NUMBER creates it, NUMBER being the last tightening number that was given (0 for none)",
+             path);
     uint32_t number = there ? read_state() : *fresh;
     remove_left_over();
     if (there && fresh != NULL)

@@ -53,6 +53,19 @@ STATE_MADE = """\
 SHARES = ("RUNS_AT_ONCE = 16,        /* of a link in a turn: what else has come waits for the next */\n"
           "    BYTES_A_SECOND = 262144,")
 
+LISTENS = "listen(door.socket, SOMAXCONN) != 0"
+LISTENED = """\
+        cannot_listen(address);
+    unblock(door.socket);
+}
+
+void links_ready(void)
+{
+    struct sockaddr_in address = { .sin_family = AF_INET };
+    socklen_t size = sizeof address;
+    char text[INET_ADDRSTRLEN + 8];
+    if (getsockname(door.socket, (struct sockaddr *)&address, &size) != 0"""
+
 # The fault, the test that finds it, the file, what stands there, and what is put in its place.
 FAULTS = [
     ("state not written", "killed-between-results", "calls.c", "state_keep(++last);", "++last;"),
@@ -63,8 +76,8 @@ FAULTS = [
      "    journal_record(kind, payload, length);\n    carry_out(answer.written);",
      "    carry_out(answer.written);\n    journal_record(kind, payload, length);"),
     ("a fifth let in", "four-servers-and-a-fifth", "links.c",
-     'say("%s closed: all four sessions are taken", peer);\n        close(socket);\n        return;',
-     'hang_up(&links[--s], "room is made");'),
+     "    const char *why = why_refused(&address, s < SERIFLADDER_SESSIONS);",
+     '    if (s == SERIFLADDER_SESSIONS)\n        hang_up(&links[--s], "room is made");\n    const char *why = why_refused(&address, true);'),
     ("rest of a slice not passed on", "many-messages-in-one-segment", "links.c",
      "for (size_t at = 0; at < (size_t)length && link->socket >= 0;) {", "for (size_t at = 0; at == 0 && link->socket >= 0;) {"),
     ("output of one session to another", "four-servers-and-a-fifth", "calls.c",
@@ -118,6 +131,7 @@ FAULTS = [
     ("the end of a cut journal lost", "a-journal-with-a-cut-end", "journal.c", "    write_beside(CUT, bytes, earlier.rest);",
      "    write_beside(CUT, bytes, 0);"),
     ("old parts not deleted", "a-peer-that-fills-the-journal", "journal.c", "i + journal.keep < there.count;", "i > there.count;"),
+    ("a small disk not looked at", "a-disk-that-is-too-small", "journal.c", "disk.f_bavail < more / disk.f_frsize", "disk.f_frsize == 0"),
     ("tables of deleted parts not deleted", "a-peer-that-fills-the-journal", "journal.c",
      "for (size_t e = 0; e < END_COUNT; e++)\n            remove_beside", "for (size_t e = 0; e < 1; e++)\n            remove_beside"),
     ("the table of a part kept too late", "parts-replayed-alone", "calls.c",
@@ -132,13 +146,13 @@ FAULTS = [
     ("the lock not looked at again", "a-lock-that-was-removed", "state.c", "    hold_lock();\n", "    (void)hold_lock;\n"),
     ("the journal's number not compared", "an-older-state", "main.c", "if (shown <= kept)", "if (shown <= kept || shown > 0)"),
     ("a journal that was removed is written on", "a-journal-that-is-removed", "journal.c",
-     "    return stat(journal.path, &found) == 0 && found.st_ino == ours.st_ino && found.st_dev == ours.st_dev;",
-     "    return stat(journal.path, &found) == 0 || ours.st_ino > 0;"),
+     "== 0 && same_file(&found, &ours);", "== 0 || ours.st_ino > 0;"),
     ("a reader is waited for against a signal", "a-journal-whose-reader-stops", "journal.c", "    if (signals_end())\n",
      "    if (signals_end() && signals_reopen())\n"),
-    ("a link followed to another file", "a-link-in-the-place-of-the-next-state", "state.c", "O_EXCL | O_NOFOLLOW | O_CLOEXEC, file_mode);\n    if (file",
-     "O_TRUNC | O_CLOEXEC, file_mode);\n    if (file"),
-    ("one file for two purposes", "one-file-for-two-purposes", "main.c", "for (size_t k = 0; k < i; k++)", "for (size_t k = i; k < i; k++)"),
+    ("a link followed to another file", "a-link-in-the-place-of-the-next-state", "state.c",
+     "O_EXCL | O_NOFOLLOW | O_CLOEXEC, file_mode);\n    if (file", "O_TRUNC | O_CLOEXEC, file_mode);\n    if (file"),
+    ("one file for two purposes", "one-file-for-two-purposes", "main.c", "for (size_t k = 0; k < i; k++)",
+     "for (size_t k = i; k < i; k++)"),
     ("a part number given twice", "the-last-part-number", "journal.c", "if (number > UINT32_MAX)", "if (number > UINT64_MAX - 1)"),
     ("a state that is there made anew", "a-missing-state", "state.c", "= there ? read_state() : *fresh;",
      "= there && fresh == NULL ? read_state() : *fresh;"),
@@ -147,6 +161,8 @@ FAULTS = [
     ("SIGHUP not heard", "log-and-journal-opened-again", "main.c", "            log_reopen();\n", "            continue;\n"),
     ("a full log not put aside", "a-log-that-is-full", "log.c", "file_size > FILE_GREATEST)", "file_size < 0)"),
     ("a time too late", "the-time-of-day-beside-the-journal", "journal.c", "TICKS_BETWEEN_TIMES = 60", "TICKS_BETWEEN_TIMES = 61"),
+    ("listens when the files are made", "two-hosts-at-once", "links.c",
+     " || %s)\n%s)" % (LISTENS, LISTENED), ")\n%s || %s)" % (LISTENED, LISTENS)),
     ("a state made though the port is taken", "an-address-in-use", "main.c", ADDRESS_TAKEN + STATE_MADE,
      STATE_MADE + ADDRESS_TAKEN),
 ]
@@ -181,7 +197,7 @@ def build(program, sources_name, file, text, options):
         source.write(text)
     with open(os.path.join(folder, "Makefile"), encoding="ascii") as makefile:
         said = makefile.read()
-    names = re.search(r"^%s := (.*)$" % sources_name, said, re.M).group(1).split()
+    names = re.search(r"^%s := ((?:.*\\\n)*.*)$" % sources_name, said, re.M).group(1).replace("\\\n", " ").split()
     if file not in names:
         return None
     flags = re.search(r"^STRICT := (.*)$", said, re.M).group(1).split()

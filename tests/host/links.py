@@ -109,11 +109,11 @@ def who_may_connect(place):
         return None
 
     host = place.host("--allow", "127.0.0.2/32", "--allow", "127.0.8.77/21", "--links-of-an-address", 2)
-    servers = [connect(host, address) for address in ("127.0.0.2", "127.0.8.0", "127.0.15.255")]
+    servers = [connect(host, address) for address in ("127.0.0.2", "127.0.8.0", "127.0.0.2")]
     for address in ("127.0.0.1", "127.0.0.3", "127.0.7.255", "127.0.16.0"):
         connect(host, address, "its address is not allowed")
-    servers.append(connect(host, "127.0.0.2"))
     connect(host, "127.0.0.2", "its address has as many links as one may have")
+    servers.append(connect(host, "127.0.15.255"))
     connect(host, "127.0.9.0", "all four sessions are taken")
     servers.pop(0).close()
     place.wait_for_hang_up(0)

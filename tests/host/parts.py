@@ -7,8 +7,9 @@ import signal
 import subprocess
 
 import generate
-from harness import SECONDS, Wrong, check, content, equal, in_memory, message, openprotocol, tell_and_acknowledge, test
+from harness import SECONDS, InTime, Skipped, Wrong, check, content, equal, in_memory, message, openprotocol, tell_and_acknowledge, test
 from journal import Play
+from kept import PAGE, small_disk
 
 SIZE, KEEP = 20000, 3
 RECORD_GREATEST = 4 + 8192
@@ -50,8 +51,8 @@ def a_peer_that_fills_the_journal(place):
         tool = place.tool()
         server = place.server(host).subscribe()
         bad = place.server(host)
-        while max(beside(place, ""), default=0) < 30 * run:
-            check(sent < 50_000_000, "after %d bytes there are only the parts %s", sent, beside(place, ""))
+        in_time = InTime("thirty parts")
+        while max(beside(place, ""), default=0) < 30 * run and in_time():
             try:
                 bad.send(b"x" * 60000)
             except ConnectionError:  # it may be hung up
@@ -204,7 +205,7 @@ def a_journal_whose_reader_stops(place):
     equal(printed, b"".join(b"0 S " + run.replace(b" ", b"_") + b"\n" for run in server.seen), "what the journal shows")
     server.link.settimeout(0.3)
     with contextlib.suppress(Wrong):
-        while True:
+        while server.fences < 100_000:
             server.fence()
     host.process.send_signal(signal.SIGTERM)
     place.refused(host, 1, place.journal)
@@ -229,3 +230,24 @@ def the_last_part_number(place):
     equal(content(place.journal + ".4294967294"), b"", "the part before the last")
     check(os.path.getsize(last) > 100, "the last part is not whole")
     equal({content(other) for other in others}, {b"another's"}, "files that are no parts")
+
+
+@test
+def a_disk_that_is_too_small(place):
+    """A journal that may come to take more than its disk has room for is told of at the start; one that fits is not, and goes on for good
+    beside a peer that sends and sends."""
+    disk = small_disk(place)
+    if not disk:
+        raise Skipped("no small disk can be mounted here")
+    place.journal = os.path.join(disk, "journal")
+    host = place.host()
+    host.wait_for_log("may come to take .* bytes more")
+    equal(host.end(), 0, "status")
+    host = place.host("--journal-size", 2 * PAGE, "--journal-keep", 1)
+    check("may come to take" not in host.log(), "a journal that fits is told of:\n%s", host.log())
+    server = place.server(host).start()
+    in_time = InTime("twenty parts")
+    while max(beside(place, ""), default=0) < 20 and in_time():
+        server.send(b"x" * 4000 + b"\0")
+        equal(server.fence(), [], "something besides")
+    equal(host.end(), 0, "status")

@@ -129,7 +129,8 @@ def one_file_for_two_purposes(place):
 
 @test
 def a_link_in_the_place_of_the_next_state(place):
-    """A symbolic link where the next number is written is not followed, at the start and later; what a killed host left there is removed."""
+    """A symbolic link where the next number is written is not followed, at the start and later; what a killed host left there is
+    removed."""
     victim = place.path("victim")
     with open(victim, "wb") as file:
         file.write(b"somebody needs this yet")

@@ -516,6 +516,7 @@ def few_descriptors(place):
     ran, began = host.processor_seconds(), time.monotonic()
     time.sleep(1)
     check(host.processor_seconds() - ran < (time.monotonic() - began) / 5, "the host runs without rest")
+    check(host.log().count("Too many open files") < 10, "the host tries again without rest")
     resource.prlimit(host.process.pid, resource.RLIMIT_NOFILE, (host.files() + 20, greatest))
     waiting[0].start()
     waiting[1].tighten(tightening_fields(2), "0")

@@ -8,9 +8,9 @@ import socket
 
 from harness import CONTROLLER, GOOD_SETTINGS, ROOT, Wrong, check, equal, openprotocol, test, tightening_fields, wait
 
-OPTIONS = ["--settings", "--state", "--new-state", "--state-behind", "--listen", "--allow", "--links-of-an-address", "--tool", "--tool-mode",
-           "--tool-group", "--demo", "--demo-seconds", "--journal", "--journal-size", "--journal-keep", "--log", "--file-mode",
-           "--tick-milliseconds", "--version", "--help", "-h"]
+OPTIONS = ["--settings", "--state", "--new-state", "--state-behind", "--listen", "--allow", "--links-of-an-address", "--tool",
+           "--tool-mode", "--tool-group", "--demo", "--demo-seconds", "--journal", "--journal-size", "--journal-keep", "--log",
+           "--file-mode", "--tick-milliseconds", "--version", "--help", "-h"]
 
 
 @test
@@ -59,8 +59,8 @@ def bad_usage(place):
         "--tool-group": ["", "no such group", "-1", "4294967295", "root:"],
         "--demo-seconds": ["", "0", "-5", "x"],
     }.items():
-        needs = {"--demo-seconds": ["--demo"], "--journal-size": ["--journal", place.journal], "--journal-keep": ["--journal", place.journal],
-                 "--tool-mode": ["--tool", place.tool_path], "--tool-group": ["--tool", place.tool_path]}.get(option, [])
+        needed = {"--demo-": ["--demo"], "--journa": ["--journal", place.journal], "--tool-": ["--tool", place.tool_path]}
+        needs = needed.get(option[:7], [])
         without = usual[:4] if option == "--new-state" else usual
         cases += [(without + needs + [option, value], option) for value in values]
     for arguments, word in cases:
