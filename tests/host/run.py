@@ -22,12 +22,12 @@ import notices  # noqa: F401
 import tool  # noqa: F401
 import journal  # noqa: F401
 import parts  # noqa: F401
+import drawing  # noqa: F401
 import kept  # noqa: F401
 import starts  # noqa: F401
 import usage  # noqa: F401
 import ends  # noqa: F401
 import watching  # noqa: F401
-import drawing  # noqa: F401
 import load  # noqa: F401
 
 WATCHDOG = 180  # seconds: no test takes so long, however slow the machine; more where more results are asked for
