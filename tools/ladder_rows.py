@@ -390,6 +390,7 @@ class Ladder:
 
     def begin(self, table):
         """With the lent table, where no start comes first."""
+        self.meet_times(0)
         self.started, self.last = True, little(table[8:12])
         for session in range(SESSIONS):
             lent = Lent(session, table[REGION * (1 + session):REGION * (2 + session)])
@@ -398,15 +399,19 @@ class Ladder:
                 self.books.begin(lent)
                 if lent.run():
                     self.runs[session] = lent.run()
-        self.add(CONTROLLER, CONTROLLER, "table", "the part before ended so: %s; last number %d" % (
-            "servers " + " ".join(map(str, sorted(self.open))) + " open" if self.open else "no server open", self.last), None)
+        servers = ", ".join("server %d" % session for session in sorted(self.open)) or "none"
+        self.add(CONTROLLER, CONTROLLER, "table", "goes on from the part before: open %s, last number %d" % (servers, self.last), None)
+
+    def meet_times(self, place):
+        """The times that were noted up to a place in the journal."""
+        while self.times and self.times[0][0] <= place:
+            self.zero = self.times.popleft()[1] - self.second
 
     def lose(self, session, caption):
         self.add(session, session, "lost", caption, None, lost=True)
 
     def take(self, piece):
-        while self.times and self.times[0][0] <= piece.place:
-            self.zero = self.times.popleft()[1] - self.second
+        self.meet_times(piece.place)
         refused = piece.refused()
         self.ticked = piece.kind == TICK and not refused
         if self.ticked:

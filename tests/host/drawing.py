@@ -39,7 +39,7 @@ def parts_drawn_alone(place):
         rows = drawn(parts[first:])
         if os.path.exists("%s.%d.table" % (place.journal, first + 1)):
             tables += 1
-            check(rows.pop(0)[1].startswith("table: the part before ended so: "), "no row for the table of part %d", first + 1)
+            check(rows.pop(0)[1].startswith("table: goes on from the part before: open "), "no row for the table of part %d", first + 1)
         equal([label for _, label in rows], [label for _, label in whole[len(whole) - len(rows):]], "from part %d on" % (first + 1))
         lost = max(lost, sum(label.startswith("lost: ") for _, label in rows))
     check(tables > 3 and lost > 3, "%d tables, %d lost: this shows too little", tables, lost)
