@@ -19,7 +19,8 @@ enum {
     WAITING_GREATEST = 65536,  /* so many bytes may wait for a peer that does not read */
     TOOL_CONNECTIONS = 8,      /* so many at once; a further one waits */
     LINKS_POLLED = 1 + SERIFLADDER_SESSIONS,
-    TOOL_POLLED = 1 + TOOL_CONNECTIONS
+    TOOL_POLLED = 1 + TOOL_CONNECTIONS,
+    STATUS_POLLED = 1
 };
 
 /* ---- log.c: the log, on standard error until it is opened */
@@ -99,6 +100,20 @@ bool waiting_add(struct waiting *waiting, const void *bytes, size_t length);
 /* Sends what is taken now. False with errno where the peer is gone. */
 bool waiting_send(struct waiting *waiting, int socket);
 
+/* ---- access.c: modes and groups, as options give them */
+bool read_mode(const char *text, mode_t *mode);   /* of octal digits */
+bool read_group(const char *text, gid_t *group);  /* of a number, or a name that /etc/group has */
+
+struct socket_access {
+    mode_t mode;
+    gid_t group; /* NO_GROUP: that of the host */
+};
+#define NO_GROUP ((gid_t)-1)
+
+/* Binds a socket so that nobody else has access at any time. False with errno where it cannot be. */
+struct sockaddr_un;
+bool bind_with(int socket, const struct sockaddr_un *address, const struct socket_access *access);
+
 /* ---- door.c: sockets that listen */
 
 struct door {
@@ -113,19 +128,8 @@ struct pollfd door_poll(const struct door *door);
 int door_take(struct door *door, struct sockaddr_in *address);
 void door_close(struct door *door);
 
-/* ---- access.c: modes and groups, as options give them */
-bool read_mode(const char *text, mode_t *mode);   /* of octal digits */
-bool read_group(const char *text, gid_t *group);  /* of a number, or a name that /etc/group has */
-
-struct socket_access {
-    mode_t mode;
-    gid_t group; /* NO_GROUP: that of the host */
-};
-#define NO_GROUP ((gid_t)-1)
-
-/* Binds a socket so that nobody else has access at any time. False with errno where it cannot be. */
-struct sockaddr_un;
-bool bind_with(int socket, const struct sockaddr_un *address, const struct socket_access *access);
+/* Makes a Unix socket at a path, which is removed when the host ends. Fails where it cannot be made. */
+void door_make(struct door *door, const char *path, const struct socket_access *access);
 
 /* ---- settings.c: the settings file as a settings record, its last number 0 */
 void settings_read(const char *path, uint8_t record[SETTINGS_RECORD]);
@@ -173,6 +177,9 @@ void journal_open(void);
 /* Before a call: puts a part that is full aside, begins one that was removed anew, and keeps the table beside what begins. */
 void journal_prepare(const uint8_t *table);
 void journal_record(unsigned kind, const uint8_t *payload, size_t length);
+
+/* How many files the journal has, the one that is written included. */
+uint64_t journal_parts(void);
 
 /* ---- replaying.c: a journal given to the library again */
 
@@ -229,6 +236,7 @@ const char *links_peer(unsigned session);
 bool links_allow(const char *text);
 void links_limit(unsigned links_of_an_address);
 uint64_t links_refused(void); /* so many were closed at once */
+size_t links_waiting(unsigned session); /* so many bytes wait to be sent */
 
 /* ---- sessions.c: what each session is, and the results that it holds, told from what came and went */
 
@@ -266,6 +274,11 @@ void tool_tick(void); /* a tick has passed: tools may be silent for too long, an
 enum { ANSWER_LINE = 80 };
 void tool_record(const uint8_t *serial, const uint8_t *record, size_t length, char line[ANSWER_LINE]);
 uint64_t tool_refused(void); /* so many records */
+
+/* ---- status.c: a Unix socket that answers with a line of JSON */
+void status_open(const char *path, const struct socket_access *access); /* no path: none */
+void status_poll(struct pollfd set[STATUS_POLLED]);
+void status_serve(const struct pollfd set[STATUS_POLLED]);
 
 /* ---- demo.c: a simulated tool; does one thing each time it is asked */
 void demo_step(void);

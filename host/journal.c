@@ -30,6 +30,7 @@ static int file = -1;
 static bool regular = true; /* a device or a FIFO is written as it stands, and never renamed */
 static struct stat ours;    /* FILE, as it was opened */
 static uint64_t size, number; /* of FILE: its bytes, and the number that it gets */
+static uint64_t parts;        /* so many there were, besides FILE, when it was begun */
 static struct replayed earlier; /* what was found in FILE at the start */
 static bool earlier_started;    /* and whether its calls can go on: it has a table, or a start */
 
@@ -220,7 +221,13 @@ static void delete_oldest(void)
         for (size_t e = 0; e < END_COUNT; e++)
             remove_beside(there.of[i], ENDS[e]);
     }
+    parts = there.count < journal.keep ? there.count : journal.keep;
     free(there.of);
+}
+
+uint64_t journal_parts(void)
+{
+    return file < 0 ? 0 : parts + 1;
 }
 
 /* ---- what is there at the start */

@@ -282,6 +282,11 @@ uint64_t links_refused(void)
     return refused;
 }
 
+size_t links_waiting(unsigned session)
+{
+    return links[session].waiting.length;
+}
+
 /* Why a peer may not have a link; NULL where it may. */
 static const char *why_refused(const struct sockaddr_in *peer, bool room)
 {

@@ -15,7 +15,7 @@
 static const char HELP[] =
     "serifladder-host --settings FILE --state FILE [--new-state NUMBER] [--listen ADDRESS:PORT]\n"
     "                 [--allow ADDRESS/BITS].. [--links-of-an-address N] [--tool PATH | --demo [--demo-seconds N]]\n"
-    "                 [--journal FILE] [--journal-size BYTES] [--journal-keep N] [--state-behind] [--log FILE]\n"
+    "                 [--journal FILE] [--journal-size BYTES] [--journal-keep N] [--state-behind] [--status PATH] [--log FILE]\n"
     "                 [--file-mode OCTAL] [--tool-mode OCTAL] [--tool-group GROUP] [--tick-milliseconds N] [--version] [--help]\n"
     "\n"
     "Keeps Open Protocol sessions with up to four line servers, and tells them what a tool does.\n"
@@ -40,6 +40,8 @@ static const char HELP[] =
     "  --journal-size BYTES   a journal that is longer is renamed to FILE.1, FILE.2 and so on, and a new one begun, with the\n"
     "                         lent table beside it in FILE.2.table, so that it can be replayed alone; 16777216 if not given\n"
     "  --journal-keep N       so many of these parts are kept, the oldest are deleted; 7 if not given\n"
+    "  --status PATH          a Unix stream socket is made at PATH, with the mode and the group of the tool's, that answers\n"
+    "                         each connection with a line of JSON: sessions, what waits, the last number, what was lost\n"
     "  --log FILE             the log goes there and not to standard error; longer than 8 MiB it is renamed to FILE.1\n"
     "  --file-mode OCTAL      the mode of the files that the host makes; 644 less the umask if not given\n"
     "  --tool-mode OCTAL      the mode of the tool's socket; 777 less the umask if not given\n"
@@ -54,7 +56,7 @@ static const char HELP[] =
 
 enum option {
     SETTINGS, STATE, NEW_STATE, STATE_BEHIND, LISTEN, ALLOW, LINKS_OF_AN_ADDRESS, TOOL, DEMO, DEMO_SECONDS, JOURNAL, JOURNAL_SIZE,
-    JOURNAL_KEEP, LOG, FILE_MODE, TOOL_MODE, TOOL_GROUP, TICK_MILLISECONDS, OPTION_COUNT
+    JOURNAL_KEEP, STATUS, LOG, FILE_MODE, TOOL_MODE, TOOL_GROUP, TICK_MILLISECONDS, OPTION_COUNT
 };
 
 static const struct {
@@ -74,6 +76,7 @@ static const struct {
     [JOURNAL] = { "--journal", true },
     [JOURNAL_SIZE] = { "--journal-size", true },
     [JOURNAL_KEEP] = { "--journal-keep", true },
+    [STATUS] = { "--status", true },
     [LOG] = { "--log", true },
     [FILE_MODE] = { "--file-mode", true },
     [TOOL_MODE] = { "--tool-mode", true },
@@ -131,7 +134,7 @@ static void read_options(int count, char **arguments)
 /* No file may be given for two purposes: one would be written over the other. */
 static void check_places(void)
 {
-    static const enum option PLACES[] = { SETTINGS, STATE, TOOL, JOURNAL, LOG };
+    static const enum option PLACES[] = { SETTINGS, STATE, TOOL, JOURNAL, STATUS, LOG };
     enum { COUNT = sizeof PLACES / sizeof PLACES[0] };
     for (size_t i = 0; i < COUNT; i++)
         for (size_t k = 0; k < i; k++)
@@ -227,7 +230,8 @@ static int milliseconds_until(int64_t next)
     return left <= 0 ? 0 : (int)((left + MILLISECOND - 1) / MILLISECOND);
 }
 
-enum { LINKS = 1, TOOL_SET = LINKS + LINKS_POLLED, ALL = TOOL_SET + TOOL_POLLED }; /* places in what is polled */
+/* Places in what is polled. */
+enum { LINKS = 1, TOOL_SET = LINKS + LINKS_POLLED, STATUS_SET = TOOL_SET + TOOL_POLLED, ALL = STATUS_SET + STATUS_POLLED };
 
 /* Polls what has a descriptor: the system takes no longer list than the process may have descriptors. */
 static int poll_open(struct pollfd set[ALL], int milliseconds)
@@ -253,6 +257,7 @@ static void run(struct timer tick, struct timer demo)
         set[0] = (struct pollfd){ .fd = signals_descriptor(), .events = POLLIN };
         links_poll(set + LINKS);
         tool_poll(set + TOOL_SET);
+        status_poll(set + STATUS_SET);
         while (poll_open(set, ticks ? 0 : milliseconds_until(next)) < 0)
             if (errno != EINTR)
                 fail("poll: %s", strerror(errno));
@@ -262,6 +267,7 @@ static void run(struct timer tick, struct timer demo)
             log_reopen();
         links_serve(set + LINKS);
         tool_serve(set + TOOL_SET);
+        status_serve(set + STATUS_SET);
         if (ticks) {
             call_tick();
             tool_tick();
@@ -298,8 +304,7 @@ int main(int count, char **arguments)
     struct timer demo = { .what = "bolts", .period = given[DEMO] == NULL ? 0 : (int64_t)number_of(DEMO_SECONDS, 1, 86400, 3) * SECOND };
     links_limit((unsigned)number_of(LINKS_OF_AN_ADDRESS, 1, SERIFLADDER_SESSIONS, SERIFLADDER_SESSIONS));
     struct sockaddr_in address = address_of(given[LISTEN] == NULL ? "127.0.0.1:4545" : given[LISTEN]);
-
-    struct socket_access tool = read_access();
+    struct socket_access access = read_access();
 
     check_places();
     keep_standard_streams();
@@ -317,7 +322,8 @@ int main(int count, char **arguments)
     if (given[JOURNAL] != NULL)
         journal_open();
     call_start(settings, last);
-    tool_open(given[TOOL], &tool);
+    tool_open(given[TOOL], &access);
+    status_open(given[STATUS], &access);
     say("the last tightening number is %u", last);
     links_ready();
     tick.next = now() + tick.period;

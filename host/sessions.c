@@ -116,7 +116,7 @@ static void accepted(unsigned s, unsigned message)
         break;
     case 63:
         drop_held(s, "its subscription is ended");
-        state->results = false;
+        state->results = state->acknowledges = false;
         break;
     }
 }

@@ -8,7 +8,6 @@
 #include <string.h>
 #include <sys/socket.h>
 #include <sys/stat.h>
-#include <sys/un.h>
 #include <unistd.h>
 
 enum {
@@ -240,33 +239,8 @@ static void send_answers(struct source *source)
 
 /* ---- the door */
 
-/* A socket file that nobody listens on any more is removed; anything else that stands there is left alone. */
-static void make_way(const struct sockaddr_un *address)
-{
-    struct stat found;
-    if (lstat(tool_path, &found) != 0) {
-        if (errno != ENOENT)
-            fail("tool %s: %s", tool_path, strerror(errno));
-        return;
-    }
-    if (!S_ISSOCK(found.st_mode))
-        fail("tool %s is neither a FIFO nor a socket", tool_path);
-    int asked = socket(AF_UNIX, SOCK_STREAM, 0);
-    if (connect(asked, (const struct sockaddr *)address, sizeof *address) == 0)
-        fail("tool %s is in use by another host", tool_path);
-    if (errno != ECONNREFUSED || unlink(tool_path) != 0)
-        fail("tool %s cannot be replaced: %s", tool_path, strerror(errno));
-    close(asked);
-}
-
-static void remove_door(void)
-{
-    unlink(tool_path);
-}
-
 void tool_open(const char *path, const struct socket_access *access)
 {
-    struct sockaddr_un address = { .sun_family = AF_UNIX };
     struct stat found;
     tool_path = path;
     for (unsigned i = 0; i < TOOL_CONNECTIONS; i++)
@@ -280,15 +254,9 @@ void tool_open(const char *path, const struct socket_access *access)
             fail("tool %s cannot be opened: %s", path, why);
         return;
     }
-    if (strlen(path) >= sizeof address.sun_path)
-        fail("tool %s: the path of a socket has at most %zu bytes", path, sizeof address.sun_path - 1);
-    memcpy(address.sun_path, path, strlen(path));
-    make_way(&address);
-    door.socket = socket(AF_UNIX, SOCK_STREAM, 0);
-    if (door.socket < 0 || !bind_with(door.socket, &address, access) || listen(door.socket, SOMAXCONN) != 0)
-        fail("tool %s: no socket can be made there: %s", path, strerror(errno));
-    atexit(remove_door);
-    unblock(door.socket);
+    if (stat(path, &found) == 0 && !S_ISSOCK(found.st_mode))
+        fail("tool %s is neither a FIFO nor a socket", path);
+    door_make(&door, path, access);
 }
 
 static struct source *free_source(void)

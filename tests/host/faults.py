@@ -77,7 +77,8 @@ FAULTS = [
      "    carry_out(answer.written);\n    journal_record(kind, payload, length);"),
     ("a fifth let in", "four-servers-and-a-fifth", "links.c",
      "    const char *why = why_refused(&address, s < SERIFLADDER_SESSIONS);",
-     '    if (s == SERIFLADDER_SESSIONS)\n        hang_up(&links[--s], "room is made");\n    const char *why = why_refused(&address, true);'),
+     '    if (s == SERIFLADDER_SESSIONS)\n        hang_up(&links[--s], "room is made");\n'
+     "    const char *why = why_refused(&address, true);"),
     ("rest of a slice not passed on", "many-messages-in-one-segment", "links.c",
      "for (size_t at = 0; at < (size_t)length && link->socket >= 0;) {", "for (size_t at = 0; at == 0 && link->socket >= 0;) {"),
     ("output of one session to another", "four-servers-and-a-fifth", "calls.c",
@@ -108,6 +109,8 @@ FAULTS = [
      "if (serial != NULL && serial_known(serial, &number, &taken)) {",
      "number = 0;\n    taken = 0;\n    if (serial != NULL && number > taken) {"),
     ("serials forgotten with the host", "records-with-a-serial", "serials.c", "        put_line(next, line);\n", ""),
+    ("a status that tells of another session", "the-status", "status.c", "session_state(s);", "session_state(s ^ 1);"),
+    ("the number not answered", "the-status", "tool.c", "numbered ? last_number() : 0);", "0 * (uint32_t)numbered);"),
     ("stale output kept over a hang-up", "a-peer-that-stops-reading", "links.c", "    link->waiting.length = 0;\n", ""),
     ("a hang-up that the library is not told", "a-link-cut-with-a-notice-open", "links.c",
      "    call_hang_up((unsigned)(link - links));\n    close_link(link, why);", "    close_link(link, why);"),

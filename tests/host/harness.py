@@ -290,6 +290,7 @@ class Server(Link):
         link.setsockopt(socket.IPPROTO_TCP, socket.TCP_NODELAY, 1)
         super().__init__(link)
         link.connect(("127.0.0.1", host.port))
+        self.port = link.getsockname()[1]
         self.stream = openprotocol.Stream()
         self.waiting = collections.deque()
         self.seen = []

@@ -1,8 +1,10 @@
 """The journal: replay prints of it what the servers saw."""
 
+import collections
 import contextlib
 import os
 import random
+import re
 import select
 import socket
 import time
@@ -21,6 +23,7 @@ class Play:
         self.place, self.source = place, random.Random(seed)
         self.servers = []  # in the order in which they were let in
         self.number = self.refused = 0
+        self.answers = []  # to the tightenings
 
     def here(self):
         return [server for server in self.servers if server.open]
@@ -84,7 +87,7 @@ class Play:
             self.leave(self.source.choice(here))
         elif chance < 0.3:
             self.number += 1
-            self.tool.give(tightening_record(tightening_fields(self.number)))
+            self.answers.append(self.tool.give(tightening_record(tightening_fields(self.number))))
         elif chance < 0.4:
             self.tool.give(identifier_record("CAR %d" % self.source.randrange(1000)))
         elif chance < 0.42:
@@ -109,10 +112,45 @@ class Play:
         return self.place.replayed()[0]
 
 
+    def taken(self):
+        """The results that were taken, as (server, number)."""
+        servers, answers, now = iter(self.servers), iter(self.answers), {}
+        for kind, payload in self.place.journaled():
+            if OPEN <= kind < HANG_UP:
+                now[kind - OPEN] = next(servers)
+            elif kind == TIGHTENING:
+                sessions, number = re.fullmatch(r"0 done, taken by (none|[0-3 ]+), number (\d+)", next(answers)).groups()
+                yield from ((now[int(session)], int(number)) for session in sessions.split() if session != "none")
+
+    def check_losses(self):
+        """Each result that was taken came to its server, or a line of the log says that it was not sent; no line says so of one that came.
+        Answers how many results each sort of line was of."""
+        lines = {(int(port), int(number)): how for port, number, how in
+                 re.findall(r"Z session \d [0-9.]+:(\d+): result (\d+) ([a-z ,]+): ", self.host.log())}
+        counts = collections.Counter()
+        for server, number in self.taken():
+            copies = sum(run[4:8] == b"0061" and int(run[-10:]) == number for run in server.seen)
+            how = lines.get((server.port, number))
+            counts[how] += 1
+            unread = not server.reads_all and copies == 0
+            if how == "dropped, not sent":
+                equal(copies, 0, "copies of result %d, which a line says was not sent" % number)
+            elif how == "given up":
+                check(copies == 6 or not server.reads_all, "%d copies of result %d, which was given up", copies, number)
+            else:
+                check(copies > 0 or unread, "result %d did not come to its server, and the log says %s", number, how)
+        return counts
+
+
 @test
 def the_journal_replays(place):
-    """Four servers that come and go, are cut and time out: replay prints of the journal what each of them saw."""
-    openings = Play(place, 3).run(900)
+    """Four servers that come and go, are cut and time out: replay prints of the journal what each of them saw, and the log tells of each
+    result that did not come to them."""
+    play = Play(place, 3)
+    openings = play.run(900)
+    losses = play.check_losses()
+    place.said.append(", ".join("%d %s" % (count, how or "received") for how, count in losses.items()))
+    check(min(losses["dropped, not sent"], losses["dropped, sent but not acknowledged"], losses[None]) > 3, "too few: this shows too little")
     timed_out = sum(opening.closed() for opening in openings)
     place.said.append("%d openings, %d timed out, %d frames" % (len(openings), timed_out, sum(len(o.frames()) for o in openings)))
     check(timed_out >= 3, "too few timed out: this shows too little")

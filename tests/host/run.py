@@ -28,6 +28,7 @@ import starts  # noqa: F401
 import usage  # noqa: F401
 import ends  # noqa: F401
 import watching  # noqa: F401
+import status  # noqa: F401
 import load  # noqa: F401
 
 WATCHDOG = 180  # seconds: no test takes so long, however slow the machine; more where more results are asked for

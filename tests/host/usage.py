@@ -9,8 +9,8 @@ import socket
 from harness import CONTROLLER, GOOD_SETTINGS, ROOT, Wrong, check, equal, openprotocol, test, tightening_fields, wait
 
 OPTIONS = ["--settings", "--state", "--new-state", "--state-behind", "--listen", "--allow", "--links-of-an-address", "--tool",
-           "--tool-mode", "--tool-group", "--demo", "--demo-seconds", "--journal", "--journal-size", "--journal-keep", "--log",
-           "--file-mode", "--tick-milliseconds", "--version", "--help", "-h"]
+           "--tool-mode", "--tool-group", "--demo", "--demo-seconds", "--journal", "--journal-size", "--journal-keep", "--status",
+           "--log", "--file-mode", "--tick-milliseconds", "--version", "--help", "-h"]
 
 
 @test

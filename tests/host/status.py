@@ -1,0 +1,124 @@
+"""The host's status, and the example tools."""
+
+import contextlib
+import json
+import os
+import socket
+import subprocess
+import sys
+import time
+
+import harness
+from harness import ROOT, check, equal, in_memory, openprotocol, record, test, tightening_fields
+
+CLOSED = {"phase": "closed"}
+
+
+def status(place):
+    """What the status socket answers, which is one line."""
+    with socket.socket(socket.AF_UNIX) as link:
+        link.settimeout(harness.SECONDS)
+        link.connect(place.path("status"))
+        with link.makefile() as answer:
+            line, rest = answer.readline(), answer.read()
+    equal(rest, "", "what follows the line")
+    return json.loads(line)
+
+
+def sessions(place):
+    """The sessions of the status: of each what is told of it but its number, which is its place."""
+    told = status(place)["sessions"]
+    equal([session.pop("session") for session in told], list(range(4)), "numbers of the sessions")
+    return told
+
+
+@test
+@in_memory
+def the_status(place):
+    """It tells of each session its peer, phase, subscriptions and what waits, and the last number, parts, losses and refusals."""
+    host = place.host("--status", place.path("status"), "--new-state", 5, "--journal-size", 400, "--links-of-an-address", 3)
+    equal(sessions(place), [CLOSED] * 4, "sessions before anybody came")
+    began = time.monotonic()
+    server, other = place.server(host), place.server(host)
+    peers = ["127.0.0.1:%d" % one.link.getsockname()[1] for one in (server, other)]
+    other.subscribe(acknowledge=False)
+    nothing = {"identifiers": False, "results": False, "acknowledges": False, "held": [], "bytes_waiting": 0}
+    quick = {"phase": "started", "peer": peers[1], **nothing, "identifiers": True, "results": True}
+    equal(sessions(place), [{"phase": "opened", "peer": peers[0], **nothing}, quick, CLOSED, CLOSED], "sessions")
+    server.subscribe()
+    slow = {"phase": "started", "peer": peers[0], **nothing, "identifiers": True, "results": True, "acknowledges": True}
+    tool = place.tool()
+    for i in range(9):
+        tool.tighten(tightening_fields(i), "0 1" if i < 8 else "1")
+    equal(sessions(place), [{**slow, "held": list(range(6, 14))}, quick, CLOSED, CLOSED], "sessions with eight results held")
+    server.fence()
+    server.tell(openprotocol.ACKNOWLEDGE_RESULT)
+    server.expect_result(tightening_fields(1), 7)
+    equal(sessions(place)[0]["held"], list(range(7, 14)), "results held after an acknowledge")
+    server.accepted(openprotocol.UNSUBSCRIBE_IDENTIFIERS)
+    server.accepted(openprotocol.UNSUBSCRIBE_RESULTS)
+    equal(sessions(place)[0], {**slow, "identifiers": False, "results": False, "acknowledges": False}, "a session that unsubscribed")
+    server.accepted(openprotocol.STOP)
+    equal(sessions(place)[0], {"phase": "opened", "peer": peers[0], **nothing}, "a session that was stopped")
+    tool.give(record(5))
+    place.server(host)
+    equal(place.server(host).until_closed(), [], "what one too many is sent")
+    told = status(place)
+    told.pop("sessions")
+    uptime = told.pop("uptime_seconds")
+    check(0 <= uptime <= time.monotonic() - began + 2, "uptime %d s", uptime)
+    parts = len([name for name in os.listdir(place.folder) if name.startswith("journal") and name[7:].strip(".0123456789") == ""])
+    equal(told, {"last_number": 14, "results_not_taken": 1, "results_given_up": 0, "results_dropped": 7, "links_refused": 1,
+                 "tool_records_refused": 1, "journal_parts": parts}, "status")
+    check(parts > 2, "only %d parts: this shows too little", parts)
+    server.close()
+    place.wait_for_hang_up(0)
+    equal(sessions(place)[0], CLOSED, "a session whose peer left")
+    equal(host.end(), 0, "status of the host")
+    check(not os.path.exists(place.path("status")), "the status's socket file stands yet")
+
+
+@test
+def the_status_of_others(place):
+    """Who asks and does not read, sends something, or leaves at once holds nothing up; a file in the socket's place is left alone."""
+    host = place.host("--status", place.path("status"), journal=False)
+    server = place.server(host).start()
+    links = [socket.socket(socket.AF_UNIX) for _ in range(60)]
+    for i, link in enumerate(links):
+        link.connect(place.path("status"))
+        if i % 3 == 0:
+            with contextlib.suppress(ConnectionError):
+                link.send(b"?" * 1000)
+        if i % 3 == 1:
+            link.close()
+        equal(server.fence(), [], "something besides")
+    equal(status(place)["journal_parts"], 0, "parts of a journal that is not written")
+    for link in links:
+        link.close()
+    equal(host.end(), 0, "status")
+    with open(place.path("status"), "w", encoding="ascii") as file:
+        file.write("something")
+    place.refused(place.start("--status", place.path("status")), 1, place.path("status"))
+    equal(os.path.getsize(place.path("status")), 9, "bytes of a file that stood there")
+
+
+@test
+def example_tools(place):
+    """The example tools, in Python and in C, send a tightening and show the answer; each has some thirty lines."""
+    host = place.host()
+    server = place.server(host).subscribe(acknowledge=False)
+    examples = os.path.join(ROOT, "host", "examples")
+    compiled = place.path("example")
+    subprocess.run(["gcc", "-std=c11", "-D_XOPEN_SOURCE=700", "-Wall", "-Wextra", "-Werror", "-o", compiled,
+                    os.path.join(examples, "tool.c")], check=True)
+    for number, command in enumerate(([sys.executable, os.path.join(examples, "tool.py")], [compiled]), 1):
+        for path, status_wanted in ((place.tool_path, 0), (place.path("nowhere"), 1)):
+            done = subprocess.run([*command, path], stdout=subprocess.PIPE, stderr=subprocess.DEVNULL, encoding="ascii", check=False,
+                                  timeout=harness.SECONDS)
+            equal(done.returncode, status_wanted, "status of %s" % command)
+            equal(done.stdout, "" if status_wanted else "0 done, taken by 0, number %d\n" % number, "what %s shows" % command)
+        result = server.expect(openprotocol.RESULT)
+        wanted = {"identifier": "BODY 000001", "job": 1, "parameter_set": 7, "batch_size": 4, "batch_counter": 1, "torque_min": 2250,
+                  "torque": 2493, "angle_target": 90, "angle": 88, "number": number}
+        equal({name: result[name] for name in wanted}, wanted, "result of %s" % command)
+    equal(server.fence(), [], "something besides")
