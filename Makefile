@@ -47,10 +47,10 @@ run: host
 	@mkdir -p $(DEMO)
 	@echo "The host begins, with a simulated tool; Ctrl-C ends it. Its log follows: < is received from a session, > is sent to it."
 	@echo "In another terminal:"
-	@echo "  make watch                                                     a line server that shows each result"
-	@echo "  tests/x86-64 --kit target/bin/replay < $(DEMO)/journal     the journal: what was sent in this run"
-	@exec tests/x86-64 target/host/serifladder-host --settings host/demo.settings --state $(DEMO)/state \
-	  $$(test -e $(DEMO)/state || echo --new-state 0) --journal $(DEMO)/journal --demo
+	@echo "  make watch                          a line server that shows each result"
+	@echo "  tools/ladder $(DEMO)/journal    the journal drawn: what was sent to whom, and what was lost; --svg for a picture"
+	@exec tests/x86-64 target/host/serifladder-host --settings host/demo.settings --state $(DEMO)/state --new-state 0 \
+	  --journal $(DEMO)/journal --demo
 
 watch:
 	@exec tools/watch

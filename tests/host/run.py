@@ -23,6 +23,7 @@ import notices  # noqa: F401
 import tool  # noqa: F401
 import journal  # noqa: F401
 import parts  # noqa: F401
+import drawing  # noqa: F401
 import kept  # noqa: F401
 import starts  # noqa: F401
 import usage  # noqa: F401

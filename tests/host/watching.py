@@ -130,5 +130,41 @@ def watch_with_another_controller(place):
         link = accept()
         link.send(openprotocol.message(openprotocol.REFUSED, data=b"000197"))
         watch.wait_for("link lost: 0001 refused with error 97, revision not supported")
-        accept().close()
+        link = accept()
+        link.send(started)
+        expect(link, openprotocol.SUBSCRIBE_IDENTIFIERS, openprotocol.SUBSCRIBE_RESULTS)
+        link.close()
         watch.wait_for("link lost: closed by the controller")
+        accept().close()
+        watch.wait_for("turned away by 127.0.0.1:%d: it closed the link before it answered." % door.getsockname()[1])
+
+
+@test
+def watch_turned_away(place):
+    """Where all four sessions are taken watch says once that it is turned away, and goes on trying until one is free."""
+    host = place.host()
+    servers = [place.server(host).start() for _ in range(harness.SESSIONS)]
+    watch = Watch(place, "--connect", "127.0.0.1:%d" % host.port)
+    watch.wait_for("turned away by 127.0.0.1:%d: it closed the link before it answered. All its four sessions are taken" % host.port)
+    away = "closed: (all four sessions are taken|its address has as many links as one may have)"
+    host.wait_for_log("(?s)%s.*%s" % (away, away))
+    equal(len(watch.lines()), 1, "lines of a watch that was turned away twice: %s" % watch.lines())
+    servers[2].close()
+    watch.wait_for("connected to 127.0.0.1:%d" % host.port)
+
+
+@test
+def watch_shows_before_it_acknowledges(place):
+    """A result that can't be shown is not acknowledged."""
+    host = place.host()
+    tool = place.tool()
+    command = [os.path.join(ROOT, "tools", "watch"), "--connect", "127.0.0.1:%d" % host.port]
+    watch = subprocess.Popen(command, stdout=subprocess.PIPE)
+    place.links.callback(watch.kill)
+    check(watch.stdout.readline().startswith(b"connected"), "watch does not connect")
+    host.wait_for_log("> 0005(?s:.*)> 0005")
+    watch.stdout.close()
+    tool.tighten(tightening_fields(1), "0")
+    equal(watch.wait(harness.SECONDS), 1, "status of a watch that nobody reads")
+    place.wait_for_hang_up(0)
+    check("> 0061" in host.log() and "< 0062" not in host.log(), "a result that nobody saw is acknowledged:\n%s", host.log())

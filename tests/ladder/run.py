@@ -2,7 +2,8 @@
 """Tests tools/ladder over a test program.
 
     run.py PROGRAM            all tests
-    run.py PROGRAM --draw     draws docs/came-back.txt and docs/came-back.svg anew
+    run.py PROGRAM --large    64 MiB of journal, drawn in less than 500 MB
+    run.py PROGRAM --draw     draws the pictures of docs anew, of each story one as text and one as SVG
 
 Histories are written in the line form of vectors/history.py."""
 
@@ -12,18 +13,24 @@ import re
 import subprocess
 import sys
 import tempfile
+import time
 import xml.etree.ElementTree
 
 ROOT = os.path.join(os.path.dirname(os.path.abspath(__file__)), "..", "..")
 TESTS = os.path.join(ROOT, "tests")
-sys.path.insert(0, os.path.join(TESTS, "vectors"))
-sys.path.insert(0, os.path.join(TESTS, "histories"))
+sys.path[:0] = [os.path.join(ROOT, "tools"), os.path.join(TESTS, "vectors"), os.path.join(TESTS, "histories")]
+sys.dont_write_bytecode = True
 
 import generate  # noqa: E402
 import history  # noqa: E402
+import ladder_journal  # noqa: E402
+import ladder_rows  # noqa: E402
+from history import BYTES, HANG_UP, TICK, TIGHTENING, record  # noqa: E402
 
 LADDER = os.path.join(ROOT, "tools", "ladder")
-STORY = os.path.join(TESTS, "stories", "came-back")
+STORIES = os.path.join(TESTS, "stories")
+STORY = os.path.join(STORIES, "came-back")
+FOUR_SERVERS = os.path.join(STORIES, "four-servers")
 SVG = "{http://www.w3.org/2000/svg}"
 SECONDS = 60  # more than any picture needs
 SEEDS = range(1, 11)
@@ -80,13 +87,17 @@ def made(lines):
 
 
 def read(path):
-    with open(path, encoding="latin-1") as file:
+    return content(path).decode("latin-1")
+
+
+def content(path):
+    with open(path, "rb") as file:
         return file.read()
 
 
 def written_histories():
     """Every vector and story."""
-    names = sorted(glob.glob(os.path.join(TESTS, "vectors", "*.txt")) + glob.glob(os.path.join(TESTS, "stories", "*")))
+    names = sorted(glob.glob(os.path.join(TESTS, "vectors", "*.txt")) + glob.glob(os.path.join(STORIES, "*")))
     return [(os.path.basename(name), made(read(name))) for name in names]
 
 
@@ -94,27 +105,26 @@ def vector(name):
     return made(read(os.path.join(TESTS, "vectors", name)))
 
 
-# ---- the story
+# ---- the stories
 
 
-def story_picture(*options):
-    with tempfile.TemporaryDirectory() as folder:
-        journal = os.path.join(folder, "came-back")
-        with open(journal, "wb") as file:
-            file.write(made(read(STORY)))
-        done = call(*options, journal)
-    expect("status and errors", (done.returncode, done.stderr.decode()), (0, ""))
-    return done.stdout
+def pictures():
+    """Each picture of docs, and what is drawn for it."""
+    for story in sorted(os.listdir(STORIES)):
+        with tempfile.TemporaryDirectory() as folder:
+            journal = os.path.join(folder, story)
+            with open(journal, "wb") as file:
+                file.write(made(read(os.path.join(STORIES, story))))
+            for ending, options in ((".txt", []), (".svg", ["--svg"])):
+                done = call(*options, journal)
+                expect("status and errors", (done.returncode, done.stderr.decode()), (0, ""))
+                yield os.path.join(ROOT, "docs", story + ending), done.stdout
 
 
-PICTURES = {"came-back.txt": [], "came-back.svg": ["--svg"]}
-
-
-def test_story():
-    for name, options in PICTURES.items():
-        with open(os.path.join(ROOT, "docs", name), "rb") as file:
-            if file.read() != story_picture(*options):
-                raise AssertionError("docs/%s is not what is drawn; `make -C tests pictures` draws it anew" % name)
+def test_stories():
+    for path, drawn in pictures():
+        if content(path) != drawn:
+            raise AssertionError("docs/%s is not what is drawn; `make -C tests pictures` draws it anew" % os.path.basename(path))
 
 
 # ---- what is shown is what replay prints
@@ -148,11 +158,14 @@ def test_seconds():
     """Rows and folds account for every second: a tick is folded, or stands alone, or sent something."""
     for name, data in [("came-back", made(read(STORY))), ("seed 3", generate.generate(3)), ("seed 8", generate.generate(8))]:
         at, fold = 0, 0
-        for second, rails, label in rows(draw(data)):
+        shown = rows(draw(data))
+        for place, (second, rails, label) in enumerate(shown):
             if not second:
                 fold = rails
             elif second != "-":
                 now = int(second.split()[0])
+                if label.endswith("of a run that did not end"):  # stands before what ends its link
+                    label = shown[place + 1][2]
                 ticked = now > at and re.search("not acknowledged for|given up|for its silence", label) is not None
                 silent = now - at - ticked
                 expect("%s: seconds folded before %d s, %s" % (name, now, label), fold, silent if silent > 1 else 0)
@@ -186,7 +199,7 @@ def test_copies():
     expect("ages", ages, [20 * copy for _, copy, _ in wanted for copy in [copy - 1] if copy])
     sent = [line for line in lines_of_replay(data).decode().splitlines() if line[8:12] == "0061"]
     expect("frames by their number", [sent.count(frame) for frame in dict.fromkeys(sent)], counts)
-    expect("heading", text.splitlines()[0], "journal: 5 notices, 4 of them sent more than once; 0 refused")
+    expect("heading", text.splitlines()[0], "journal: 5 notices, 4 of them sent more than once; 1 lost; 0 refused")
     expect("told at the end", re.findall(r"^notice (\d) .* (\d) copies", text, re.M), [("2", "2"), ("3", "5"), ("4", "6"), ("5", "6")])
 
 
@@ -214,7 +227,8 @@ def test_no_copies():
     expect("two sessions", copies_in(text),
            [(1, 1, 6), (2, 1, 1), (3, 1, 1), (4, 1, 1)] + [(1, copy, 6) for copy in range(2, 7)] + [(5, 1, 1)])
     expect("the next", [label for label in labels(text) if "given up" in label],
-           ['notice 5: identifier "THIRD", sent as the one before is given up'])
+           ['lost: notice 1, identifier "FIRST": sent, and not acknowledged within 120 s: given up',
+            'notice 5: identifier "THIRD", sent as the one before is given up'])
 
 
 def test_copies_to_two():
@@ -231,6 +245,153 @@ def test_copies_seen_from_later():
     data = made(SUBSCRIBED + "tightening\n" + TWENTY_TICKS * 3)
     expect("all", copies_in(draw(data)), [(1, 1, 4), (1, 2, 4), (1, 3, 4), (1, 4, 4)])
     expect("from second 30 to 45", copies_in(draw(data, "--from", "30", "--to", "45")), [(1, 3, 4)])
+
+
+# ---- what was lost
+
+ACKNOWLEDGE, NO_MESSAGE = b"00200062            \0", b"x\0"  # the second ends a run that was begun, whatever it is
+MARK = record(history.OPEN + 15)  # refused with 4
+TRIED = history.to_records('tightening identifier="TRIED"')
+
+
+class Story:
+    """A history drawn: what each record printed, and its rows."""
+
+    def __init__(self, data):
+        self.records = history.split(data)[0]
+        self.rows = [[] for _ in range(len(self.records) + 1)]  # by the record's number, from 1
+        self.printed = [0] * (len(self.records) + 1)  # lines up to a record and with it
+        with tempfile.NamedTemporaryFile() as file:
+            file.write(data)
+            file.flush()
+            self.draw(ladder_journal.Journal([file.name]))
+
+    def draw(self, journal):
+        number, lines = 0, 0
+        ladder = ladder_rows.Ladder(lambda row: self.rows[number].append(row))
+        with ladder_journal.Replay([program], journal) as replay:
+            for piece in ladder_journal.tried(replay.pieces()):
+                number = piece.record
+                ladder.take(piece)
+                lines += len(piece.lines)
+                self.printed[number] = lines
+
+    def lost(self, number, session):
+        """What is said to be lost to a session at a record."""
+        return [row.text() for row in self.rows[number] if row.lost and row.session() == session]
+
+    def go_on(self, number, more):
+        """What replay prints for other records behind that one."""
+        given = b"".join(record(*each) for each in self.records[:number]) + b"".join(more)
+        return ladder_journal.lines_of(lines_of_replay(given).decode("latin-1"))[self.printed[number]:]
+
+
+def results(lines, session):
+    """The results that go to a session: each one's number, and whether it is the one that is tried."""
+    return [(int(line[-10:]), "TRIED" in line) for line in lines if line.startswith("%d S 02310061" % session)]
+
+
+def dropped(lines):
+    """Of what is said to be lost: whether a result had been sent, and the numbers that waited."""
+    return (any(re.search("tightening .* sent, and not", line) for line in lines),
+            [int(number) for line in lines for number in re.findall(r"^tightening (\d+): waited", line)])
+
+
+def held(story, number, session):
+    """The same of what is held before a record, by what a tightening and nine acknowledges bring out."""
+    lines = story.go_on(number - 1, [record(BYTES + session, NO_MESSAGE), TRIED, MARK, record(BYTES + session, ACKNOWLEDGE * 9)])
+    if "R 8" in lines:
+        return None  # no number is left to try with
+    later = results(lines[lines.index("R 4"):], session)
+    return bool(later), [number for number, tried in later if not tried]
+
+
+def ends(story):
+    """Each record that ends a session, and the session."""
+    for number, (kind, _) in enumerate(story.records, 1):
+        if HANG_UP <= kind < HANG_UP + 4 and not any(row.refused for row in story.rows[number]):
+            yield number, kind - HANG_UP
+        elif kind == TICK:
+            for row in story.rows[number]:
+                if row.word == "close":
+                    yield number, row.session()
+
+
+def test_dropped():
+    """What ladder says is dropped with a session is what would have come out of it."""
+    some = 0
+    for seed in SEEDS:
+        story = Story(generate.generate(seed))
+        for number, session in ends(story):
+            wanted = held(story, number, session)
+            if wanted is not None:
+                expect("seed %d, record %d" % (seed, number), dropped(story.lost(number, session)), wanted)
+                some += bool(wanted[1])
+    expect("some were dropped", some > 5, True)
+
+
+def test_taken():
+    """Who is said to have taken a tightening is sent it, then or after acknowledges; who is said not to have is subscribed, and is not."""
+    lost = 0
+    for seed in SEEDS[:3]:
+        story = Story(generate.generate(seed))
+        for number in range(1, len(story.records) + 1):
+            shown = [row for row in story.rows[number] if row.word == "tightening" and not row.refused]
+            if not shown:
+                continue
+            given = int(shown[0].text().partition(":")[0])
+            lines = story.go_on(number - 1, [record(*story.records[number - 1])] + [
+                record(BYTES + s, NO_MESSAGE + ACKNOWLEDGE * 8) for s in range(4)] + [TRIED])
+            taken = [s for s in range(4) if (given, False) in results(lines, s)]
+            not_taken = [s for s in range(4) if (given + 1, True) in results(lines, s) and s not in taken]
+            what = "seed %d, record %d" % (seed, number)
+            expect(what, shown[0].text().rpartition(", taken by ")[2], " ".join(map(str, taken)) or "none")
+            said = "tightening %d: not taken; server %d has 8 already"
+            expect(what, [line for s in range(4) for line in story.lost(number, s)], [said % (given, s) for s in not_taken])
+            lost += len(not_taken)
+    expect("some were not taken", lost > 5, True)
+
+
+def test_ninth():
+    """Document 01's case (l), and the results that are held at the end."""
+    text = draw(made(SUBSCRIBED + "tightening\n" * 9))
+    expect("labels", labels(text)[-3:], ["8: 0.00 Nm, OK, taken by 0", "9: 0.00 Nm, OK, taken by none",
+                                         "lost: tightening 9: not taken; server 0 has 8 already"])
+    expect("told at the end", text.splitlines()[-1], "at the end server 0 has not acknowledged notice 1, tightening 1; "
+           + ", ".join("tightening %d" % number for number in range(2, 9)) + " wait behind it")
+
+
+def test_ways_to_lose():
+    """By a stop, an unsubscribe and a start, sent or not; an identifier in whose place a newer one waits."""
+    def after(lines):
+        return [label for label in labels(draw(made(SUBSCRIBED + "tightening\n" * 2 + lines))) if label.startswith("lost: ")]
+
+    for lines, when in (('bytes 0 "00200003            \\0"\n', "when the server stopped"),
+                        ('bytes 0 "00200063            \\0"\n', "when the server unsubscribed"),
+                        (START, "when the controller was started anew"),
+                        ("hangup 0\n", "when the link went"),
+                        ("tick 15\n", "when the session was closed")):
+        expect(when, after(lines), ["lost: notice 1, tightening 1: sent, and not acknowledged " + when,
+                                    "lost: tightening 2: waited, and was never sent; dropped " + when])
+    expect("the 120th tick and the 15th of silence", after("tick 14\n" + (KEEP_ALIVE + "tick 13\n") * 7 + KEEP_ALIVE + "tick 15\n"),
+           ["lost: notice 1, tightening 1: sent, and not acknowledged when the session was closed",
+            "lost: tightening 2: waited, and was never sent; dropped when the session was closed"])
+    expect("replaced", after('bytes 0 "002000510010        \\0"\nscan "A"\nbytes 0 "00230050001         NET\\0"\nscan "C"\n'),
+           ['lost: identifier "NET": waited, and was never sent; dropped for a newer one'])
+
+
+def test_acknowledges():
+    """What each acknowledge closes; one that is not well made, comes twice or too early closes nothing."""
+    def closes(lines):
+        return [label.rpartition("closes ")[2] for label in labels(draw(made(lines))) if label.startswith("acknowledge")]
+
+    well, twice = 'bytes 0 "00200062            \\0"\n', 'bytes 0 "00200062            \\0" "002000620009        \\0"\n'
+    expect("two", closes(SUBSCRIBED + "tightening\ntightening\n" + well * 3), ["notice 1", "notice 2", "nothing"])
+    expect("byte 12", closes(SUBSCRIBED + "tightening\n" + twice), ["notice 1", "nothing"])
+    for wrong in ('"00210062            x\\0"', '"0020006200a         \\0"', '"0020006200109999999\\0"', '"00200053            \\0"'):
+        expect(wrong, closes(SUBSCRIBED + "tightening\nbytes 0 %s\n" % wrong + well), ["nothing", "notice 1"])
+    expect("not started", closes(START + "open 0\n" + well), ["nothing"])
+    expect("no acknowledge asked", closes(SUBSCRIBED.replace("60001" + "0", "60001" + "1") + "tightening\n" + well), ["nothing"])
 
 
 # ---- refusals, the start, the end
@@ -321,7 +482,8 @@ def test_order_in_a_record():
 def test_texts():
     """A text reads the same where it comes in and where it goes out, and what is no text is no risk for the picture."""
     data = made(SUBSCRIBED + 'scan "BODY  7 <&>"\ntightening\nrecord 2 ' + (b"\x1b[2J" + b" " * 21).hex() + "\n")
-    expect("labels", labels(draw(data))[-4:], ['"BODY__7_<&>"', "0.00 Nm, OK", 'notice 1: tightening 1, "BODY__7_<&>", 0.00 Nm, OK',
+    expect("labels", labels(draw(data))[-4:], ['"BODY__7_<&>"', "1: 0.00 Nm, OK, taken by 0",
+                                               'notice 1: tightening 1, "BODY__7_<&>", 0.00 Nm, OK',
                                                '"\\x1b[2J"; refused, 7: tool record bad'])
     shown = ["".join(text.itertext()) for text in xml.etree.ElementTree.fromstring(draw(data, "--svg")).iter(SVG + "text")]
     expect("in the SVG", [text for text in shown if "BODY" in text],
@@ -349,6 +511,126 @@ def test_window():
            ["20 s", "20 s", "20 s", "", "30 s", "30 s"])
 
 
+# ---- four servers, one session, pages
+
+
+def four_servers():
+    return made(read(FOUR_SERVERS))
+
+
+def test_places():
+    """No word of an SVG picture stands on a rail: labels stand right of them all, and an arrow's word between two."""
+    picture = xml.etree.ElementTree.fromstring(draw(four_servers(), "--svg"))
+    rails = sorted(int(text.get("x")) for text in picture.iter(SVG + "text") if text.get("class") == "name")
+    expect("rails", len(rails), 6)
+    for data in (four_servers(), made(read(STORY))):
+        drawn = xml.etree.ElementTree.fromstring(draw(data, "--svg"))
+        for text in drawn.iter(SVG + "text"):
+            words, wide = "".join(text.itertext()), 0 if text.get("class") == "title" else 5.8
+            expect("the end of " + words, float(text.get("x")) + wide * len(words) < int(drawn.get("width")), True)
+    groups = [group for group in picture.iter(SVG + "g")]
+    expect("rows", len(groups), len(labels(draw(four_servers()))))
+    for text in (text for group in groups for text in group.findall(SVG + "text")):
+        words, x = "".join(text.itertext()), float(text.get("x"))
+        if text.get("class") == "word":
+            half = 4 * len(words)  # no letter of that size is wider
+            expect(words, any(left < x - half and x + half < right for left, right in zip(rails, rails[1:])), True)
+        else:
+            expect(words, x > rails[-1], True)
+
+
+def test_one_session():
+    """--session shows what concerns that session: its rail, the events that it took or did not take, the start."""
+    text = draw(four_servers(), "--session", "1")
+    expect("rails", text.splitlines()[2].split(), ["tool", "controller", "server", "1"])
+    events = [label.partition(":")[0] for _, rails, label in rows(text) if isinstance(rails, str) and "tightening" in rails]
+    expect("tightenings", events, [str(number) for number in range(501, 511)])
+    expect("identifiers", [label for label in labels(text) if "AXLE-0002" in label], [])
+    lost = [int(number) for number in re.findall(r"lost: .*?tightening (\d+):", text)]
+    expect("lost", lost, [509] + list(range(501, 509)))
+    events = [label for label in labels(draw(four_servers(), "--session", "2")) if ", taken by " in label]
+    expect("tightenings of one that left", events, ["501: 60.10 Nm, OK, taken by 0 1 2 3", "502: 60.20 Nm, OK, taken by 0 1 2 3"])
+
+
+def test_pages():
+    """The pages together are the picture, whatever their size, and the numbers are the same in them."""
+    data = four_servers()
+    whole = draw(data)
+    many, found = -(-len(labels(whole)) // 50), []
+    for page in range(1, many + 1):
+        text = draw(data, "--rows", "50", "--page", str(page))
+        expect("heading", "page %d of %d" % (page, many) in text.splitlines()[0], True)
+        found += [(second, label) for second, _, label in rows(text)]
+    expect("pages", many, 3)
+    expect("rows", found, [(second, label) for second, _, label in rows(whole)])
+    for page in (1, 90):
+        expect("a page of one row", labels(draw(data, "--rows", "1", "--page", str(page))), [labels(whole)[page - 1]])
+    done = call("--page", "3", data=data)
+    expect("no such page", (done.returncode, done.stdout, done.stderr), (1, b"", b"ladder: there is 1 page only\n"))
+    expect("no page 0", call("--page", "0", data=data).returncode, 2)
+
+
+def busy(results):
+    """A journal of four servers that acknowledge so many results, five of them a second."""
+    servers = "".join(re.sub("(open|bytes) 0", r"\1 %d" % session, SUBSCRIBE) for session in range(4))
+    one = made("tightening") + b"".join(record(BYTES + session, ACKNOWLEDGE) for session in range(4))
+    return made(START + servers) + (one * 5 + record(TICK)) * (results // 5)
+
+
+# A process has at least the memory of the one that started it: so that is a small one.
+MEASURE = """import resource, subprocess, sys
+status = subprocess.run(sys.argv[2:], stdout=open(sys.argv[1], "wb")).returncode
+print(status, resource.getrusage(resource.RUSAGE_CHILDREN).ru_maxrss)"""
+
+
+def memory(data):
+    """The most memory, in KiB, that drawing a page of a journal takes."""
+    with tempfile.TemporaryDirectory() as folder:
+        journal, drawn = os.path.join(folder, "journal"), os.path.join(folder, "drawn")
+        with open(journal, "wb") as file:
+            file.write(data)
+        command = [sys.executable, "-c", MEASURE, drawn, LADDER, "--replay", program, "--svg", "--page", "2", journal]
+        said = subprocess.run(command, stdout=subprocess.PIPE, timeout=10 * SECONDS, check=True).stdout
+        status, used = map(int, said.split())
+        expect("status", status, 0)
+        expect("heading", b"page 2 of" in content(drawn), True)
+    return used
+
+
+def test_memory():
+    """A journal that is five times as long takes no more memory, but for what is chance."""
+    short, long = memory(busy(1000)), memory(busy(5000))
+    if long > short + 4096:
+        raise AssertionError("%d KiB for a journal, %d KiB for one five times as long" % (short, long))
+
+
+def draw_large():
+    """What four busy servers leave in a journal of 64 MiB."""
+    data = busy(320000)
+    began = time.monotonic()
+    used = memory(data)
+    print("ladder: a journal of %d bytes drawn in %d KiB of memory and %d s" % (len(data), used, time.monotonic() - began))
+    return 0 if len(data) >= 64 << 20 and used * 1024 < 500_000_000 else 1
+
+
+def test_growing():
+    """A journal that grows while it is read is drawn as it was."""
+    data = made(read(STORY))
+    with tempfile.TemporaryDirectory() as folder:
+        journal = os.path.join(folder, "journal")
+        with open(journal, "wb") as file:
+            file.write(data)
+        grows = script(folder, "printf '\\0\\0\\100\\0' >> %s; exec %s\n" % (journal, program))
+        expect("picture", call(journal, replay=grows).stdout.decode(), draw(data))
+        expect("bytes more", len(content(journal)), len(data) + 4)
+
+
+def test_usual_program():
+    """Without --replay the program is the one that the repository builds."""
+    done = subprocess.run([LADDER], input=four_servers(), capture_output=True, timeout=SECONDS, check=False)
+    expect("picture", (done.returncode, done.stderr, done.stdout.decode()), (0, b"", draw(four_servers())))
+
+
 # ---- what can't be drawn
 
 
@@ -368,7 +650,7 @@ def test_faults():
         ("%s | sed '/^R 4/d'" % program, "its lines can't be told apart"),
         ("%s | sed '$d'" % program, "its lines can't be told apart"),
         ("%s | sed 's/^R 9/R 7/'" % program, "its lines can't be told apart"),
-        ("%s | sed 's/^R 9/R 8\\nR 9/'" % program, "more behind a refusal"),
+        ("%s | sed 's/^R 9/R 8\\nR 9/'" % program, "more beside a refusal"),
         ("%s | awk '!/^R 5/ || ! many++'" % program, "one behind it answered"),
         ("(cat; head -c 60 /dev/zero | tr '\\0' z) | %s" % program, "went on where the run ends"),
         ("%s; echo R 5" % program, "went on where the run ends"),
@@ -379,10 +661,16 @@ def test_faults():
         for text, said in wrong:
             done = call(data=data, replay=script(folder, text))
             expect(text, (done.returncode, done.stdout, said in done.stderr.decode()), (1, b"", True))
+        done = call("--to", "2026-01-31T23:59", data=data)
+        expect("no times", (done.returncode, done.stdout, "no times of day" in done.stderr.decode()), (1, b"", True))
+        expect("no moment", call("--to", "noon", data=data).returncode, 2)
+        table = script(folder, "no table")
+        done = call("--table", table, data=data)
+        expect("no table", (done.returncode, done.stdout, done.stderr.decode()), (1, b"", "ladder: %s is no table\n" % table))
         done = call(os.path.join(folder, "nothing"))
         expect("no such file", (done.returncode, done.stderr.decode().endswith("nothing: No such file or directory\n")), (1, True))
         done = call(replay=os.path.join(folder, "nothing"))
-        expect("no such program", (done.returncode, "makes replay" in done.stderr.decode()), (1, True))
+        expect("no such program", (done.returncode, done.stderr.decode().endswith("nothing: No such file or directory\n")), (1, True))
 
 
 def main(arguments):
@@ -391,10 +679,12 @@ def main(arguments):
         sys.exit(__doc__)
     program = os.path.abspath(arguments[0])
     if arguments[1:] == ["--draw"]:
-        for name, options in PICTURES.items():
-            with open(os.path.join(ROOT, "docs", name), "wb") as file:
-                file.write(story_picture(*options))
+        for path, drawn in pictures():
+            with open(path, "wb") as file:
+                file.write(drawn)
         return 0
+    if arguments[1:] == ["--large"]:
+        return draw_large()
     tests = [(name[5:].replace("_", " "), test) for name, test in globals().items() if name.startswith("test_")]
     wrong = 0
     for name, test in tests:
