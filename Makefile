@@ -2,7 +2,7 @@
 SHELL := /bin/bash
 .SHELLFLAGS := -euo pipefail -c
 .DEFAULT_GOAL := help
-.PHONY: help run watch test install uninstall host proved soak bench built wrong format tools clean
+.PHONY: help run watch test install uninstall host proved soak bench built wrong twins format tools clean
 
 # How many histories make soak compares.
 COUNT := 2000
@@ -24,6 +24,7 @@ help:
 	@echo "make soak    a longer comparison: COUNT=2000 histories, a million calls, every planted fault; the host under load and with faults planted"
 	@echo "make bench   the library's time, instructions and stack beside those of two implementations in C"
 	@echo "make wrong   the wrong programs that the gate leaves out for its time: the prover must refuse each"
+	@echo "make twins   harmless twins of the gate's wrong programs: the prover must accept each"
 	@echo "make format  lays the sources out"
 	@echo "make clean   removes what was built"
 
@@ -113,6 +114,10 @@ wrong: tools
 	  test -d tests/wrong/$$(basename $$crate) || rm -rf $$crate/must-fail; \
 	done
 	@cd target/wrong && rt must-fail
+
+# The harmless twins of the gate's must-fail edits, each in its crate, in a copy of the tree.
+twins: tools
+	@python3 tests/twins/run.py
 
 format: tools
 	@rt fmt
