@@ -3,6 +3,7 @@ ghost use mathlib.Core.Path.{_≡_};
 ghost use mathlib.Core.Bool.{true, cond, _||_};
 ghost use Prim.Native.Nat.{_+_, _≤_, _<_};
 ghost use lib.ListN.{length, take, drop};
+ghost use Rattle.model.specs.Limits.{header-length};
 ghost use Rattle.model.specs.Bytes.{digit-0, digit-1, is-digit, is-space, all};
 ghost use Rattle.model.specs.Runs.{is-flag as is-flag-byte, revision-of, is-message as is-message-run};
 ghost use Rattle.model.specs.Records.{settings-of};
@@ -99,7 +100,7 @@ fn is_message(run: &[u8], count: usize) -> bool
 }
 
 // What a run of count bytes, whose first are these, is.
-pub fn read_header(run: &[u8], count: usize) -> Header
+fn header_in(run: &[u8], count: usize) -> Header
     ensures { λ r. ⌜ r ≡ header-of (now (run .entry)) «count» ⌝ }
 {
     if !is_message(run, count) {
@@ -115,9 +116,24 @@ pub fn read_header(run: &[u8], count: usize) -> Header
 
 // The data field: what stands behind the header, as part of the caller's bytes.
 pub fn data_field(run: &[u8]) -> &[u8]
-    ensures { λ r. ⌜ now r ≡ drop 20 (now (run .entry)) ⌝ }
+    ensures { λ r. ⌜ now r ≡ drop header-length (now (run .entry)) ⌝ }
 {
     text::rest(run, 20)
+}
+
+// A run that was read: what it is, and its data field.
+pub struct Reading<'a> {
+    pub header: Header,
+    pub field: &'a [u8],
+}
+
+// Reads a run of count bytes, whose first are these.
+pub fn read_header<'a>(run: &'a [u8], count: usize) -> Reading<'a>
+    ensures { λ r. ⌜ (r .header ≡ header-of (now (run .entry)) «count») × (now (r .field) ≡ drop header-length (now (run .entry))) ⌝ }
+{
+    let header = header_in(run, count);
+    let field = data_field(run);
+    Reading { header, field }
 }
 
 // ---- layouts: a row is a field's width, how many bytes it is read from, and where they begin in the source

@@ -13,7 +13,6 @@ use Rattle.model.specs.Records.{Settings}
 use Rattle.text.specs.Put.{Put}
 use Rattle.text.proofs.Puts.{put-then, scratch}
 use Rattle.frame.specs.Header.{header-of}
-use Rattle.frame.specs.declared.Header.{Header}
 use Rattle.session.specs.Decisions.{decision}
 use Rattle.session.specs.Effects.{decision-on, announced}
 use Rattle.session.specs.declared.Session.{Session}
@@ -59,9 +58,9 @@ module _ (bs : List ℕ) where
 -- ==== the decision
 
 module _ (st : Settings) (x : Session) (run : List ℕ) (count : ℕ) where
-  pub ruled : {granted : Bool} {h : Header} {bs : List ℕ} {d : Decision} → granted ≡ st .granted → h ≡ header-of run count → bs ≡ drop 20 run
-      → d ≡ decision x granted h bs → d ≡ decision-on st x (record { kept = run; count = count })
-  ruled eg eh eb ed = ed ∙ (λ i. decision x (eg i) (eh i) (eb i))
+  pub ruled : {granted : Bool} {d : Decision} → granted ≡ st .granted → d ≡ decision x granted (header-of run count) (drop 20 run)
+      → d ≡ decision-on st x (record { kept = run; count = count })
+  ruled eg ed = ed ∙ ap (λ (g : Bool). decision x g (header-of run count) (drop 20 run)) eg
 
 pub data-few : (run bs : List ℕ) → length run ≤ 45 → bs ≡ drop 20 run → length bs ≤ 25
 data-few run bs l e = rw (e, length-drop 20 run) (omega arith)

@@ -410,9 +410,8 @@ fn rule(
     requires { ⌜ (at + 62 ≤ length (now out)) × (s < 256) × (length (now settings) ≡ 33) × (length (now run) ≤ run-kept) × (length (now place) ≡ 25) ⌝ }
     ensures { λ r. ⌜ Ruled s (settings-of (now (settings .entry))) x (record { kept = now (run .entry); count = count }) (now (out .entry)) at (now (place .entry)) (r .decision) (r .at) (r .identified) (now (out .exit)) (now (place .exit)) ⌝ }
 {
+    let decision = session::decide(x, is_granted(settings), run, count);
     let data_field = frame::data_field(run);
-    let h = frame::read_header(run, count);
-    let decision = session::decide(x, is_granted(settings), h, data_field);
     let identified = announce(place, data_field, decision);
     let next = reply(out, at, s, settings, run, decision);
     Ruling {

@@ -2,9 +2,12 @@
 // kept elsewhere: the answers here say which place is written, whether the places shift down, and whether the first one is sent.
 ghost use mathlib.Core.Path.{_≡_};
 ghost use mathlib.Core.Bool.{cond};
+ghost use lib.ListN.{drop};
+ghost use Rattle.model.specs.Limits.{header-length};
 ghost use Rattle.model.specs.Messages.{entry-of};
 ghost use Rattle.model.specs.Notices.{room-of};
 ghost use Rattle.model.specs.Events.{identifiers, tightenings};
+ghost use Rattle.frame.specs.Header.{header-of};
 ghost use Rattle.message.specs.Meaning.{effect-in, effect-listed, error-in};
 ghost use Rattle.session.specs.Control.{
   fresh as fresh-session,
@@ -635,7 +638,7 @@ fn is_started(phase: Phase) -> bool
 }
 
 // What a run does whose header is h.
-pub fn decide(x: Session, granted: bool, h: Header, data_field: &[u8]) -> Decision
+fn decided(x: Session, granted: bool, h: Header, data_field: &[u8]) -> Decision
     ensures { λ r. ⌜ r ≡ decision x granted h (now (data_field .entry)) ⌝ }
 {
     let Header::Message {
@@ -654,6 +657,14 @@ pub fn decide(x: Session, granted: bool, h: Header, data_field: &[u8]) -> Decisi
         Phase::Opened => decide_opened(mid, v),
         Phase::Started => decide_started(mid, revision, no_acknowledge, v),
     }
+}
+
+// What a run of count bytes does, whose first are these.
+pub fn decide(x: Session, granted: bool, run: &[u8], count: usize) -> Decision
+    ensures { λ r. ⌜ r ≡ decision x granted (header-of (now (run .entry)) «count») (drop header-length (now (run .entry))) ⌝ }
+{
+    let read = frame::read_header(run, count);
+    decided(x, granted, read.header, read.field)
 }
 
 // ---- the session after a decision

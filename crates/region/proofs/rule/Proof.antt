@@ -13,36 +13,33 @@ use Rattle.region.proofs.rule.Tie as tie
 
 announce-requires : tie.Need-announce-requires
 announce-requires c κs =
-    let d = c .before .before .before .before in
-    let s = d .before .before .before .before .before in
-    (s .pre .4, data-few (s .args .run .now) _ (s .pre .3) (d .data-field .ensures))
+    let f = c .before in
+    let s = f .before .before .before .before .before .before .before in
+    (s .pre .4, data-few (s .args .run .now) _ (s .pre .3) (f .data-field .ensures))
 
 reply-requires : tie.Need-reply-requires
 reply-requires c κs =
-    let d = c .before .before .before .before .before in
+    let f = c .before .before .before .before .before in
+    let d = f .before in
     let g = d .before in
-    let h = g .before in
-    let f = h .before in
-    let s = f .before .before .before .before .before in
+    let s = g .before .before .before .before .before in
     let a = s .args in
     let p = s .pre in
     let st = settings-of (a .settings .now) in
-    let e = ruled st (a .x) (a .run .now) (a .count) (g .is-granted .ensures) (h .read-header .ensures) (f .data-field .ensures) (d .decide .ensures) in
+    let e = ruled st (a .x) (a .run .now) (a .count) (g .is-granted .ensures) (d .decide .ensures) in
     (p .0, p .1, p .2, λ m. mirror-whole st (a .x) (record { kept = a .run .now; count = a .count }) (sym e ∙ m))
 
 returns : tie.Need-returns
 returns c =
     let y = c .before .before in
     let n = y .before .before .before .before in
-    let d = n .before .before in
+    let f = n .before .before in
+    let d = f .before in
     let g = d .before in
-    let h = g .before in
-    let f = h .before in
-    let s = f .before .before .before .before .before in
+    let s = g .before .before .before .before .before in
     let a = s .args in
-    let st = settings-of (a .settings .now) in
     record {
-      decides = ruled st (a .x) (a .run .now) (a .count) (g .is-granted .ensures) (h .read-header .ensures) (f .data-field .ensures) (d .decide .ensures);
+      decides = ruled (settings-of (a .settings .now)) (a .x) (a .run .now) (a .count) (g .is-granted .ensures) (d .decide .ensures);
       within = y .reply .ensures .0;
       bytes = y .reply .ensures .1;
       knows = subst (λ (bs : List ℕ). Knows (announced (d .decide .result) bs) (a .place .now) (n .announce .result) (n .announce .last .0)) (f .data-field .ensures) (n .announce .ensures);
@@ -52,7 +49,6 @@ pub rule-spec : {M : Type 1} → statement M
 rule-spec =
     tie.close
     (tie.spec
-    (λ c κs. search needs)
     (λ c κs. search needs)
     (λ c κs. search needs)
     (λ c κs. search needs)

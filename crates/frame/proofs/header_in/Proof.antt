@@ -1,0 +1,57 @@
+-- `frame::header_in` meets its contract: a message's header has what its readers ask for. Assumes nothing.
+use borrow.Author.Needs.{needs}
+use borrow.Author.Tests.{not-true, not-false}
+use mathlib.Core.Path.{_≡_, refl, sym, _∙_}
+use native.Mathlib.Omega.{arith}
+use lib.ListN.{drop}
+use Rattle.frame.specs.Header.{header-of}
+use Rattle.frame.proofs.Headers.{take-few, Sound, sound, dropped, heard}
+use Rattle.frame.proofs.header_in.Statement.{statement}
+use Rattle.frame.proofs.header_in.Tie as tie
+
+returns : tie.Need-returns
+returns c =
+    let a = c .before .before .before .args in
+    dropped (a .run .now) (a .count) (sym (c .before .is-message .ensures) ∙ not-true _ (c .if1 .taken))
+
+-- the run is sound, as its tests have shown
+whole : (c : tie.Else1) → let a = c .before .before .before .args in Sound (a .run .now) (a .count)
+whole c =
+    let a = c .before .before .before .args in
+    sound (a .run .now) (a .count) (sym (c .before .is-message .ensures) ∙ not-false _ (c .if1 .left))
+
+decimal-requires : tie.Need-decimal-requires
+decimal-requires c κs =
+    let l = take-few 4 (drop 4 (c .before .before .before .before .args .run .now)) in
+    (omega arith, whole (c .before) .mid)
+
+revision-requires : tie.Need-revision-requires
+revision-requires c κs =
+    let l = take-few 3 (drop 8 (c .before .before .before .before .before .before .args .run .now)) in
+    (omega arith, whole (c .before .before .before) .revision)
+
+returns-2 : tie.Need-returns-2
+returns-2 c =
+    let i = c .before .before .before .before .before in
+    let a = i .before .before .before .args in
+    heard (a .run .now) (a .count) (sym (i .before .is-message .ensures) ∙ not-false _ (i .if1 .left))
+    (c .before .before .before .decimal .ensures .0)
+    (c .before .revision .ensures)
+    refl
+
+pub header-in-spec : {M : Type 1} → statement M
+header-in-spec =
+    tie.close
+    (tie.spec
+    (λ c κs. search needs)
+    returns
+    (λ c. search needs)
+    (λ c. search needs)
+    (λ c. let w = whole c in search needs)
+    decimal-requires
+    (λ c. search needs)
+    (λ c. search needs)
+    (λ c. let w = whole (c .before .before) in search needs)
+    revision-requires
+    (λ c. let w = whole (c .before .before .before .before .before) in search needs)
+    returns-2)
