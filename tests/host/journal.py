@@ -150,7 +150,8 @@ def the_journal_replays(place):
     openings = play.run(900)
     losses = play.check_losses()
     place.said.append(", ".join("%d %s" % (count, how or "received") for how, count in losses.items()))
-    check(min(losses["dropped, not sent"], losses["dropped, sent but not acknowledged"], losses[None]) > 3, "too few: this shows too little")
+    for how in ("dropped, not sent", "dropped, sent but not acknowledged", None):
+        check(losses[how] > 3, "only %d results %s: this shows too little", losses[how], how or "received")
     timed_out = sum(opening.closed() for opening in openings)
     place.said.append("%d openings, %d timed out, %d frames" % (len(openings), timed_out, sum(len(o.frames()) for o in openings)))
     check(timed_out >= 3, "too few timed out: this shows too little")
