@@ -149,10 +149,10 @@ static void note_time(void)
 {
     char name[PATH_MAX], line[64];
     time_t now = time(NULL);
-    struct tm parts;
-    gmtime_r(&now, &parts);
+    struct tm fields;
+    gmtime_r(&now, &fields);
     size_t at = (size_t)snprintf(line, sizeof line, "%" PRIu64 " ", size);
-    at += strftime(line + at, sizeof line - at, "%Y-%m-%dT%H:%M:%SZ\n", &parts);
+    at += strftime(line + at, sizeof line - at, "%Y-%m-%dT%H:%M:%SZ\n", &fields);
     part_name(name, number, TIMES);
     int times = open(name, O_WRONLY | O_APPEND | O_CREAT | O_NOFOLLOW | O_CLOEXEC, file_mode);
     if (times < 0 || !write_all(times, line, at))
@@ -424,27 +424,30 @@ void journal_prepare(const uint8_t *table)
     note_time();
 }
 
-/* Waits until a FIFO takes something, but not against a signal that ends the host. */
-static void wait_for_reader(void)
+/* Waits until a FIFO takes something, but not against a signal that ends the host. What is waited for is said once, if for a second. */
+static void wait_for_reader(bool *said)
 {
     struct pollfd set[] = { { .fd = file, .events = POLLOUT }, { .fd = signals_descriptor(), .events = POLLIN } };
-    if (poll(set, 2, 1000) == 0)
+    if (poll(set, 2, *said ? -1 : 1000) == 0) {
         say("journal %s takes nothing: its reader is waited for", journal.path);
+        *said = true;
+    }
     if (signals_end())
         fail("journal %s takes nothing, and the host is to end: nothing goes out of the call that is not journaled", journal.path);
 }
 
 static bool write_waiting(const uint8_t *bytes, size_t length)
 {
+    bool said = false;
     while (length > 0) {
         ssize_t written = write(file, bytes, length);
-        if (written < 0 && (errno == EAGAIN || errno == EWOULDBLOCK))
-            wait_for_reader();
-        else if (written <= 0 && errno != EINTR)
-            return false;
-        else if (written > 0) {
+        if (written < 0 && (errno == EAGAIN || errno == EWOULDBLOCK)) {
+            wait_for_reader(&said);
+        } else if (written > 0) {
             bytes += written;
             length -= (size_t)written;
+        } else if (errno != EINTR) {
+            return false;
         }
     }
     return true;
