@@ -110,6 +110,8 @@ FAULTS = [
      "number = 0;\n    taken = 0;\n    if (serial != NULL && number > taken) {"),
     ("serials forgotten with the host", "records-with-a-serial", "serials.c", "        put_line(next, line);\n", ""),
     ("a status that tells of another session", "the-status", "status.c", "session_state(s);", "session_state(s ^ 1);"),
+    ("a wish for no acknowledge missed", "the-status-and-the-table", "sessions.c", "sessions[s].byte_12 != '1';",
+     "sessions[s].byte_12 != 0;"),
     ("the number not answered", "the-status", "tool.c", "numbered ? last_number() : 0);", "0 * (uint32_t)numbered);"),
     ("stale output kept over a hang-up", "a-peer-that-stops-reading", "links.c", "    link->waiting.length = 0;\n", ""),
     ("a hang-up that the library is not told", "a-link-cut-with-a-notice-open", "links.c",
