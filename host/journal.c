@@ -39,11 +39,6 @@ static _Noreturn void cannot(const char *what)
     fail("journal %s cannot be %s: %s", journal.path, what, strerror(errno));
 }
 
-static _Noreturn void in_use(void)
-{
-    fail("journal %s is in use by another host: it is locked", journal.path);
-}
-
 static void part_name(char name[PATH_MAX], uint64_t part, const char *end)
 {
     if (snprintf(name, PATH_MAX, "%s.%" PRIu64 "%s", journal.path, part, end) >= PATH_MAX)
@@ -307,7 +302,7 @@ bool journal_find(const struct journal_options *options, uint32_t *last)
         if (file < 0 || fstat(file, &ours) != 0)
             cannot("opened");
         if (!lock_file(file))
-            in_use();
+            fail("journal %s cannot be locked: %s", journal.path, why_not_locked());
         earlier_started = read_last(file, number, &earlier, last);
         if (earlier.failed)
             cannot("read");
@@ -400,7 +395,7 @@ static void make_way(void)
         return;
     int other = open(journal.path, O_RDWR | O_CLOEXEC | O_NONBLOCK);
     if (other >= 0 && !lock_file(other))
-        in_use();
+        fail("journal %s: what stands there now cannot be locked: %s", journal.path, why_not_locked());
     put_aside();
     close(other);
 }
