@@ -74,6 +74,11 @@ bool lock_file(int file)
     return fcntl(file, F_SETLK, &whole) == 0;
 }
 
+const char *why_not_locked(void)
+{
+    return errno == EAGAIN || errno == EACCES ? "in use by another host" : strerror(errno);
+}
+
 const char *name_in_folder(const char *path)
 {
     const char *slash = strrchr(path, '/');

@@ -70,6 +70,7 @@ bool write_all(int file, const void *bytes, size_t length);
 
 /* Locks a file against other processes; false where another holds it, or it cannot be locked. */
 bool lock_file(int file);
+const char *why_not_locked(void);
 
 /* The file's name within its folder, and the folder opened (-1 with errno where it cannot be). */
 const char *name_in_folder(const char *path);

@@ -39,11 +39,6 @@ static _Noreturn void cannot(const char *what)
     fail("journal %s cannot be %s: %s", journal.path, what, strerror(errno));
 }
 
-static _Noreturn void in_use(void)
-{
-    fail("journal %s is in use by another host: it is locked", journal.path);
-}
-
 static void part_name(char name[PATH_MAX], uint64_t part, const char *end)
 {
     if (snprintf(name, PATH_MAX, "%s.%" PRIu64 "%s", journal.path, part, end) >= PATH_MAX)
@@ -149,10 +144,10 @@ static void note_time(void)
 {
     char name[PATH_MAX], line[64];
     time_t now = time(NULL);
-    struct tm parts;
-    gmtime_r(&now, &parts);
+    struct tm fields;
+    gmtime_r(&now, &fields);
     size_t at = (size_t)snprintf(line, sizeof line, "%" PRIu64 " ", size);
-    at += strftime(line + at, sizeof line - at, "%Y-%m-%dT%H:%M:%SZ\n", &parts);
+    at += strftime(line + at, sizeof line - at, "%Y-%m-%dT%H:%M:%SZ\n", &fields);
     part_name(name, number, TIMES);
     int times = open(name, O_WRONLY | O_APPEND | O_CREAT | O_NOFOLLOW | O_CLOEXEC, file_mode);
     if (times < 0 || !write_all(times, line, at))
@@ -307,7 +302,7 @@ bool journal_find(const struct journal_options *options, uint32_t *last)
         if (file < 0 || fstat(file, &ours) != 0)
             cannot("opened");
         if (!lock_file(file))
-            in_use();
+            fail("journal %s cannot be locked: %s", journal.path, why_not_locked());
         earlier_started = read_last(file, number, &earlier, last);
         if (earlier.failed)
             cannot("read");
@@ -400,7 +395,7 @@ static void make_way(void)
         return;
     int other = open(journal.path, O_RDWR | O_CLOEXEC | O_NONBLOCK);
     if (other >= 0 && !lock_file(other))
-        in_use();
+        fail("journal %s: what stands there now cannot be locked: %s", journal.path, why_not_locked());
     put_aside();
     close(other);
 }
@@ -424,27 +419,30 @@ void journal_prepare(const uint8_t *table)
     note_time();
 }
 
-/* Waits until a FIFO takes something, but not against a signal that ends the host. */
-static void wait_for_reader(void)
+/* Waits until a FIFO takes something, but not against a signal that ends the host. What is waited for is said once, if for a second. */
+static void wait_for_reader(bool *said)
 {
     struct pollfd set[] = { { .fd = file, .events = POLLOUT }, { .fd = signals_descriptor(), .events = POLLIN } };
-    if (poll(set, 2, 1000) == 0)
+    if (poll(set, 2, *said ? -1 : 1000) == 0) {
         say("journal %s takes nothing: its reader is waited for", journal.path);
+        *said = true;
+    }
     if (signals_end())
         fail("journal %s takes nothing, and the host is to end: nothing goes out of the call that is not journaled", journal.path);
 }
 
 static bool write_waiting(const uint8_t *bytes, size_t length)
 {
+    bool said = false;
     while (length > 0) {
         ssize_t written = write(file, bytes, length);
-        if (written < 0 && (errno == EAGAIN || errno == EWOULDBLOCK))
-            wait_for_reader();
-        else if (written <= 0 && errno != EINTR)
-            return false;
-        else if (written > 0) {
+        if (written < 0 && (errno == EAGAIN || errno == EWOULDBLOCK)) {
+            wait_for_reader(&said);
+        } else if (written > 0) {
             bytes += written;
             length -= (size_t)written;
+        } else if (errno != EINTR) {
+            return false;
         }
     }
     return true;

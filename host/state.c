@@ -40,11 +40,6 @@ static size_t write_text(char text[TEXT], uint32_t number)
    until the program ends. The state file is locked too, each from before it takes its place: so a lock file that was removed lets no second
    host in. */
 
-static _Noreturn void in_use(const char *which)
-{
-    fail("state %s is in use by another host: %s is locked", state_path, which);
-}
-
 /* Whether a file that was opened stands under that name yet; false with errno where nothing does. */
 static bool stands_as(int file, const char *which)
 {
@@ -59,7 +54,7 @@ static int open_lock(int exclusive)
     if (opened < 0)
         fail("state %s: %s.lock cannot be opened: %s", state_path, state_path, strerror(errno));
     if (!lock_file(opened))
-        in_use(name_locked);
+        fail("state %s: %s.lock cannot be locked: %s", state_path, state_path, why_not_locked());
     return opened;
 }
 
@@ -94,8 +89,10 @@ static uint32_t read_state(void)
     current = openat(folder, name, O_RDWR | O_NOFOLLOW | O_CLOEXEC);
     if (current < 0)
         fail("state %s cannot be opened: %s", state_path, strerror(errno));
-    if (!lock_file(current) || !stands_as(current, name))
-        in_use(name);
+    if (!lock_file(current))
+        fail("state %s cannot be locked: %s", state_path, why_not_locked());
+    if (!stands_as(current, name))
+        fail("state %s is in use by another host, which has just replaced it", state_path);
     ssize_t got = read(current, text, TEXT);
     if (got < 0)
         fail("state %s cannot be read: %s", state_path, strerror(errno));

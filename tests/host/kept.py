@@ -100,8 +100,8 @@ def kill_before_each_call(place, *more):
 @test
 @tracing.traced
 def killed_before_every_call_of_the_system(place):
-    """The same with the host killed before each call of the system that it makes for a tightening. The number is on the disk, and its folder
-    with it, before anything is sent."""
+    """The same with the host killed before each call of the system that it makes for a tightening. The number is on the disk, and its
+    folder with it, before anything is sent."""
     calls = kill_before_each_call(place)
     kept = [call for call in calls if call in ("send", "sync", "rename")]
     equal(kept[:4], ["sync", "rename", "sync", "send"], "calls that keep a number and send a result")
@@ -110,8 +110,8 @@ def killed_before_every_call_of_the_system(place):
 @test
 @tracing.traced
 def killed_while_a_part_is_begun(place):
-    """The same where the tightening begins a part of the journal: whatever the kill leaves of the parts and of what stands beside them, the next
-    start goes on, and each part from its table, or its start, gives what it gives within the whole."""
+    """The same where the tightening begins a part of the journal: whatever the kill leaves of the parts and of what stands beside them, the
+    next start goes on, and each part from its table, or its start, gives what it gives within the whole."""
     # A start, an opening and three messages are 116 bytes.
     calls = kill_before_each_call(place, "--journal-size", 100, "--journal-keep", 10000)
     check(calls.count("rename") >= 2 and calls.count("sync") >= 3, "no part was begun: this shows nothing")

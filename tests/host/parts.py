@@ -160,8 +160,8 @@ def lines_that_repeat(place):
 
 @test
 def a_journal_that_is_removed(place):
-    """A journal that is removed, renamed, replaced or cut under the host is begun anew, which the log says; what is sent from then on can be
-    replayed from the table beside it, and what was put in its place is not lost."""
+    """A journal that is removed, renamed, replaced or cut under the host is begun anew, which the log says; what is sent from then on can
+    be replayed from the table beside it, and what was put in its place is not lost."""
     host = place.host()
     server = place.server(host).subscribe()
     tool = place.tool()

@@ -113,6 +113,8 @@ def main():
             print("%s: %s" % (name, said), flush=True)
             if seconds > 5:
                 print("  (%.0f s)" % seconds, flush=True)
+        pool.close()  # in order: a worker that is ended by a signal may go on waiting, since it catches it
+        pool.join()
     print("host: %d right, %d wrong, %d skipped" % (counts[True], counts[False], counts[None]))
     return 1 if counts[False] else 0
 

@@ -9,7 +9,8 @@ import sys
 import time
 
 import harness
-from harness import ROOT, check, equal, in_memory, openprotocol, record, test, tightening_fields
+from harness import ROOT, check, content, equal, in_memory, openprotocol, record, test, tightening_fields, wait
+from journal import Play
 
 CLOSED = {"phase": "closed"}
 
@@ -76,6 +77,42 @@ def the_status(place):
     equal(sessions(place)[0], CLOSED, "a session whose peer left")
     equal(host.end(), 0, "status of the host")
     check(not os.path.exists(place.path("status")), "the status's socket file stands yet")
+
+
+def region_told(region):
+    """What docs/TABLE.md says of a session's region, in the words of the status."""
+    if region[0] == 0:
+        return CLOSED
+    acknowledges = region[5] == 2
+    places = [region[136 + 110 * i:246 + 110 * i] for i in range(region[7] if acknowledges else 0)]
+    return {"phase": ("opened", "started")[region[0] - 1], "identifiers": region[2] > 0, "results": region[5] > 0,
+            "acknowledges": acknowledges, "held": [int.from_bytes(result[106:], "little") for result in places]}
+
+
+@test
+@in_memory
+def the_status_and_the_table(place):
+    """In a host's life at random the status tells of each session what the lent table holds, as it is kept beside a journal whose parts
+    are of one call each."""
+    play = Play(place, 9)
+    play.host = place.host("--status", place.path("status"), "--journal-size", 1, "--journal-keep", 2)
+    play.tool = place.tool()
+    held = 0
+
+    def equal_now():
+        play.tool.give(record(5))  # before this call, which alters nothing, the table is kept
+        newest = max((name for name in os.listdir(place.folder) if name.endswith(".table")), key=lambda name: int(name.split(".")[1]))
+        table = content(place.path(newest))
+        told = [{key: value for key, value in session.items() if key not in ("peer", "bytes_waiting")} for session in sessions(place)]
+        return [told] if told == [region_told(table[1024 + 1024 * s:2048 + 1024 * s]) for s in range(4)] else None
+
+    for i in range(400):
+        play.step()
+        if i % 4 == 0:
+            told, = wait(equal_now, "a status that tells what the table holds")
+            held += sum(len(session.get("held", [])) for session in told)
+    check(held > 100, "only %d results were held: this shows too little", held)
+    place.said.append("100 times, with %d results held" % held)
 
 
 @test
