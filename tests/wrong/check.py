@@ -3,13 +3,16 @@
 
 Each edit has a row and each row an edit: the label plain for the gate's, in italics for those of
 tests/wrong. Each public function has two rows at least. Each edit fits its crate: what it replaces
-stands there, once. That the prover refuses it is for rt must-fail to show."""
+stands there, once. Each edit of the gate has a twin in tests/twins, which replaces no other lines.
+That the prover refuses an edit is for rt must-fail to show, that it accepts a twin for make twins."""
 
 import collections
 import glob
 import os
 import re
 import sys
+
+from edits import applied, replacements
 
 os.chdir(os.path.join(os.path.dirname(os.path.abspath(__file__)), "..", ".."))
 
@@ -22,30 +25,24 @@ for line in open("docs/MUST-FAIL.md", encoding="utf-8"):
         rows.add((crate, cells[-2]))
         functions.update((crate, name) for name in cells[0].split(", "))
 
-
-def misfits(path, crate):
-    """What keeps an edit from being applied: its replacements are made one after the other."""
-    texts, name, old = {}, None, None
-    for line in open(path, encoding="utf-8").read().split("\n"):
-        if line.startswith("file: "):
-            name = os.path.join("crates", crate, line[len("file: "):])
-            if name not in texts:
-                texts[name] = open(name, encoding="utf-8").read() if os.path.isfile(name) else ""
-        elif line.startswith("old: "):
-            old = line[len("old: "):]
-        elif line.startswith("new:"):
-            count = texts[name].count(old)
-            if count != 1:
-                yield f"{path}: what it replaces stands {count} times in {name}: {old}"
-            texts[name] = texts[name].replace(old, line[len("new:"):].removeprefix(" "))
-
-
 edits, wrong = set(), []
 for path in glob.glob("crates/*/must-fail/*.edit") + glob.glob("tests/wrong/*/*.edit"):
     crate, label = re.sub("/must-fail", "", path).split("/")[-2:]
     label = label.removesuffix(".edit")
     edits.add((crate, label if path.startswith("crates") else f"*{label}*"))
-    wrong += misfits(path, crate)
+    wrong += applied(path, os.path.join("crates", crate))[1]
+
+for path in glob.glob("crates/*/must-fail/*.edit"):
+    _, crate, _, name = path.split("/")
+    twin = os.path.join("tests", "twins", crate, name)
+    if not os.path.isfile(twin):
+        wrong.append(f"no twin for {path}")
+        continue
+    wrong += applied(twin, os.path.join("crates", crate))[1]
+    if {found[:2] for found in replacements(twin)} - {found[:2] for found in replacements(path)}:
+        wrong.append(f"{twin} replaces other lines than its edit")
+wrong += [f"{path} is no edit's twin" for path in glob.glob("tests/twins/*/*.edit")
+          if not os.path.isfile(os.path.join("crates", path.split("/")[2], "must-fail", path.split("/")[3]))]
 
 wrong += [f"no row for {crate}: {label}" for crate, label in sorted(edits - rows)]
 wrong += [f"no edit for {crate}: {label}" for crate, label in sorted(rows - edits)]

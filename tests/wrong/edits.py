@@ -1,0 +1,32 @@
+"""Must-fail edits and their twins as texts: which lines of which files they replace, and whether they fit."""
+
+import os
+
+
+def replacements(path):
+    """(file, old, new) for each replacement of an edit, in its order."""
+    found, name, old = [], None, None
+    with open(path, encoding="utf-8") as file:
+        for line in file.read().split("\n"):
+            if line.startswith("file: "):
+                name = line[len("file: "):]
+            elif line.startswith("old: "):
+                old = line[len("old: "):]
+            elif line.startswith("new:"):
+                found.append((name, old, line[len("new:"):].removeprefix(" ")))
+    return found
+
+
+def applied(path, crate):
+    """The texts of the files in the crate's folder that an edit changes, as they are then, and what keeps it from being
+    applied: its replacements are made one after the other."""
+    texts, misfits = {}, []
+    for name, old, new in replacements(path):
+        file = os.path.join(crate, name)
+        if file not in texts:
+            texts[file] = open(file, encoding="utf-8").read() if os.path.isfile(file) else ""
+        count = texts[file].count(old)
+        if count != 1:
+            misfits.append(f"{path}: what it replaces stands {count} times in {file}: {old}")
+        texts[file] = texts[file].replace(old, new)
+    return texts, misfits
