@@ -39,8 +39,8 @@ OTHERWISE = {"<": ["<=", ">"], "<=": ["<", "=="], ">": [">=", "<"], ">=": [">", 
 TOKEN = re.compile(r"/\*.*?\*/|\"(?:[^\"\\]|\\.)*\"|^#.*?$|(?P<char>'(?:[^'\\]|\\.)')|(?P<number>\b(?:0x[0-9a-fA-F]+|\d+)\b)"
                    r"|(?P<operator>->|\+\+|<<=|>>=|<<|>>|<=|>=|==|!=|&&|\|\||\+=|-=|\|=|/=|\b(?:true|false)\b|[-+*/%<>!&|])",
                    re.S | re.M)
-STATEMENT = re.compile(r"^ +(?!(?:return [^;]*|static|const|enum|struct|unsigned|bool|size_t|uint\w+|case|default|else|if|for|while|switch)\b"
-                       r"[^=;(]*[ ;])[a-z*][^;{}]*;|^ +return\b[^;{}]*;", re.M)
+STATEMENT = re.compile(r"^ +(?!(?:return [^;]*|static|const|enum|struct|unsigned|bool|size_t|uint\w+|case|default|else|if|for|while|switch)"
+                       r"\b[^=;(]*[ ;])[a-z*][^;{}]*;|^ +return\b[^;{}]*;", re.M)
 
 Mutant = collections.namedtuple("Mutant", "line start end text")
 
