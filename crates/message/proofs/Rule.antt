@@ -1,7 +1,7 @@
 -- The rule of the table of messages, that a row says what the model's entry at its place says, and the search for a number in it.
 -- Assumes nothing.
 use mathlib.Core.Path.{_≡_, refl, sym, ap, _∙_}
-use mathlib.Core.Bool.{Bool, true, _&&_, So, and-eq-true-iff, false≢true}
+use mathlib.Core.Bool.{Bool, true, false, _&&_, So, and-eq-true-iff, false≢true}
 use mathlib.Core.List.{List, [], _∷_}
 use mathlib.Core.Option.{some}
 use Prim.Native.Nat.{ℕ, _+_, _<_, _≤_}
@@ -10,9 +10,9 @@ use native.Mathlib.Omega.{arith}
 use lib.Dec.{eqb}
 use lib.ListN.{getD, drop}
 use lib.Seq.{drop-cons}
-use borrow.Author.Tests.{eqb-true, eq-eqb, ne-eqb}
+use borrow.Author.Tests.{eqb-true, eqb-false, eq-eqb, ne-eqb}
 use Rattle.model.specs.Messages.{Entry, entry, Revisions, not-read, revisions, mirrors, table, listed, entry-of}
-use Rattle.message.specs.Inner.{any, messages, Spans, is-listed, Lists}
+use Rattle.message.specs.Inner.{any, messages, Spans, read, is-listed, Lists}
 use Rattle.message.specs.declared.Row.{Row}
 use Rattle.message.proofs.AtEach.{at-each}
 
@@ -64,9 +64,6 @@ rule k h = says-tells (row-at k) (entry-at k) (at-each says messages table [] be
 
 -- ==== the search for a number, row after row
 
-abbrev pub read : List ℕ → Row
-read r = record { least = getD r 1 0; greatest = getD r 2 0; oldest = getD r 3 0; newest = getD r 4 0 }
-
 module _ (mid k : ℕ) (h : k < 10) (q : entry-of mid ≡ listed (drop k table) mid) where
   -- the row at k has another number: the entry is further on
   pub passed : (getD (row-at k) 0 0 ≡ mid → ⊥) → entry-of mid ≡ listed (drop (k + 1) table) mid
@@ -79,8 +76,15 @@ module _ (mid k : ℕ) (h : k < 10) (q : entry-of mid ≡ listed (drop k table) 
       let z : entry-of mid ≡ some (entry-at k) = q ∙ rw (drop-cons table k beyond h, eq-eqb _ mid (sym (s .0) ∙ e)) in
       rw z (sym e ∙ s .0, s .1, s .2, s .3)
 
--- a number that is listed is not past the last row
-pub in-table : (mid k : ℕ) → is-listed (entry-of mid) ≡ true → entry-of mid ≡ listed (drop k table) mid → k ≤ 10 → k < 10
-in-table mid k s q le =
-    let ne : k ≡ 10 → ⊥ = λ e. false≢true (sym (ap is-listed (rw e at q)) ∙ s) in
-    omega arith
+-- a number that is listed and in no row before the last is in the last
+pub the-last : (mid k : ℕ) → is-listed (entry-of mid) ≡ true → entry-of mid ≡ listed (drop k table) mid → k ≡ 9
+    → Lists mid (read (row-at 9)) (entry-of mid)
+the-last mid k s q e = by-test (eqb (getD (row-at 9) 0 0) mid) refl
+  where
+    here : entry-of mid ≡ listed (drop 9 table) mid
+    here = rw e at q
+
+    by-test : (b : Bool) → eqb (getD (row-at 9) 0 0) mid ≡ b → Lists mid (read (row-at 9)) (entry-of mid)
+    by-test true z = found mid 9 (omega arith) here (eqb-true (getD (row-at 9) 0 0) mid z)
+    by-test false z =
+        absurd (false≢true (sym (ap is-listed (passed mid 9 (omega arith) here (eqb-false (getD (row-at 9) 0 0) mid z))) ∙ s))

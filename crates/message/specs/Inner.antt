@@ -4,6 +4,7 @@ use mathlib.Core.Path.{_≡_}
 use mathlib.Core.Bool.{Bool, true, false}
 use mathlib.Core.List.{List, [], _∷_}
 use mathlib.Core.Option.{Option, none, some}
+use lib.ListN.{getD}
 use Rattle.model.specs.Tests.{first}
 use Rattle.model.specs.Messages.{Entry, Revisions, not-read, revisions, Effect, Error, unknown-message, Standing, own-test}
 use Rattle.message.specs.declared.Row.{Row}
@@ -40,6 +41,10 @@ Spans (revisions least greatest) oldest newest = (oldest ≡ least) × (newest �
 abbrev pub is-listed : Option Entry → Bool
 is-listed none = false
 is-listed (some e) = true
+
+-- a row of the code's table, read
+abbrev pub read : List ℕ → Row
+read r = record { least = getD r 1 0; greatest = getD r 2 0; oldest = getD r 3 0; newest = getD r 4 0 }
 
 -- what the code's table has for a number that is listed is what the number's entry says
 abbrev pub Lists : ℕ → Row → Option Entry → Type 0

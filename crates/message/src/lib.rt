@@ -6,7 +6,7 @@ ghost use lib.Dec.{eqb};
 ghost use Rattle.model.specs.Bytes.{within as is-within};
 ghost use Rattle.model.specs.Messages.{entry-of, own, error-of};
 ghost use Rattle.message.specs.Meaning.{effect-in, effect-listed, answered, standing-of, error-in, error-number};
-ghost use Rattle.message.specs.Inner.{is-listed, Lists, own-error};
+ghost use Rattle.message.specs.Inner.{read, is-listed, Lists, own-error};
 
 // ---- what a message does
 
@@ -101,24 +101,31 @@ struct Row {
     newest: u64,
 }
 
-// The row of a number that is listed: the search ends there.
+fn read_row(row: [u64; 5]) -> Row
+    ensures { λ r. ⌜ r ≡ read row ⌝ }
+{
+    Row {
+        least: row[1],
+        greatest: row[2],
+        oldest: row[3],
+        newest: row[4],
+    }
+}
+
+// The row of a number that is listed: the last one, where no other has the number.
 fn row_of(mid: u64) -> Row
     requires { ⌜ is-listed (entry-of mid) ≡ true ⌝ }
     ensures { λ r. ⌜ Lists mid r (entry-of mid) ⌝ }
 {
     let mut k = 0;
-    loop {
+    while k < 9 {
         let row = MESSAGES[k];
         if row[0] == mid {
-            return Row {
-                least: row[1],
-                greatest: row[2],
-                oldest: row[3],
-                newest: row[4],
-            };
+            return read_row(row);
         }
         k += 1;
     }
+    read_row(MESSAGES[9])
 }
 
 // ---- the tests
