@@ -113,7 +113,8 @@ pub no-closers :
 unfolding outcome
 no-closers = refl
 
--- ==== what ends the subscription, call by call: an unsubscribe and at once a subscribe, a stop, a hang-up, a time-out; an acknowledge does not
+-- ==== what ends the subscription, call by call: an unsubscribe and at once a subscribe, a stop, a hang-up, a time-out; an acknowledge
+-- does not
 
 abbrev enders : List (List (List ℕ))
 enders =

@@ -12,7 +12,8 @@ use borrow.Author.Tests.{ltb-true, ltb-false, lt-ltb, le-ltb}
 use Rattle.model.specs.Limits.{table-least, output-least, answer-least}
 use Rattle.model.specs.Records.{payload, settings-of}
 use Rattle.model.specs.World.{World, uncounted, begun}
-use Rattle.model.specs.Calls.{Call, start, open-session, hang-up-session, bytes, one-tick, tool, Lent, Returned, answer-bytes, output, refusal, answered, step, returned}
+use Rattle.model.specs.Calls.{Call, start, open-session, hang-up-session, bytes, one-tick, tool, Lent, Returned, answer-bytes, output}
+use Rattle.model.specs.Calls.{refusal, answered, step, returned}
 use Rattle.model.specs.Calls as model
 use Rattle.model.proofs.Erase.{erase-world}
 use Rattle.table.specs.Table.{table-used, decode, table-formed, Table}
@@ -27,7 +28,9 @@ use Rattle.controller.proofs.Modelled.{one-call, begun-meaning}
 use Rattle.serifladder.specs.Export.{told, Exported}
 use Rattle.history.specs.Turns.{starts-call}
 use Rattle.history.specs.Product.{Once, Meets}
-use Rattle.history.specs.Exports.{Export, Leaves, Exports, none, and, ExportHistory, OnceTold, NeverTold, lent-of, Returns, AsModelled, Is, refused-1, NotMade, short-answer, short-table, CallsOf, none as no-more, made, not-made}
+use Rattle.history.specs.Exports.{Export, Leaves, Exports, none, and, ExportHistory, OnceTold, NeverTold, lent-of, Returns}
+use Rattle.history.specs.Exports.{AsModelled, Is, refused-1, NotMade, short-answer, short-table, CallsOf, none as no-more, made}
+use Rattle.history.specs.Exports.{not-made}
 use Rattle.history.proofs.Product.{demand-3-of-the-product}
 
 -- ==== of a table's length only this is asked, whether it is enough

@@ -288,7 +288,8 @@ opened-fresh l w c s h f kind = go c (refusal l w c) refl f
     go one-tick zero e f = absurd (true≢false (sym f))
     go (tool slice) zero e f = absurd (true≢false (sym f))
 
-pub marks-append : (st : Settings) (s kind : ℕ) (past xs ys : List Turn) → marks st s kind past (xs ++ ys) ≡ marks st s kind past xs ++ marks st s kind (past-after past xs) ys
+pub marks-append : (st : Settings) (s kind : ℕ) (past xs ys : List Turn)
+    → marks st s kind past (xs ++ ys) ≡ marks st s kind past xs ++ marks st s kind (past-after past xs) ys
 marks-append st s kind past [] ys = refl
 marks-append st s kind past (x ∷ xs) ys = ap (mark st s kind past x ∷_) (marks-append st s kind (x ∷ past) xs ys)
 

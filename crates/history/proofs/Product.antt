@@ -4,23 +4,21 @@ use Prim.Native.Nat.{ℕ, _≤_, _<_}
 use mathlib.Core.Path.{_≡_, refl, sym, _∙_, ap, ap₂, subst}
 use mathlib.Core.Bool.{Bool, true, false, cond, _&&_, _||_}
 use mathlib.Core.List.{List, [], _∷_, _++_, map}
-use mathlib.Core.Option.{Option, none}
+use mathlib.Core.Option.{none}
 use native.Mathlib.Omega.{arith}
 use lib.Dec.{eqb}
 use lib.ListN.{length, length-take}
 use Rattle.model.specs.Records.{Settings, payload, settings-of}
-use Rattle.model.specs.World.{World, uncounted, begun, after}
-use Rattle.model.specs.Calls.{Call, start, settled, Answer as ModelAnswer, answered, step}
+use Rattle.model.specs.World.{World, begun}
+use Rattle.model.specs.Calls.{Call, start, Answer as ModelAnswer, step}
 use Rattle.model.proofs.Erase.{erase-world}
 use Rattle.table.specs.Table.{decode, Table}
 use Rattle.refusal.specs.Numbers.{number}
 use Rattle.refusal.proofs.Numbers.{start-passes}
-use Rattle.controller.specs.declared.Answer.{Answer}
-use Rattle.controller.specs.Contract.{Outcome}
 use Rattle.controller.specs.Trace.{Made, Trace, none as no-call, and, History, lendings}
 use Rattle.controller.proofs.Outputs.{step-below, step-four}
 use Rattle.controller.proofs.Traces.{number-is, table-left, table-begun}
-use Rattle.controller.proofs.Modelled.{lending, one-call}
+use Rattle.controller.proofs.Modelled.{lending, one-call, begun-meaning}
 use Rattle.watch.specs.Marks.{copies, Demand3}
 use Rattle.history.specs.Turns.{Turn, accepted, starts-call, turns}
 use Rattle.history.specs.Reading.{unsubscribe, message, parts, started, wish-of, wish, is-some, subscribed, subscribe, shared}
@@ -58,16 +56,6 @@ told {t = t} w four h e (and {t₁ = t₁} {m = m} {ms = ms} out rest) =
           (told (q .0) (step-four l w (m .call) four) (table-left h out) (k .world) rest),
     )
 
--- what a start leaves
-world-begun : {t slice : List ℕ} {r : Answer} {t′ : List ℕ} → Outcome (start slice) t [] r t′ [] → r .number ≡ 0
-    → decode t′ ≡ erase-world (begun (settings-of (payload slice)) 0)
-unfolding step
-world-begun {t = t} {slice = slice} out e =
-    let z : number t 0 (start slice) ≡ 0 = sym (number-is out) ∙ e in
-    out .meaning
-    ∙ ap (λ (n : ℕ). uncounted ((answered (decode t) (start slice) n) .0)) z
-    ∙ ap (λ (o : Option Settings). uncounted (after (decode t) (settled o))) ((start-passes t slice z) .1)
-
 -- no second start
 no-start : (ms : List Made) (xs : List Turn) → Tells ms xs → Once ms → NoStart xs
 no-start [] [] h o = tt
@@ -82,7 +70,7 @@ pub demand-3-of-the-product : {t t′ : List ℕ} {ms : List Made} (h : History 
 demand-3-of-the-product {t = t} {ms = ms} h o =
     let st = settings-of (payload (h .settings)) in
     let cs = lendings (length t) ms in
-    let k = told (begun st 0) refl (table-begun (h .begins) (h .done)) (world-begun (h .begins) (h .done)) (h .then) in
+    let k = told (begun st 0) refl (table-begun (h .begins) (h .done)) (begun-meaning (h .begins) (h .done)) (h .then) in
     let ns = no-start ms (turns (begun st 0) cs) k o in
     record {
       settings = st;
@@ -101,7 +89,8 @@ and-false true = refl
 and-false false = refl
 
 -- a hang-up, a time-out, an accepted stop and an accepted unsubscribe each leave the session not started and subscribed
-pub ends-subscription : (s kind : ℕ) (past : List Turn) (x : Turn) → (parts s x || accepted s 0003 x || accepted s (unsubscribe kind) x) ≡ true
+pub ends-subscription : (s kind : ℕ) (past : List Turn) (x : Turn)
+    → (parts s x || accepted s 0003 x || accepted s (unsubscribe kind) x) ≡ true
     → subscribed s kind (x ∷ past) ≡ false
 ends-subscription s kind past x e =
     let other = cond (accepted s (subscribe kind) x) (wish-of (message s past x)) (wish s kind past) in

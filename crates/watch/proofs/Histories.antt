@@ -9,9 +9,12 @@ use native.Mathlib.Omega.{arith}
 use lib.Dec.{eqb}
 use lib.ListN.{length, length-append}
 use borrow.Author.Tests.{eq-eqb, ne-eqb}
-use Rattle.watch.specs.Marks.{Seen, Mark, copies-among, all-sent, copies, tick-count, ticks-open, or-later, frame-of, Every, Origin, Stays, Held, taken}
+use Rattle.watch.specs.Marks.{Seen, Mark, copies-among, all-sent, copies, tick-count, ticks-open, or-later, frame-of, Every, Origin}
+use Rattle.watch.specs.Marks.{Stays, Held, taken}
 use Rattle.watch.specs.Course.{Queue, empty, busy, Eff, Rises, Course, end, call}
-use Rattle.watch.proofs.Calls.{Good, OpenAt, Gone, NotOpen, good-step, gone-step, Fate, shut, same, runs, ends, open-step, Start, not-yet, opens, single, start-step, all, every-append, held-step, dropped-step, subscribed-step, credit, six, credit-step, Due, less, due-step, due-taken}
+use Rattle.watch.proofs.Calls.{Good, OpenAt, Gone, NotOpen, good-step, gone-step, Fate, shut, same, runs, ends, open-step, Start}
+use Rattle.watch.proofs.Calls.{not-yet, opens, single, start-step, all, every-append, held-step, dropped-step, subscribed-step}
+use Rattle.watch.proofs.Calls.{credit, six, credit-step, Due, less, due-step, due-taken}
 
 pub copies-append : (n : ℕ) (xs ys : List Seen) → copies-among n (xs ++ ys) ≡ copies-among n xs + copies-among n ys
 copies-append n [] ys = omega arith
