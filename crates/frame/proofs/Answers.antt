@@ -11,7 +11,8 @@ use base.Fml.{Lft, Share, Fml, ftrue, flft}
 use prog.Wp.{Heap}
 use ghost.Atoms.{Atoms, sem}
 use contract.Monad.{fact}
-use types.Kit.{Given, Item, Goal, Soaks, Seq, Step, step, ‵, raw, some, later, _⊛_, ⋆, _$_, _∵_, !, qed, move, use1, split, join, pick, frame, await, done}
+use types.Kit.{Given, Item, Goal, Soaks, Seq, Step, step, ‵, raw, some, later, _⊛_, ⋆, _$_, _∵_, !, qed, move, use1, split, join, pick}
+use types.Kit.{frame, await, done}
 use denote.RattleType.{RattleType}
 use denote.Laws.{Is, shows}
 use denote.Builtin.{u8}

@@ -14,7 +14,8 @@ use Rattle.model.specs.Messages.{Standing, Entry, Revisions, not-read, revision
 use Rattle.message.specs.Meaning.{effect-in, effect-listed}
 use Rattle.message.specs.Inner.{any, Spans, is-listed, Lists, own-error}
 use Rattle.message.specs.declared.Effect.{Effect}
-use Rattle.message.specs.declared.Effect.the-variants.{Unknown, Starts, Stops, Identifies, Subscribes, Unsubscribes, Acknowledges, Mirrors}
+use Rattle.message.specs.declared.Effect.the-variants.{Unknown, Starts, Stops, Identifies, Subscribes, Unsubscribes, Acknowledges}
+use Rattle.message.specs.declared.Effect.the-variants.{Mirrors}
 use Rattle.message.specs.declared.Row.{Row}
 use Rattle.message.proofs.Effect as effect
 
@@ -70,7 +71,8 @@ module _ (x : Standing) (mid size n : ℕ) (bs : List ℕ) where
   unknown p q = unlisted (entry-of mid) (rw p at q)
 
   by-row : (r : Row) → n ≤ any → (o : Option Entry) → Lists mid r o
-      → in-order (x .started && eqb mid 1) (within (r .least) (r .greatest) size) (within (r .oldest) (r .newest) n) (all is-text bs) (own-error x (effect-listed o))
+      → in-order (x .started && eqb mid 1) (within (r .least) (r .greatest) size)
+      (within (r .oldest) (r .newest) n) (all is-text bs) (own-error x (effect-listed o))
       ≡ tested x o size n bs
   by-row r h none l = absurd l
   by-row r h (some e) l = rw (l .0, l .1, l .2, among (e .revision) (r .oldest) (r .newest) n h (l .3))
@@ -78,7 +80,8 @@ module _ (x : Standing) (mid size n : ℕ) (bs : List ℕ) where
   -- a row is listed: the tests decide, whoever computed them
   pub ordered : (row : Row) {again sized revised texts : Bool} {own : Option Error}
       → n ≤ any → Lists mid row (entry-of mid)
-      → again ≡ (x .started && eqb mid 1) → sized ≡ within (row .least) (row .greatest) size → revised ≡ within (row .oldest) (row .newest) n
+      → again ≡ (x .started && eqb mid 1) → sized ≡ within (row .least) (row .greatest) size
+      → revised ≡ within (row .oldest) (row .newest) n
       → texts ≡ all is-text bs → own ≡ own-error x (effect-listed (entry-of mid))
       → in-order again sized revised texts own ≡ error-of x mid size n bs
   unfolding error-of

@@ -73,7 +73,8 @@ sound-storable x is ts s =
 
 -- one that is started may be subscribed to anything
 module _ (idle : ℕ) (i t : Subscription) (is ts : List ℕ) where
-  pub storable-kept : idle < idle-limit → Kept 0 i is → Kept 1 t ts → Storable (record { phase = Started; idle = idle; identifiers = i; tightenings = t })
+  pub storable-kept : idle < idle-limit → Kept 0 i is → Kept 1 t ts
+      → Storable (record { phase = Started; idle = idle; identifiers = i; tightenings = t })
   storable-kept l ki kt =
       let hi = ki .holds in
       let ht = kt .holds in

@@ -84,7 +84,8 @@ module _ (x : Session) where
   from-path : (y z : Session) → z ≡ y → Same z → Same y
   from-path y z e s = subst Same e s
 
-  idle-few : (y : Session) (over : Bool) → leb idle-limit (x .idle + 1) ≡ over → cond over TimesOut (Stays (with-idle x (x .idle + 1))) ≡ Stays y → y .idle < idle-limit
+  idle-few : (y : Session) (over : Bool) → leb idle-limit (x .idle + 1) ≡ over
+      → cond over TimesOut (Stays (with-idle x (x .idle + 1))) ≡ Stays y → y .idle < idle-limit
   idle-few y true p e = absurd (never y e)
   idle-few y false p e =
       let l = leb-false idle-limit (x .idle + 1) p in

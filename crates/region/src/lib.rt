@@ -304,8 +304,10 @@ pub fn event(
 // 01, "What a message does": the reply to session s, if the decision has one. The run is the one that was decided on: the header of a
 // 9999 goes back as it came.
 fn reply(out: &mut [u8], at: usize, s: u64, settings: &[u8], run: &[u8], d: Decision) -> usize
-    requires { ⌜ (at + 62 ≤ length (now out)) × (s < 256) × (length (now settings) ≡ 33) × (d ≡ Decision.Mirror → header-length ≤ length (now run)) ⌝ }
-    ensures { λ r. ⌜ (r ≤ at + 62) × Put (now (out .entry)) at (out-bytes s (replies (settings-of (now (settings .entry))) (take header-length (now (run .entry))) d)) r (now (out .exit)) ⌝ }
+    requires { ⌜ (at + 62 ≤ length (now out)) × (s < 256) × (length (now settings) ≡ 33)
+        × (d ≡ Decision.Mirror → header-length ≤ length (now run)) ⌝ }
+    ensures { λ r. ⌜ (r ≤ at + 62) × Put (now (out .entry)) at (out-bytes s (replies (settings-of (now (settings .entry)))
+        (take header-length (now (run .entry))) d)) r (now (out .exit)) ⌝ }
 {
     match d {
         Decision::Nothing => at,
@@ -407,7 +409,8 @@ fn rule(
     count: usize,
     place: &mut [u8],
 ) -> Ruling
-    requires { ⌜ (at + 62 ≤ length (now out)) × (s < 256) × (length (now settings) ≡ 33) × (length (now run) ≤ run-kept) × (length (now place) ≡ 25) ⌝ }
+    requires { ⌜ (at + 62 ≤ length (now out)) × (s < 256) × (length (now settings) ≡ 33) × (length (now run) ≤ run-kept)
+        × (length (now place) ≡ 25) ⌝ }
     ensures { λ r. ⌜ Ruled s (settings-of (now (settings .entry))) x (record { kept = now (run .entry); count = count }) (now (out .entry)) at (now (place .entry)) (r .decision) (r .at) (r .identified) (now (out .exit)) (now (place .exit)) ⌝ }
 {
     let decision = session::decide(x, is_granted(settings), run, count);
@@ -539,7 +542,8 @@ pub fn receive(
     end: usize,
     place: &mut [u8],
 ) -> Received
-    requires { ⌜ (at + 298 ≤ length (now out)) × (s < 256) × (length (now settings) ≡ 33) × Good (now region) × (length (now place) ≡ 25) × Ends (now bytes) end ⌝ }
+    requires { ⌜ (at + 298 ≤ length (now out)) × (s < 256) × (length (now settings) ≡ 33) × Good (now region)
+        × (length (now place) ≡ 25) × Ends (now bytes) end ⌝ }
     ensures { λ r. ⌜ Hears s (settings-of (now (settings .entry))) (cut (now (bytes .entry))) (now (region .entry)) (now (out .entry)) at (now (place .entry)) (r .at) (r .identified) (now (region .exit)) (now (out .exit)) (now (place .exit)) ⌝ }
 {
     if end < bytes.len() {

@@ -20,7 +20,8 @@ use Rattle.replay.proofs.Called.{called-answer, called-follows}
 use Rattle.replay.proofs.Turns.{used-up}
 
 -- a call is made, and it goes on with what that left, or ends
-pub fed-next : (m s : ℕ) (y : State) (left rest : List ℕ) (a : model.Answer) (going : Bool) → (step (lent y) (y .world) (bytes s left)) .1 ≡ a
+pub fed-next : (m s : ℕ) (y : State) (left rest : List ℕ) (a : model.Answer) (going : Bool)
+    → (step (lent y) (y .world) (bytes s left)) .1 ≡ a
     → rest ≡ drop (a .consumed) left → going ≡ (eqb (a .number) 0 && not (eqb (length rest) 0))
     → fed (suc m) y s left ≡ cond going (fed m (called y (bytes s left)) s rest) (called y (bytes s left))
 fed-next m s y left rest a going e d g =

@@ -123,7 +123,8 @@ module _ (x : State) (s b : ℕ) (bs : List ℕ) where
           number = 0;
           world = ap (λ (y : State). y .world) ends ∙ sym (ap (λ (r : Read). r .world) all);
           lines =
-              ap (λ (y : State). y .lines) ends ∙ first-lines ∙ ap (λ (ls : List (List ℕ)). x .lines ++ ls) (sym (append-nil (map line-of es)))
+              ap (λ (y : State). y .lines) ends ∙ first-lines ∙ ap (λ (ls : List (List ℕ)). x .lines ++ ls) (sym (append-nil
+              (map line-of es)))
               ∙ sym (ap (λ (r : Read). x .lines ++ (map line-of (r .emissions) ++ [])) all);
         }
 
@@ -147,7 +148,8 @@ module _ (x : State) (s b : ℕ) (bs : List ℕ) where
               ∙ ap₂ (λ (ls : List (List ℕ)) (r : Read). ls ++ (map line-of (r .emissions) ++ refusal-line (ih .number))) first-lines read
               ∙ append-assoc (x .lines) (map line-of es) (more ++ refusal-line (ih .number))
               ∙ ap (λ (ls : List (List ℕ)). x .lines ++ ls) (sym (append-assoc (map line-of es) more (refusal-line (ih .number))))
-              ∙ ap (λ (ls : List (List ℕ)). x .lines ++ (ls ++ refusal-line (ih .number))) (sym (map-append line-of es ((later rest) .emissions)))
+              ∙ ap (λ (ls : List (List ℕ)). x .lines ++ (ls ++ refusal-line (ih .number))) (sym (map-append line-of es
+              ((later rest) .emissions)))
               ∙ sym (ap (λ (r : Read). x .lines ++ (map line-of (r .emissions) ++ refusal-line (ih .number))) all);
         }
 

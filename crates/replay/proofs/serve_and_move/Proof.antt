@@ -9,7 +9,8 @@ use Rattle.replay.proofs.serve_and_move.Statement.{statement}
 use Rattle.replay.proofs.serve_and_move.Tie as tie
 
 slice-aggregate-serve : tie.Need-slice-aggregate-serve
-slice-aggregate-serve c = let s = c .before .before .before .before .before .before .before .before in sym (length-take-le (s .args .have) (s .args .input .now) (s .pre .1))
+slice-aggregate-serve c = let s = c .before .before .before .before .before .before .before .before in
+    sym (length-take-le (s .args .have) (s .args .input .now) (s .pre .1))
 
 sub-shift : tie.Need-sub-shift
 sub-shift c =

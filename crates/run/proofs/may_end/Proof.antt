@@ -19,8 +19,11 @@ abbrev μ-loop : tie.MeasureT-loop
 loop-again : tie.Need-loop-again Inv-loop μ-loop
 loop-again c =
     let l = c .before .before .before in
-    let more : 0 < c .if1 .lowest → 0 < l .loop .lowest = λ h. ⊎-elim (λ w. omega arith) (λ w. omega arith) (c .if1 .came) in
-    (omega arith, λ h. passed-next (l .before .args .bytes .now) (l .loop .i) (l .loop .inv .1 (more h)) (omega arith) (⊎-elim (λ w z. omega arith) (λ w z. omega arith) (c .if1 .came)))
+    let more : 0 < c .if1 .lowest → 0 < l .loop .lowest = λ h. ⊎-elim (λ w. omega arith) (λ w. omega arith) (c .if1 .came) in (
+      omega arith,
+      λ h. passed-next (l .before .args .bytes .now) (l .loop .i) (l .loop .inv .1 (more h)) (omega arith) (⊎-elim
+          (λ w z. omega arith) (λ w z. omega arith) (c .if1 .came)),
+    )
 
 returns : tie.Need-returns Inv-loop μ-loop
 returns c r =
