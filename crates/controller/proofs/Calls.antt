@@ -1,5 +1,5 @@
 -- How the outcome of a call is put together: of a refusal, and of what was done. Assumes nothing.
-use mathlib.Core.Path.{_≡_, refl, sym, ap, _∙_}
+use mathlib.Core.Path.{_≡_, refl, sym, ap, subst, _∙_}
 use Prim.Native.Nat.{ℕ, zero, suc, _≤_}
 use native.Mathlib.Nat.{zero-add}
 use native.Mathlib.Omega.{arith}
@@ -9,14 +9,15 @@ use lib.ListN.{length}
 use lib.Seq.{sets}
 use Rattle.model.specs.Limits.{output-least}
 use Rattle.model.specs.Records.{Settings, payload, settings-of, read-settings}
-use Rattle.model.specs.Session.{Session, closed, opened, started, Emission}
-use Rattle.model.specs.Steps.{hang-up, step as session-step}
+use Rattle.model.specs.Session.{Emission}
 use Rattle.model.specs.World.{World, uncounted, Moment, begins, opens, hangs-up, each, begun, next, emits, emitted}
-use Rattle.model.specs.Calls.{Call, start, open-session, hang-up-session, moments, output, consumed-of, taken-of, answered, step}
+use Rattle.model.specs.Calls.{Call, start, open-session, hang-up-session, does, moments, output, answered, step}
 use Rattle.model.specs.Row.{Tagged}
 use Rattle.model.proofs.RowLaws.{said-none}
+use Rattle.model.proofs.Sessions.{begins-begun}
 use Rattle.text.proofs.Puts.{put-nothing}
 use Rattle.table.specs.Table.{decode, Table, Becomes, Went}
+use Rattle.table.proofs.Regions.{so-many-sessions}
 use Rattle.table.proofs.Alone.{opens-silent, hangs-up-silent}
 use Rattle.refusal.specs.Numbers.{number}
 use Rattle.controller.specs.declared.Answer.{Answer}
@@ -53,7 +54,7 @@ module _ (c : Call) (t o : List ℕ) where
 
   -- the moments of the call have passed, and what they emit stands in the output
   pub finish : {n : ℕ} {r : Answer} (at consumed taken : ℕ) {t′ o′ : List ℕ} → n ≡ number t (length o) c → n ≡ 0
-      → r ≡ record { number = 0; consumed = consumed; written = at; taken = taken } → consumed ≡ consumed-of c → taken ≡ taken-of (decode t) c
+      → r ≡ record { number = 0; consumed = consumed; written = at; taken = taken } → consumed ≡ (does (decode t) c) .consumed → taken ≡ (does (decode t) c) .taken
       → Went t o 0 (moments (decode t) c) at t′ o′ → at ≤ output-least → Outcome c t o r t′ o′
   finish {n} {r} at consumed taken e z p ec et w h =
       let s = said-is 0 (sym z ∙ e) in
@@ -79,12 +80,12 @@ nothing-passed t o h = record {
 -- ==== calls that emit nothing
 
 pub start-silent : (w : World) (st : Settings) → emits w (begins st) ≡ []
-start-silent w st = said-none (each w (begins st)) (λ n. go) 0 (w .sessions)
-  where
-    go : (x : Session) → (session-step (w .settings) hang-up x) .1 ≡ []
-    go closed = refl
-    go (opened idle run) = refl
-    go (started idle run subs) = refl
+start-silent w st = said-none (each w (begins st)) (λ n x. refl) 0 (w .sessions)
+
+-- and what it leaves of any table is the begun world
+pub start-begins : (t : List ℕ) (st : Settings) → uncounted (next (decode t) (begins st)) ≡ begun st 0
+unfolding decode
+start-begins t st = ap uncounted (begins-begun (decode t) st (so-many-sessions t))
 
 -- a moment that only the table shows
 quietly : (t o : List ℕ) (m : Moment) {t′ : List ℕ} → emits (decode t) m ≡ [] → Becomes t (uncounted (next (decode t) m)) t′ → Went t o 0 (m ∷ []) 0 t′ o
@@ -100,4 +101,6 @@ hung-up-quietly t o s b = quietly t o (hangs-up s) (hangs-up-silent (decode t) s
 
 pub started-quietly : (t o slice : List ℕ) {t′ : List ℕ} → read-settings slice ≡ some (settings-of (payload slice))
     → Becomes t (begun (settings-of (payload slice)) 0) t′ → Went t o 0 (moments (decode t) (start slice)) 0 t′ o
-started-quietly t o slice e b = rw e (quietly t o (begins (settings-of (payload slice))) (start-silent (decode t) (settings-of (payload slice))) b)
+started-quietly t o slice {t′} e b =
+    let st = settings-of (payload slice) in
+    rw e (quietly t o (begins st) (start-silent (decode t) st) (subst (λ (w : World). Becomes t w t′) (sym (start-begins t st)) b))

@@ -5,10 +5,10 @@ use mathlib.Core.Path.{_≡_, sym, ap, _∙_}
 use Prim.Native.Nat.{ℕ}
 use mathlib.Core.List.{List}
 use lib.ListN.{length, drop}
-use lib.Seq.{drop-drop}
 use Rattle.model.specs.Limits.{table-least}
 use Rattle.model.specs.Calls.{Call}
 use Rattle.table.specs.Table.{table-used, decode}
+use Rattle.table.proofs.Regions.{past-least as past-of}
 use Rattle.controller.specs.declared.Answer.{Answer}
 use Rattle.controller.specs.Contract.{Outcome}
 
@@ -35,4 +35,4 @@ determined {r = r} {r₂ = r₂} a b =
 
 -- no byte past 16,384 is altered
 pub past-least : {c : Call} {t o : List ℕ} {r : Answer} {t′ o′ : List ℕ} → Outcome c t o r t′ o′ → drop table-least t′ ≡ drop table-least t
-past-least {t = t} {t′ = t′} out = sym (drop-drop 11_264 table-used t′) ∙ ap (drop 11_264) (out .past) ∙ drop-drop 11_264 table-used t
+past-least {t = t} {t′ = t′} out = past-of t t′ (out .past)

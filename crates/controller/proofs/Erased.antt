@@ -4,14 +4,14 @@ use Prim.Native.Nat.{ℕ, zero, suc}
 use mathlib.Core.List.{List, [], _∷_, map}
 use lib.ListN.{take, drop}
 use Rattle.model.specs.Runs.{Run}
-use Rattle.model.specs.Events.{Notice, identifiers, tightenings}
+use Rattle.model.specs.Events.{Notice}
+use Rattle.model.specs.Kinds.{identifiers, tightenings}
 use Rattle.model.specs.Notices.{acked}
 use Rattle.model.specs.Notices as model
 use Rattle.model.specs.Session.{started}
 use Rattle.model.specs.Session as model-session
 use Rattle.model.specs.Limits.{session-count}
-use Rattle.model.specs.Records.{settings-of}
-use Rattle.model.proofs.Erase.{erase, erase-sub, erase-session, erase-world}
+use Rattle.model.specs.Erased.{erase, erase-sub, erase-session, erase-world}
 use Rattle.text.specs.Cells.{cells}
 use Rattle.session.specs.declared.Form.{Form}
 use Rattle.session.specs.declared.Form.the-variants.{Not, Plain, Acknowledged}
@@ -23,8 +23,8 @@ use Rattle.notices.specs.Places.{notice-in, notices-in, place-size}
 use Rattle.run.specs.Area.{run-of}
 use Rattle.head.specs.Head.{head-of}
 use Rattle.region.specs.Region.{head-area, run-area, identifiers-area, tightenings-area, session-of, region-size}
-use Rattle.shared.specs.Shared.{settings-part, in-force-of, last-of}
-use Rattle.table.specs.Table.{shared-size, shared-area, decode}
+use Rattle.table.specs.Table.{shared-area, shared-of, decode}
+use Rattle.shared.specs.Shared.{shared-size}
 
 -- cells that a function leaves as they are read
 cells-same : {A : Type 0} (g : A → A) (f : List ℕ → A) → ((p : List ℕ) → g (f p) ≡ f p) → (k n : ℕ) (l : List ℕ) → map g (cells f k n l) ≡ cells f k n l
@@ -59,10 +59,4 @@ session-erased r =
 pub decode-erased : (t : List ℕ) → decode t ≡ erase-world (decode t)
 unfolding decode
 decode-erased t =
-    ap (λ (ss : List model-session.Session). record {
-      settings = settings-of (settings-part (shared-area t));
-      in-force = in-force-of (shared-area t);
-      last = last-of (shared-area t);
-      sessions = ss;
-      events = 0;
-    }) (sym (cells-same erase-session session-of session-erased region-size session-count (drop shared-size t)))
+    ap (λ (ss : List model-session.Session). record { shared = shared-of (shared-area t); sessions = ss }) (sym (cells-same erase-session session-of session-erased region-size session-count (drop shared-size t)))

@@ -3,19 +3,21 @@
 use mathlib.Core.Path.{_≡_, refl, sym, ap, ap₂, _∙_}
 use Prim.Native.Nat.{ℕ}
 use mathlib.Core.Bool.{Bool, true}
-use mathlib.Core.List.{List, [], _∷_, map}
-use mathlib.Core.Option.{Option}
+use mathlib.Core.List.{List, [], _∷_, _++_, map}
+use mathlib.Core.Option.{Option, Option·map as option-map}
 use lib.ListN.{length, take}
 use Rattle.model.specs.Records.{Settings, payload, settings-of}
-use Rattle.model.specs.World.{World, uncounted, begun, after}
-use Rattle.model.specs.Calls.{Call, start, Lent, settled, output, answered, step, run}
-use Rattle.model.proofs.Erase.{erase-world, step-without-numbers, observed}
+use Rattle.model.specs.World.{World, uncounted, begins, begun, after}
+use Rattle.model.specs.Calls.{Call, start, Lent, at-most-one, output, answered, step, run}
+use Rattle.model.specs.Erased.{erase-world, observed}
+use Rattle.model.proofs.Erase.{step-without-numbers}
 use Rattle.table.specs.Table.{decode, Table}
 use Rattle.refusal.specs.Numbers.{number}
 use Rattle.refusal.proofs.Numbers.{start-passes}
 use Rattle.controller.specs.declared.Answer.{Answer}
 use Rattle.controller.specs.Contract.{Said, said, model-answer, Outcome}
 use Rattle.controller.specs.Trace.{Made, Trace, none, and, History, shown, lendings}
+use Rattle.controller.proofs.Calls.{start-begins}
 use Rattle.controller.proofs.Outputs.{stands}
 use Rattle.controller.proofs.Traces.{number-is, table-left, table-begun}
 
@@ -60,7 +62,8 @@ begun-meaning {t = t} {slice = slice} {r = r} out e =
     let z : number t 0 (start slice) ≡ 0 = sym (number-is out) ∙ e in
     let p = start-passes t slice z in
     out .meaning ∙ ap (λ (n : ℕ). uncounted ((answered (decode t) (start slice) n) .0)) z
-    ∙ ap (λ (o : Option Settings). uncounted (after (decode t) (settled o))) (p .1)
+    ∙ ap (λ (o : Option Settings). uncounted (after (decode t) (at-most-one (option-map begins o) ++ []))) (p .1)
+    ∙ start-begins t (settings-of (payload slice))
 
 -- A HISTORY IS A RUN OF THE MODEL, from the begun world on
 pub history-modelled : {t t′ : List ℕ} {ms : List Made} (h : History t ms t′)

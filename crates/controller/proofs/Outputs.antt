@@ -1,24 +1,26 @@
 -- 01, "What the product holds": 2,048 bytes of output suffice. Whatever a call writes stands in the output that it was lent, whole, and
--- past that the output is as it was; and it goes to one of four sessions. Assumes nothing.
+-- past that the output is as it was; and it goes to one of the sessions. Assumes nothing.
 use mathlib.Core.Path.{_≡_, refl, sym, ap, _∙_}
 use Prim.Native.Nat.{ℕ, zero, suc, _+_, _≤_, _<_}
 use native.Mathlib.Nat.{zero-add}
 use native.Mathlib.Omega.{arith}
+use mathlib.Core.Bool.{Bool, true, false, true≢false}
 use mathlib.Core.List.{List, [], _∷_, _++_}
-use mathlib.Core.Option.{Option, none, some}
+use borrow.Author.Tests.{ltb-false}
+use mathlib.Core.Option.{Option, none, some, Option·map as option-map}
 use lib.ListN.{length, take, drop}
 use lib.Seq.{sets}
 use Rattle.model.specs.Limits.{output-least}
 use Rattle.model.specs.Records.{Settings, read-settings}
 use Rattle.model.specs.Session.{Session, Emission}
-use Rattle.model.specs.World.{World, Moment, begins, opens, hangs-up, hears, ticks, happens, each, next, after, emitted}
-use Rattle.model.specs.Calls.{Call, start, open-session, hang-up-session, bytes, one-tick, tool, settled, moments, output, Lent, refusal, answered, step}
+use Rattle.model.specs.World.{World, Moment, begins, each, next, after, emitted}
+use Rattle.model.specs.Calls.{Call, start, open-session, hang-up-session, bytes, one-tick, tool, does, at-most-one, moments, output, Lent, refusal, answered, step}
 use Rattle.model.specs.Row.{Tagged, tag, said as row-said}
 use Rattle.model.proofs.RowLaws.{length-row}
+use Rattle.model.proofs.Refusals.{has-output}
 use Rattle.text.proofs.Lists.{take-sets, drop-sets-after}
 use Rattle.table.specs.Table.{decode}
-use Rattle.refusal.specs.Numbers.{number}
-use Rattle.refusal.proofs.Numbers.{is-ready, open-passes, hang-up-passes, bytes-refused, tool-ready}
+use Rattle.refusal.specs.Numbers.{lent, number}
 use Rattle.controller.specs.declared.Answer.{Answer}
 use Rattle.controller.specs.Contract.{said, Outcome}
 use Rattle.controller.proofs.Calls.{start-silent}
@@ -28,20 +30,27 @@ pub written-is : (w : World) (c : Call) (n : ℕ) → (answered w c n) .1 .writt
 written-is w c zero = refl
 written-is w c (suc n) = refl
 
--- a start writes nothing
-start-writes : (w : World) (o : Option Settings) → length (output (emitted w (settled o))) ≡ 0
-start-writes w none = refl
-start-writes w (some st) = ap (λ (es : List (Tagged Emission)). length (output (es ++ []))) (start-silent w st)
+-- one that asks for no output writes nothing
+silent : (w : World) (c : Call) → (does w c) .asks .output ≡ false → output (emitted w (moments w c)) ≡ []
+silent w (start slice) e = go (read-settings slice)
+  where
+    go : (o : Option Settings) → output (emitted w (at-most-one (option-map begins o) ++ [])) ≡ []
+    go none = refl
+    go (some st) = ap (λ (es : List (Tagged Emission)). output (es ++ [])) (start-silent w st)
+silent w (open-session s) e = absurd (true≢false e)
+silent w (hang-up-session s) e = absurd (true≢false e)
+silent w (bytes s bs) e = absurd (true≢false e)
+silent w one-tick e = absurd (true≢false e)
+silent w (tool slice) e = absurd (true≢false e)
 
-module _ (t : List ℕ) (n : ℕ) where
+module _ (t : List ℕ) (n : ℕ) (c : Call) where
   -- a call that is done has room for it
-  room : (c : Call) (k : ℕ) → number t n c ≡ 0 → k ≡ length (output (emitted (decode t) (moments (decode t) c))) → k ≤ output-least → k ≤ n
-  room (start slice) k e q h = let z = start-writes (decode t) (read-settings slice) in omega arith
-  room (open-session s) k e q h = let r = open-passes t n s e .0 .room in omega arith
-  room (hang-up-session s) k e q h = let r = hang-up-passes t n s e .0 .room in omega arith
-  room (bytes s bs) k e q h = let r = hang-up-passes t n s (bytes-refused t n s bs ∙ e) .0 .room in omega arith
-  room one-tick k e q h = let r = is-ready t n e .room in omega arith
-  room (tool slice) k e q h = let r = tool-ready t n slice e .room in omega arith
+  room : (k : ℕ) → number t n c ≡ 0 → k ≡ length (output (emitted (decode t) (moments (decode t) c))) → k ≤ output-least → k ≤ n
+  room k e q h = go ((does (decode t) c) .asks .output) refl
+    where
+      go : (b : Bool) → (does (decode t) c) .asks .output ≡ b → k ≤ n
+      go true a = omega (arith, ltb-false n output-least (has-output (lent t n) (decode t) c e a))
+      go false a = omega (arith, q, ap length (silent (decode t) c a))
 
 pub so-long : {c : Call} {t o : List ℕ} {r : Answer} {t′ o′ : List ℕ} → Outcome c t o r t′ o′ → r .written ≡ length (output ((said c t o) .2))
 unfolding step
@@ -71,7 +80,7 @@ stands {c = c} {t = t} {o = o} {r = r} {t′ = t′} {o′ = o′} out =
     go zero e q = room t (length o) c (r .written) e (q ∙ ap (λ (k : ℕ). length (output ((answered (decode t) c k) .2))) e) (out .fits)
     go (suc m) e q = let z = q ∙ ap (λ (k : ℕ). length (output ((answered (decode t) c k) .2))) e in omega arith
 
--- ==== whatever goes out goes to one of four sessions
+-- ==== whatever goes out goes to one of the sessions
 
 abbrev pub Below : ℕ → List (Tagged Emission) → Type 0
 Below n [] = Unit {0}
@@ -91,37 +100,34 @@ below-said act n i (x ∷ xs) h =
     below-append n (tag i ((act i x) .1)) (row-said act (suc i) xs) (below-tag n i ((act i x) .1) (omega arith))
     (below-said act n (suc i) xs (omega arith))
 
-still-four : (w : World) (m : Moment) → length (w .sessions) ≡ 4 → length ((next w m) .sessions) ≡ 4
-still-four w (begins st) h = refl
-still-four w (opens s) h = length-row (each w (opens s)) 0 (w .sessions) ∙ h
-still-four w (hangs-up s) h = length-row (each w (hangs-up s)) 0 (w .sessions) ∙ h
-still-four w (hears s p) h = length-row (each w (hears s p)) 0 (w .sessions) ∙ h
-still-four w ticks h = length-row (each w ticks) 0 (w .sessions) ∙ h
-still-four w (happens e) h = length-row (each w (happens e)) 0 (w .sessions) ∙ h
+-- there are as many sessions as before, however many that are
+module _ (n : ℕ) where
+  still-many : (w : World) (m : Moment) → length (w .sessions) ≡ n → length ((next w m) .sessions) ≡ n
+  still-many w m h = length-row (each w m) 0 (w .sessions) ∙ h
 
-four-after : (w : World) (ms : List Moment) → length (w .sessions) ≡ 4 → length ((after w ms) .sessions) ≡ 4
-four-after w [] h = h
-four-after w (m ∷ ms) h = four-after (next w m) ms (still-four w m h)
+  many-after : (w : World) (ms : List Moment) → length (w .sessions) ≡ n → length ((after w ms) .sessions) ≡ n
+  many-after w [] h = h
+  many-after w (m ∷ ms) h = many-after (next w m) ms (still-many w m h)
 
-below-emitted : (w : World) (ms : List Moment) → length (w .sessions) ≡ 4 → Below 4 (emitted w ms)
-below-emitted w [] h = tt
-below-emitted w (m ∷ ms) h =
-    below-append 4 (row-said (each w m) 0 (w .sessions)) (emitted (next w m) ms) (below-said (each w m) 4 0 (w .sessions) (omega arith))
-    (below-emitted (next w m) ms (still-four w m h))
+  below-emitted : (w : World) (ms : List Moment) → length (w .sessions) ≡ n → Below n (emitted w ms)
+  below-emitted w [] h = tt
+  below-emitted w (m ∷ ms) h =
+      below-append n (row-said (each w m) 0 (w .sessions)) (emitted (next w m) ms) (below-said (each w m) n 0 (w .sessions) (omega arith))
+      (below-emitted (next w m) ms (still-many w m h))
 
-pub answered-below : (w : World) (c : Call) (n : ℕ) → length (w .sessions) ≡ 4 → Below 4 ((answered w c n) .2)
-answered-below w c zero h = below-emitted w (moments w c) h
-answered-below w c (suc n) h = tt
+  pub answered-below : (w : World) (c : Call) (k : ℕ) → length (w .sessions) ≡ n → Below n ((answered w c k) .2)
+  answered-below w c zero h = below-emitted w (moments w c) h
+  answered-below w c (suc k) h = tt
 
-answered-four : (w : World) (c : Call) (n : ℕ) → length (w .sessions) ≡ 4 → length (((answered w c n) .0) .sessions) ≡ 4
-answered-four w c zero h = four-after w (moments w c) h
-answered-four w c (suc n) h = h
+  answered-many : (w : World) (c : Call) (k : ℕ) → length (w .sessions) ≡ n → length (((answered w c k) .0) .sessions) ≡ n
+  answered-many w c zero h = many-after w (moments w c) h
+  answered-many w c (suc k) h = h
 
-module _ (l : Lent) (w : World) (c : Call) (h : length (w .sessions) ≡ 4) where
-  pub step-below : Below 4 ((step l w c) .2)
-  unfolding step
-  step-below = answered-below w c (refusal l w c) h
+  module _ (l : Lent) (w : World) (c : Call) (h : length (w .sessions) ≡ n) where
+    pub step-below : Below n ((step l w c) .2)
+    unfolding step
+    step-below = answered-below w c (refusal l w c) h
 
-  pub step-four : length (((step l w c) .0) .sessions) ≡ 4
-  unfolding step
-  step-four = answered-four w c (refusal l w c) h
+    pub step-many : length (((step l w c) .0) .sessions) ≡ n
+    unfolding step
+    step-many = answered-many w c (refusal l w c) h

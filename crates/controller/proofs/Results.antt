@@ -4,16 +4,14 @@ use Prim.Native.Nat.{ℕ, _+_, _-_, _≤_, _<_}
 use native.Mathlib.Nat.{zero-add}
 use native.Mathlib.Omega.{arith}
 use mathlib.Core.Bool.{Bool, true, false, cond}
-use mathlib.Core.List.{List, [], _∷_, _++_}
-use mathlib.Core.Option.{some}
+use mathlib.Core.List.{List, _++_}
 use lib.Dec.{lit≤}
 use lib.ListN.{length, take, drop, length-drop}
 use lib.Seq.{sets, length-sets, sets-eq, take-take, drop-drop, drop-append-le, take-append-le}
 use Rattle.model.specs.Bytes.{is-space, all, little, in-bytes}
 use Rattle.model.specs.Records.{identifier-in, tightening-of, tightening}
 use Rattle.model.specs.Events.{tightened, identifier-of}
-use Rattle.model.specs.World.{World, happens}
-use Rattle.model.specs.Calls.{reported}
+use Rattle.model.specs.Sharing.{Shared, reported}
 use Rattle.text.specs.Put.{Put}
 use Rattle.text.proofs.Lists.{drop-sets, take-sets, take-sets-before, drop-sets-after, drop-take}
 use Rattle.text.proofs.Numbers.{in-bytes-length}
@@ -92,14 +90,14 @@ module _ (z p x : List ℕ) (n : ℕ) (lz : length z ≡ 110) (lp : length p ≡
       ∙ take-append-le 81 (drop 25 p) (drop 106 z) (simp length-drop (omega arith))
 
   -- the event that is reported now
-  pub result-kept : (w : World) → x ≡ identifier-of (identifier-in p) (w .in-force) → n ≡ w .last + 1
-      → happens (tightened (result-of kept)) ∷ [] ≡ reported w (some (tightening (identifier-in p) (tightening-of p)))
+  pub result-kept : (g : Shared) → x ≡ identifier-of (identifier-in p) (g .in-force) → n ≡ g .last + 1
+      → tightened (result-of kept) ≡ reported g (tightening (identifier-in p) (tightening-of p))
   unfolding result-of
-  result-kept w ex en = λ i. happens (tightened (record {
+  result-kept g ex en = λ i. tightened (record {
     number = (kept-number ∙ en) i;
     identifier = (kept-identifier ∙ ex) i;
     tightening = tightening-same kept p kept-rest i;
-  })) ∷ []
+  })
 
 -- the identifier that is meant is as long as the two are
 pub meant-length : {x : List ℕ} (own in-force : List ℕ) → x ≡ identifier-of own in-force → length own ≡ 25 → length in-force ≡ 25 → length x ≡ 25
@@ -112,12 +110,12 @@ meant-length own in-force e a b = ap length e ∙ go (all is-space own)
 -- the same, as the code writes it
 pub result-put : (z p x : List ℕ) (n : ℕ) {p₁ p₂ p₃ : List ℕ} {r₁ r₂ r₃ : ℕ} → Put z 0 p r₁ p₁ → Put p₁ 0 x r₂ p₂ → Put p₂ 106 (in-bytes 4 n) r₃ p₃
     → length z ≡ 110 → length p ≡ 106 → length x ≡ 25 → n < 4_294_967_296
-    → (w : World) → x ≡ identifier-of (identifier-in p) (w .in-force) → n ≡ w .last + 1
-    → happens (tightened (result-of p₃)) ∷ [] ≡ reported w (some (tightening (identifier-in p) (tightening-of p)))
-result-put z p x n a b c lz lp lx ln w ex en =
-    ap (λ (q : List ℕ). happens (tightened (result-of q)) ∷ [])
+    → (g : Shared) → x ≡ identifier-of (identifier-in p) (g .in-force) → n ≡ g .last + 1
+    → tightened (result-of p₃) ≡ reported g (tightening (identifier-in p) (tightening-of p))
+result-put z p x n a b c lz lp lx ln g ex en =
+    ap (λ (q : List ℕ). tightened (result-of q))
     (c .output ∙ ap (λ (q : List ℕ). sets q 106 (in-bytes 4 n)) (b .output ∙ ap (λ (q : List ℕ). sets q 0 x) (a .output)))
-    ∙ result-kept z p x n lz lp lx ln w ex en
+    ∙ result-kept z p x n lz lp lx ln g ex en
 
 -- there is a number left
 pub next-number : (n : ℕ) → n < 4_294_967_296 → (n ≡ 4_294_967_295 → ⊥) → n + 1 < 4_294_967_296

@@ -4,12 +4,15 @@ use Prim.Native.Nat.{ℕ, _+_, _≤_}
 use native.Mathlib.Omega.{arith}
 use mathlib.Core.Bool.{Bool, true, false, cond}
 use mathlib.Core.List.{List, [], _∷_}
-use mathlib.Core.Option.{Option, none, some}
+use mathlib.Core.Option.{Option, none, Option·map as option-map}
 use lib.ListN.{length}
 use Rattle.model.specs.Records.{payload, good-record, identifier-in, tightening-of, tightening-items, scanned-items, Tool, tightening, read-tool}
-use Rattle.model.specs.Events.{identifiers, tightenings, identified, tightened}
+use Rattle.model.specs.Kinds.{identifiers, tightenings, event-most, call-most}
+use Rattle.model.proofs.Bounds.{event-within}
+use Rattle.model.specs.Events.{Event, identified, tightened}
 use Rattle.model.specs.World.{Moment, happens}
-use Rattle.model.specs.Calls.{tool, reported, moments, takers, taken-by, taken-of}
+use Rattle.model.specs.Calls.{tool, does, happening, moments, takers, taken-by}
+use Rattle.model.specs.Sharing.{reported}
 use Rattle.frame.specs.Layout.{result-of}
 use Rattle.notices.specs.Places.{event-in}
 use Rattle.record.specs.declared.Kind.{Kind}
@@ -21,7 +24,7 @@ use Rattle.controller.proofs.Calls.{nothing-passed}
 
 -- what the event of a tool record does
 abbrev pub Reports : (slice t o : List ℕ) (at taken : ℕ) (t′ o′ : List ℕ) → Type 0
-Reports slice t o at taken t′ o′ = (at ≤ 944) × Went t o 0 (moments (decode t) (tool slice)) at t′ o′ × (taken ≡ taken-of (decode t) (tool slice))
+Reports slice t o at taken t′ o′ = (at ≤ call-most) × Went t o 0 (moments (decode t) (tool slice)) at t′ o′ × (taken ≡ (does (decode t) (tool slice)) .taken)
 
 module _ (kind : Kind) (slice : List ℕ) (e : tool-in kind slice ≡ read-tool slice) where
   -- the tool record that is read
@@ -54,24 +57,32 @@ module _ (kind : Kind) (slice : List ℕ) (e : tool-in kind slice ≡ read-tool 
   -- ==== what it does, by its kind
 
   module _ (t o : List ℕ) where
-    as-reported : {ms : List Moment} {at taken : ℕ} {t′ o′ : List ℕ} (r : Option Tool) → r ≡ read-tool slice → ms ≡ reported (decode t) r
-        → taken ≡ taken-by (decode t) r → at ≤ 0 + 944 → Went t o 0 ms at t′ o′ → Reports slice t o at taken t′ o′
-    as-reported {at = at} {t′ = t′} {o′ = o′} r q m k h w =
-        (omega arith, subst (λ (x : List Moment). Went t o 0 x at t′ o′) (m ∙ ap (reported (decode t)) q) w, k ∙ ap (taken-by (decode t)) q)
+    -- the event that it is, if it is one
+    abbrev is : Option Tool → Option Event
+    is r = option-map (reported (decode t .shared)) r
+
+    as-reported : {ms : List Moment} {at taken : ℕ} {t′ o′ : List ℕ} (r : Option Tool) → r ≡ read-tool slice → ms ≡ happening (is r)
+        → taken ≡ taken-by (decode t .sessions) (is r) → at ≤ call-most → Went t o 0 ms at t′ o′ → Reports slice t o at taken t′ o′
+    as-reported {at = at} {t′ = t′} {o′ = o′} r q m k h w = (
+      h,
+      subst (λ (x : List Moment). Went t o 0 x at t′ o′) (m ∙ ap (λ (x : Option Tool). happening (is x)) q) w,
+      k ∙ ap (λ (x : Option Tool). taken-by (decode t .sessions) (is x)) q,
+    )
 
     pub bad-reported : kind ≡ Bad → Table t → Reports slice t o 0 0 t o
     bad-reported k h = as-reported none (read k) refl refl (omega arith) (nothing-passed t o h)
 
     pub tightening-reported : (r : List ℕ) {p : List ℕ} {at taken : ℕ} {t′ o′ : List ℕ} → kind ≡ Tightening → p ≡ payload slice
-        → happens (tightened (result-of r)) ∷ [] ≡ reported (decode t) (some (tightening (identifier-in p) (tightening-of p)))
-        → at ≤ 0 + 944 → Went t o 0 (happens (event-in tightenings r) ∷ []) at t′ o′ → taken ≡ takers tightenings 0 (decode t .sessions)
+        → tightened (result-of r) ≡ reported (decode t .shared) (tightening (identifier-in p) (tightening-of p))
+        → at ≤ 0 + event-most tightenings → Went t o 0 (happens (event-in tightenings r) ∷ []) at t′ o′ → taken ≡ takers tightenings 0 (decode t .sessions)
         → Reports slice t o at taken t′ o′
     tightening-reported r k q m h w n =
         as-reported (tool-in Tightening slice) (read k)
-        (m ∙ ap (λ (bs : List ℕ). reported (decode t) (some (tightening (identifier-in bs) (tightening-of bs)))) q) n h w
+        (ap (λ (e : Event). happens e ∷ []) (m ∙ ap (λ (bs : List ℕ). reported (decode t .shared) (tightening (identifier-in bs) (tightening-of bs))) q))
+        n (omega (arith, event-within tightenings (omega arith))) w
 
     pub scan-reported : {p : List ℕ} {at taken : ℕ} {t′ o′ : List ℕ} → kind ≡ Scanned → p ≡ payload slice
-        → at ≤ 0 + 944 → Went t o 0 (happens (event-in identifiers p) ∷ []) at t′ o′ → taken ≡ takers identifiers 0 (decode t .sessions)
+        → at ≤ 0 + event-most identifiers → Went t o 0 (happens (event-in identifiers p) ∷ []) at t′ o′ → taken ≡ takers identifiers 0 (decode t .sessions)
         → Reports slice t o at taken t′ o′
     scan-reported k q h w n =
-        as-reported (tool-in Scanned slice) (read k) (ap (λ (bs : List ℕ). happens (identified bs) ∷ []) q) n h w
+        as-reported (tool-in Scanned slice) (read k) (ap (λ (bs : List ℕ). happens (identified bs) ∷ []) q) n (omega (arith, event-within identifiers (omega arith))) w

@@ -9,9 +9,9 @@ use Rattle.model.specs.Limits.{output-least}
 use Rattle.model.specs.World.{World}
 use Rattle.model.specs.Calls as model
 use Rattle.model.specs.Calls.{bytes, output, refusal, step}
-use Rattle.model.specs.Reading.{Read, read-within, read-all}
+use Rattle.model.specs.Slices.{Upshot, read-within, read-all}
 use Rattle.model.proofs.Cuts.{read-on, cut-anywhere}
-use Rattle.model.proofs.Erase.{erase-world}
+use Rattle.model.specs.Erased.{erase-world}
 use Rattle.model.proofs.Erase.{output-append}
 use Rattle.table.specs.Table.{decode, Table}
 use Rattle.controller.specs.declared.Answer.{Answer}
@@ -27,7 +27,7 @@ unfolding step refusal
 room-enough size room s bs w h = rw (le-ltb room output-least h)
 
 -- what was read, and the model's reading
-pub record Read-as (m : Read) (size : ℕ) (out t′ : List ℕ) : Type 0 where
+pub record Read-as (m : Upshot) (size : ℕ) (out t′ : List ℕ) : Type 0 where
   pub world : decode t′ ≡ erase-world (m .world)
   pub bytes : out ≡ output (m .emissions)
   pub table : Table t′
@@ -48,10 +48,10 @@ as-uncut {s = s} {t = t} w h e (and-on {t₁ = t₁} {o = o} {bs = bs} {b = b} {
     let m : read-all (lending (length t₁) output-least) (q .0) s (drop (r .consumed) (b ∷ bs)) ≡ read-all l (q .0) s (drop ((q .1) .consumed) (b ∷ bs)) =
     ap₂ (λ (size n : ℕ). read-all (lending size output-least) (q .0) s (drop n (b ∷ bs))) (out .size) left in
     record {
-      world = ih .world ∙ ap (λ (x : Read). erase-world (x .world)) m ∙ ap (λ (x : Read). erase-world (x .world)) (sym (read-on l s w b bs));
+      world = ih .world ∙ ap (λ (x : Upshot). erase-world (x .world)) m ∙ ap (λ (x : Upshot). erase-world (x .world)) (sym (read-on l s w b bs));
       bytes =
-          ap₂ _++_ (k .bytes ∙ ap (λ (x : Said). output (x .2)) same) (ih .bytes ∙ ap (λ (x : Read). output (x .emissions)) m)
-          ∙ sym (output-append (q .2) _) ∙ ap (λ (x : Read). output (x .emissions)) (sym (read-on l s w b bs));
+          ap₂ _++_ (k .bytes ∙ ap (λ (x : Said). output (x .2)) same) (ih .bytes ∙ ap (λ (x : Upshot). output (x .emissions)) m)
+          ∙ sym (output-append (q .2) _) ∙ ap (λ (x : Upshot). output (x .emissions)) (sym (read-on l s w b bs));
       table = ih .table;
       same-size = ih .same-size ∙ out .size;
     }
@@ -70,7 +70,7 @@ cut-anywhere-same {s = s} {t = t} {xs = xs} {ys = ys} {t₁ = t₁} h a b c =
     let n : read-all (lending (length t₁) output-least) (m .world) s ys ≡ read-all l (m .world) s ys =
     ap (λ (size : ℕ). read-all (lending size output-least) (m .world) s ys) (first .same-size) in
     let k = cut-anywhere l w s xs ys in (
-      second .world ∙ ap (λ (x : Read). erase-world (x .world)) n ∙ sym (ap (λ (x : Read). erase-world (x .world)) k) ∙ sym (whole .world),
-      ap₂ _++_ (first .bytes) (second .bytes ∙ ap (λ (x : Read). output (x .emissions)) n)
-          ∙ sym (output-append (m .emissions) _) ∙ sym (ap (λ (x : Read). output (x .emissions)) k) ∙ sym (whole .bytes),
+      second .world ∙ ap (λ (x : Upshot). erase-world (x .world)) n ∙ sym (ap (λ (x : Upshot). erase-world (x .world)) k) ∙ sym (whole .world),
+      ap₂ _++_ (first .bytes) (second .bytes ∙ ap (λ (x : Upshot). output (x .emissions)) n)
+          ∙ sym (output-append (m .emissions) _) ∙ sym (ap (λ (x : Upshot). output (x .emissions)) k) ∙ sym (whole .bytes),
     )

@@ -1,13 +1,13 @@
 // The calls of the product.
 ghost use mathlib.Core.Path.{_≡_};
-ghost use mathlib.Core.List.{[], _∷_};
-ghost use mathlib.Core.Option.{some};
+ghost use mathlib.Core.List.{[]};
 ghost use Prim.Native.Nat.{_≤_, _<_};
 ghost use lib.ListN.{length, drop};
-ghost use Rattle.model.specs.Limits.{number-greatest};
+ghost use Rattle.model.specs.Limits.{output-least, number-greatest};
+ghost use Rattle.model.specs.Kinds.{call-most};
 ghost use Rattle.model.specs.Records.{identifier-in, tightening-of, tightening, read-tool};
 ghost use Rattle.model.specs.Events.{tightened};
-ghost use Rattle.model.specs.World.{happens};
+ghost use Rattle.model.specs.Sharing.{reported};
 ghost use Rattle.model.specs.Calls.{
   start as start-call,
   open-session,
@@ -15,9 +15,8 @@ ghost use Rattle.model.specs.Calls.{
   bytes as bytes-call,
   one-tick,
   tool,
-  reported,
+  does,
   moments,
-  taken-of,
 };
 ghost use Rattle.frame.specs.Layout.{result-of};
 ghost use Rattle.record.specs.Tools.{tool-in};
@@ -128,8 +127,8 @@ pub fn rest(bytes: &[u8], answer: Answer) -> &[u8]
 
 // A tightening as it is kept: the tool record's payload with the identifier that is meant now, and its number, the next one.
 fn result<'a>(table: &'a [u8], payload: &'a [u8]) -> [u8; 110]
-    requires { ⌜ Table (now table) × (length (now payload) ≡ 106) × (decode (now table) .last ≡ number-greatest → ⊥) ⌝ }
-    ensures { λ r. ⌜ happens (tightened (result-of r)) ∷ [] ≡ reported (decode (now (table .entry))) (some (tightening (identifier-in (now (payload .entry))) (tightening-of (now (payload .entry))))) ⌝ }
+    requires { ⌜ Table (now table) × (length (now payload) ≡ 106) × (decode (now table) .shared .last ≡ number-greatest → ⊥) ⌝ }
+    ensures { λ r. ⌜ tightened (result-of r) ≡ reported (decode (now (table .entry)) .shared) (tightening (identifier-in (now (payload .entry))) (tightening-of (now (payload .entry)))) ⌝ }
 {
     let mut place = [0; 110];
     text::copy(payload, &mut place, 0);
@@ -142,9 +141,9 @@ fn result<'a>(table: &'a [u8], payload: &'a [u8]) -> [u8; 110]
 
 // The event of a tool record, if it is good.
 fn report(table: &mut [u8], output: &mut [u8], slice: &[u8], kind: Kind) -> Told
-    requires { ⌜ Table (now table) × (2_048 ≤ length (now output)) × (tool-in kind (now slice) ≡ read-tool (now slice)) ⌝ }
-    requires { ⌜ (kind ≡ Kind.Tightening → decode (now table) .last ≡ number-greatest → ⊥) ⌝ }
-    ensures { λ r. ⌜ (r .at ≤ 944) × Went (now (table .entry)) (now (output .entry)) 0 (moments (decode (now (table .entry))) (tool (now (slice .entry)))) (r .at) (now (table .exit)) (now (output .exit)) × (r .taken ≡ taken-of (decode (now (table .entry))) (tool (now (slice .entry)))) ⌝ }
+    requires { ⌜ Table (now table) × (output-least ≤ length (now output)) × (tool-in kind (now slice) ≡ read-tool (now slice)) ⌝ }
+    requires { ⌜ (kind ≡ Kind.Tightening → decode (now table) .shared .last ≡ number-greatest → ⊥) ⌝ }
+    ensures { λ r. ⌜ (r .at ≤ call-most) × Went (now (table .entry)) (now (output .entry)) 0 (moments (decode (now (table .entry))) (tool (now (slice .entry)))) (r .at) (now (table .exit)) (now (output .exit)) × (r .taken ≡ (does (decode (now (table .entry))) (tool (now (slice .entry)))) .taken) ⌝ }
 {
     let payload = record::payload(slice);
     match kind {

@@ -7,6 +7,7 @@ ghost use Rattle.model.specs.Limits.{header-length};
 ghost use Rattle.model.specs.Bytes.{digit-0, digit-1, is-digit, is-space, all};
 ghost use Rattle.model.specs.Runs.{is-flag as is-flag-byte, revision-of, is-message as is-message-run};
 ghost use Rattle.model.specs.Records.{settings-of};
+ghost use Rattle.model.specs.Kinds.{kind-at, identifiers, tightenings, copy-most, reply-most};
 ghost use Rattle.model.specs.Frames.{
   header as header-bytes,
   value,
@@ -255,8 +256,8 @@ pub fn put_close(out: &mut [u8], at: usize, s: u64) -> usize
 
 // 0002: the session is started. The settings are a settings record's payload.
 pub fn put_0002(out: &mut [u8], at: usize, s: u64, settings: &[u8]) -> usize
-    requires { ⌜ (at + 62 ≤ length (now out)) × (s < 256) × (length (now settings) ≡ 33) ⌝ }
-    ensures { λ r. ⌜ (r ≡ at + 62) × Put (now (out .entry)) at (frame-record s (frame-0002 (settings-of (now (settings .entry))))) r (now (out .exit)) ⌝ }
+    requires { ⌜ (at + reply-most ≤ length (now out)) × (s < 256) × (length (now settings) ≡ 33) ⌝ }
+    ensures { λ r. ⌜ (r ≡ at + reply-most) × Put (now (out .entry)) at (frame-record s (frame-0002 (settings-of (now (settings .entry))))) r (now (out .exit)) ⌝ }
 {
     let mut frame = [0u8; 57];
     let to = put_header(&mut frame, 57, 2, 1, b' ');
@@ -314,9 +315,9 @@ fn put_0052_2(
     no_acknowledge: bool,
     identifier: &[u8],
 ) -> usize
-    requires { ⌜ (at + 133 ≤ length (now out)) × (s < 256) × (length (now identifier) ≡ 25) ⌝ }
+    requires { ⌜ (at + copy-most (kind-at identifiers) ≤ length (now out)) × (s < 256) × (length (now identifier) ≡ 25) ⌝ }
     requires { ⌜ (revision ≡ 1 → ⊥) ⌝ }
-    ensures { λ r. ⌜ (r ≡ at + 133) × Put (now (out .entry)) at (frame-record s (frame-0052 revision «no_acknowledge» (now (identifier .entry)))) r (now (out .exit)) ⌝ }
+    ensures { λ r. ⌜ (r ≡ at + copy-most (kind-at identifiers)) × Put (now (out .entry)) at (frame-record s (frame-0052 revision «no_acknowledge» (now (identifier .entry)))) r (now (out .exit)) ⌝ }
 {
     let mut frame = [0u8; 128];
     let to = put_header(&mut frame, 128, 52, revision, byte_12(no_acknowledge));
@@ -333,8 +334,8 @@ pub fn put_0052(
     no_acknowledge: bool,
     identifier: &[u8],
 ) -> usize
-    requires { ⌜ (at + 133 ≤ length (now out)) × (s < 256) × (length (now identifier) ≡ 25) ⌝ }
-    ensures { λ r. ⌜ (r ≤ at + 133) × Put (now (out .entry)) at (frame-record s (frame-0052 revision «no_acknowledge» (now (identifier .entry)))) r (now (out .exit)) ⌝ }
+    requires { ⌜ (at + copy-most (kind-at identifiers) ≤ length (now out)) × (s < 256) × (length (now identifier) ≡ 25) ⌝ }
+    ensures { λ r. ⌜ (r ≤ at + copy-most (kind-at identifiers)) × Put (now (out .entry)) at (frame-record s (frame-0052 revision «no_acknowledge» (now (identifier .entry)))) r (now (out .exit)) ⌝ }
 {
     if revision == 1 {
         return put_0052_1(out, at, s, no_acknowledge, identifier);
@@ -352,8 +353,8 @@ pub fn put_0061(
     settings: &[u8],
     result: &[u8],
 ) -> usize
-    requires { ⌜ (at + 236 ≤ length (now out)) × (s < 256) × (length (now settings) ≡ 33) × (length (now result) ≡ 110) ⌝ }
-    ensures { λ r. ⌜ (r ≡ at + 236) × Put (now (out .entry)) at (frame-record s (frame-0061 (settings-of (now (settings .entry))) revision «no_acknowledge» (result-of (now (result .entry))))) r (now (out .exit)) ⌝ }
+    requires { ⌜ (at + copy-most (kind-at tightenings) ≤ length (now out)) × (s < 256) × (length (now settings) ≡ 33) × (length (now result) ≡ 110) ⌝ }
+    ensures { λ r. ⌜ (r ≡ at + copy-most (kind-at tightenings)) × Put (now (out .entry)) at (frame-record s (frame-0061 (settings-of (now (settings .entry))) revision «no_acknowledge» (result-of (now (result .entry))))) r (now (out .exit)) ⌝ }
 {
     let mut frame = [0u8; 231];
     let to = put_header(&mut frame, 231, 61, revision, byte_12(no_acknowledge));

@@ -10,8 +10,8 @@ use lib.Seq.{sets, length-sets, getD-take}
 use borrow.Author.Tests.{le-leb, lt-leb, lt-ltb, eqb-true}
 use Rattle.model.specs.Limits.{idle-limit, given-up-at}
 use Rattle.model.specs.Bytes.{little, in-bytes}
-use Rattle.model.specs.Events.{identifiers, tightenings}
-use Rattle.model.specs.Notices.{room-of}
+use Rattle.model.specs.Kinds.{identifiers, tightenings}
+use Rattle.model.specs.Kinds.{room-of}
 use Rattle.text.proofs.Numbers.{in-bytes-length}
 use Rattle.text.proofs.Cells.{stored-same, stored-before}
 use Rattle.session.specs.Meaning.{most-held, SubscribedIn}

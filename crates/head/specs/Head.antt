@@ -7,8 +7,8 @@ use lib.Dec.{leb, ltb, eqb}
 use lib.ListN.{length, getD, take, drop}
 use Rattle.model.specs.Limits.{idle-limit, given-up-at}
 use Rattle.model.specs.Bytes.{little}
-use Rattle.model.specs.Events.{identifiers, tightenings}
-use Rattle.model.specs.Notices.{room-of}
+use Rattle.model.specs.Kinds.{identifiers, tightenings}
+use Rattle.model.specs.Kinds.{room-of}
 use Rattle.session.specs.Meaning.{most-held, SubscribedIn}
 use Rattle.session.specs.declared.Form.{Form}
 use Rattle.session.specs.declared.Form.the-variants.{Not, Plain, Acknowledged}

@@ -5,24 +5,26 @@ use Prim.Native.Nat.{ℕ, _-_, _≤_}
 use mathlib.Core.Path.{_≡_, refl, sym, _∙_, ap, ap₂, subst}
 use mathlib.Core.Bool.{Bool, true, false, cond, _&&_, true≢false}
 use mathlib.Core.List.{List, [], _∷_, _++_, map}
-use mathlib.Core.Option.{Option, none, some}
+use mathlib.Core.Option.{Option, none, some, Option·map as option-map}
 use native.Mathlib.Omega.{arith}
 use lib.Dec.{eqb}
 use lib.ListN.{length, take}
 use borrow.Author.Tests.{eqb-true, le-ltb}
-use Rattle.model.specs.Limits.{table-least, output-least}
+use Rattle.model.specs.Limits.{session-count, table-least, output-least}
 use Rattle.model.specs.Bytes.{space, within, places, little, digits}
 use Rattle.model.specs.Records.{Settings, payload, settings-of, read-settings}
 use Rattle.model.specs.Tests.{_gives_, first}
-use Rattle.model.specs.World.{World, begun, after, emitted}
-use Rattle.model.specs.Calls.{Call, start, open-session, hang-up-session, bytes, one-tick, tool, Lent, is-none, settled, output, Answer, refusal, answered, step, run}
+use Rattle.model.specs.Frames.{frame-kind, close-kind}
+use Rattle.model.specs.World.{World, begins, begun, after, emitted}
+use Rattle.model.specs.Calls.{Call, start, Lent, is-none, output, Answer, refusal, at-most-one, answered, step, run}
 use Rattle.model.specs.Row.{Tagged}
 use Rattle.model.specs.Session.{Emission}
 use Rattle.model.specs.Program.{zeros, call-of, shown as underlined}
 use Rattle.model.proofs.Text.{ascii, same-bytes, same-lines}
 use Rattle.model.proofs.Histories.{Wanted, prints, answers, Example, outcome}
 use Rattle.model.proofs.Cases.{cases, slips}
-use Rattle.model.proofs.Erase.{observed}
+use Rattle.model.specs.Erased.{observed}
+use Rattle.model.proofs.Refusals.{same-step}
 use Rattle.watch.specs.Marks.{Every}
 use Rattle.table.specs.Table.{decode}
 use Rattle.refusal.specs.Numbers.{number}
@@ -54,9 +56,9 @@ played cs = observed (run (zeros .world) (map (λ c. (long-enough, c)) cs))
 -- the line of a record that was read
 abbrev line-read : Read → List ℕ
 line-read r =
-    cond (within 256 259 (r .kind))
-    (digits 1 (r .kind - 256) ++ (space ∷ 0x53 ∷ space ∷ []) ++ underlined (take (length (r .payload) - 1) (r .payload)))
-    (digits 1 (r .kind - 512) ++ (space ∷ 0x43 ∷ []))
+    cond (within (frame-kind 0) (frame-kind (session-count - 1)) (r .kind))
+    (digits 1 (r .kind - frame-kind 0) ++ (space ∷ 0x53 ∷ space ∷ []) ++ underlined (take (length (r .payload) - 1) (r .payload)))
+    (digits 1 (r .kind - close-kind 0) ++ (space ∷ 0x43 ∷ []))
 
 -- bytes that are cut are a line that no row has
 abbrev lines-read : Option (List Read) → List (List ℕ)
@@ -126,20 +128,9 @@ calls-of [] = []
 calls-of (m ∷ ms) = m .call ∷ calls-of ms
 
 -- longer than long enough makes no difference
-same-refusal : (size room : ℕ) (w : World) (c : Call) → table-least ≤ size → output-least ≤ room
-    → refusal (lending size room) w c ≡ refusal long-enough w c
-unfolding refusal
-same-refusal size room w (start slice) h g = rw (le-ltb size table-least h)
-same-refusal size room w (open-session s) h g = rw (le-ltb size table-least h, le-ltb room output-least g)
-same-refusal size room w (hang-up-session s) h g = rw (le-ltb size table-least h, le-ltb room output-least g)
-same-refusal size room w (bytes s bs) h g = rw (le-ltb size table-least h, le-ltb room output-least g)
-same-refusal size room w one-tick h g = rw (le-ltb size table-least h, le-ltb room output-least g)
-same-refusal size room w (tool slice) h g = rw (le-ltb size table-least h, le-ltb room output-least g)
-
-same-step : (size room : ℕ) (w : World) (c : Call) → table-least ≤ size → output-least ≤ room
+enough-step : (size room : ℕ) (w : World) (c : Call) → table-least ≤ size → output-least ≤ room
     → step (lending size room) w c ≡ step long-enough w c
-unfolding step
-same-step size room w c h g = ap (answered w c) (same-refusal size room w c h g)
+enough-step size room w c h g = same-step (lending size room) long-enough w (le-ltb size table-least h) refl (le-ltb room output-least g) c
 
 same-run : (size : ℕ) → table-least ≤ size → (w : World) (ms : List Made) → Roomy ms
     → run w (lendings size ms) ≡ run w (map (λ (c : Call). (long-enough, c)) (calls-of ms))
@@ -148,7 +139,7 @@ same-run size h w (m ∷ ms) g =
     let r = step (lending size (length (m .output))) w (m .call) in
     ap ((r .1, r .2) ∷_) (same-run size h (r .0) ms (g .1))
     ∙ ap (λ (q : World × Answer × List (Tagged Emission)). (q .1, q .2) ∷ run (q .0) (map (λ (c : Call). (long-enough, c)) (calls-of ms)))
-    (same-step size (length (m .output)) w (m .call) h (g .0))
+    (enough-step size (length (m .output)) w (m .call) h (g .0))
 
 -- the start
 abbrev done : Answer
@@ -162,12 +153,16 @@ start-played : (slice : List ℕ) (st : Settings) → read-settings slice ≡ so
     → observed (run (zeros .world) ((long-enough, start slice) ∷ cs)) ≡ (done, []) ∷ observed (run (begun st 0) cs)
 unfolding step
 start-played slice st e cs =
-    ap (λ (n : ℕ). let r = answered (zeros .world) (start slice) n in (r .1, output (r .2)) ∷ observed (run (r .0) cs)) (start-passed slice st e)
+    ap (λ (n : ℕ). let r = answered (zeros .world) (start slice) n in (r .1, output (r .2)) ∷ observed (run (r .0) cs))
+    (start-passed slice st e)
     ∙ ap (λ (o : Option Settings).
-    let es = emitted (zeros .world) (settled o) in
-    (record { number = 0; consumed = 0; written = length (output es); taken = 0 }, output es) ∷ observed (run (after (zeros .world) (settled o)) cs)) e
+    let ms = at-most-one (option-map begins o) ++ [] in
+    let es = emitted (zeros .world) ms in
+    (record { number = 0; consumed = 0; written = length (output es); taken = 0 }, output es)
+    ∷ observed (run (after (zeros .world) ms) cs)) e
 
-start-done : {t slice : List ℕ} {r : ProductAnswer} {t′ : List ℕ} → Outcome (start slice) t [] r t′ [] → r .number ≡ 0 → model-answer r ≡ done
+start-done : {t slice : List ℕ} {r : ProductAnswer} {t′ : List ℕ} → Outcome (start slice) t [] r t′ [] → r .number ≡ 0
+    → model-answer r ≡ done
 unfolding step
 start-done {t = t} {slice = slice} {r = r} out e =
     let z : number t 0 (start slice) ≡ 0 = sym (number-is out) ∙ e in

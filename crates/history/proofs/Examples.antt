@@ -1,14 +1,14 @@
 -- The words in which demand 3 is read off calls, on small histories, computed. Each is session 0, started and subscribed to tightenings
 -- with acknowledge, and a tightening that goes out to it; then what a row says. Assumes nothing.
-use Prim.Native.Nat.{ℕ, zero, suc, _/_, _%_}
+use Prim.Native.Nat.{ℕ, zero, suc, _-_, _/_, _%_}
 use mathlib.Core.Path.{_≡_, refl}
 use mathlib.Core.Bool.{Bool, true, false}
 use mathlib.Core.List.{List, [], _∷_, _++_, map}
 use mathlib.Core.Option.{none, some}
 use lib.ListN.{length, drop, replicate}
-use Rattle.model.specs.Limits.{table-least}
+use Rattle.model.specs.Limits.{table-least, output-least}
 use Rattle.model.specs.Records.{Settings, payload, settings-of}
-use Rattle.model.specs.Events.{tightenings}
+use Rattle.model.specs.Kinds.{tightenings}
 use Rattle.model.specs.World.{begun}
 use Rattle.model.specs.Calls.{Call, start, open-session, hang-up-session, bytes, one-tick, tool, Lent}
 use Rattle.model.proofs.Histories.{a-tightening, scan, opened, hung-up, message, sends, tick, ticks, line4, told, outcome}
@@ -78,7 +78,7 @@ the-copies = refl
 abbrev of-the-eighth : ℕ → ℕ
 of-the-eighth n = copies 7 (all-of (replicate 7 a-tightening ++ stands n))
 
-pub the-longest-wait : map of-the-eighth (839 ∷ longest-wait ∷ []) ≡ 0 ∷ 1 ∷ []
+pub the-longest-wait : map of-the-eighth ((longest-wait - 1) ∷ longest-wait ∷ []) ≡ 0 ∷ 1 ∷ []
 unfolding outcome
 the-longest-wait = refl
 
@@ -149,7 +149,7 @@ none-is-kept = refl
 -- ==== a refused call is nothing: no tick, no event, closes nothing, sends nothing
 
 abbrev too-short : Lent
-too-short = record { table = table-least; well-formed = true; output = 2_047 }
+too-short = record { table = table-least; well-formed = true; output = output-least - 1 }
 
 -- whether it is a tick, whether it closes, whether it is taken, how many copies it sends, and how many events there were before it
 abbrev said-of : Mark → Bool × Bool × Bool × ℕ × ℕ

@@ -1,6 +1,6 @@
 -- THE SIX FUNCTIONS THAT C CALLS, IN WHOLE HISTORIES: what C is told is what the model has it told, number 2 is not among it, and
 -- demand 3 holds. The calls that were lent too little of the table or of the answer leave table and output as they were. Assumes nothing.
-use Prim.Native.Nat.{ℕ, zero, suc, _≤_, _<_, min}
+use Prim.Native.Nat.{ℕ, suc, _≤_, _<_, min}
 use mathlib.Core.Path.{_≡_, refl, sym, _∙_, ap, ap₂, subst}
 use mathlib.Core.Bool.{Bool, true, false, cond, _&&_}
 use mathlib.Core.List.{List, [], _∷_, _++_}
@@ -12,10 +12,12 @@ use borrow.Author.Tests.{ltb-true, ltb-false, lt-ltb, le-ltb}
 use Rattle.model.specs.Limits.{table-least, output-least, answer-least}
 use Rattle.model.specs.Records.{payload, settings-of}
 use Rattle.model.specs.World.{World, uncounted, begun}
-use Rattle.model.specs.Calls.{Call, start, open-session, hang-up-session, bytes, one-tick, tool, Lent, Returned, answer-bytes, output}
-use Rattle.model.specs.Calls.{refusal, answered, step, returned}
+use Rattle.model.specs.Calls.{Call, Lent, Returned, answer-bytes, output}
+use Rattle.model.specs.Calls.{refusal, step, returned}
 use Rattle.model.specs.Calls as model
-use Rattle.model.proofs.Erase.{erase-world}
+use Rattle.model.specs.Sights.{starts}
+use Rattle.model.specs.Erased.{erase-world}
+use Rattle.model.proofs.Refusals.{same-step, step-1}
 use Rattle.table.specs.Table.{table-used, decode, table-formed, Table}
 use Rattle.table.proofs.Front.{decode-take, formed-take, decode-front, formed-front}
 use Rattle.refusal.specs.Numbers.{lent}
@@ -26,46 +28,14 @@ use Rattle.controller.proofs.Outputs.{written-is, stands}
 use Rattle.controller.proofs.Traces.{table-left, table-begun, never-not-well-formed}
 use Rattle.controller.proofs.Modelled.{one-call, begun-meaning}
 use Rattle.serifladder.specs.Export.{told, Exported}
-use Rattle.history.specs.Turns.{starts-call}
 use Rattle.history.specs.Product.{Once, Meets}
 use Rattle.history.specs.Exports.{Export, Leaves, Exports, none, and, ExportHistory, OnceTold, NeverTold, lent-of, Returns}
-use Rattle.history.specs.Exports.{AsModelled, Is, refused-1, NotMade, short-answer, short-table, CallsOf, none as no-more, made}
+use Rattle.history.specs.Exports.{AsModelled, Is, refused-1, short-answer, short-table, CallsOf, none as no-more, made}
 use Rattle.history.specs.Exports.{not-made}
 use Rattle.history.proofs.Product.{demand-3-of-the-product}
 
--- ==== of a table's length only this is asked, whether it is enough
-
 abbrev lending : ℕ → Bool → ℕ → Lent
 lending size formed room = record { table = size; well-formed = formed; output = room }
-
-module _ (a b : ℕ) (f : Bool) (o : ℕ) (w : World) (e : ltb a table-least ≡ ltb b table-least) where
-  same-refusal : (c : Call) → refusal (lending a f o) w c ≡ refusal (lending b f o) w c
-  unfolding refusal
-  same-refusal (start slice) = rw e
-  same-refusal (open-session s) = rw e
-  same-refusal (hang-up-session s) = rw e
-  same-refusal (bytes s bs) = rw e
-  same-refusal one-tick = rw e
-  same-refusal (tool slice) = rw e
-
-  same-step : (c : Call) → step (lending a f o) w c ≡ step (lending b f o) w c
-  unfolding step
-  same-step c = ap (answered w c) (same-refusal c)
-
--- too short: 1
-module _ (l : Lent) (w : World) (e : ltb (l .table) table-least ≡ true) where
-  gives-1 : (c : Call) → refusal l w c ≡ 1
-  unfolding refusal
-  gives-1 (start slice) = rw e
-  gives-1 (open-session s) = rw e
-  gives-1 (hang-up-session s) = rw e
-  gives-1 (bytes s bs) = rw e
-  gives-1 one-tick = rw e
-  gives-1 (tool slice) = rw e
-
-  step-1 : (c : Call) → step l w c ≡ answered w c 1
-  unfolding step
-  step-1 c = ap (answered w c) (gives-1 c)
 
 -- ==== what C is told, by the length of the answer
 
@@ -113,8 +83,8 @@ module _ (c : Call) (n : ℕ) (t o : List ℕ) (h : table-least ≤ length (take
       let u = length-take n t in
       let k : table-used ≤ n = omega arith in
       ap₂ (λ (f : Bool) (w : World). step (lending (length (take n t)) f (length o)) w c) (formed-take n t k) (decode-take n t k)
-      ∙ same-step (length (take n t)) (length t) (table-formed t) (length o) (decode t)
-      (le-ltb (length (take n t)) table-least h ∙ sym (le-ltb (length t) table-least (omega arith))) c
+      ∙ same-step (lending (length (take n t)) (table-formed t) (length o)) (lending (length t) (table-formed t) (length o)) (decode t)
+      (le-ltb (length (take n t)) table-least h ∙ sym (le-ltb (length t) table-least (omega arith))) refl refl c
 
   wider : {y : Answer} {t′ o′ : List ℕ} → Outcome c (take n t) o y t′ o′ → Outcome c t o y (t′ ++ drop n t) o′
   wider {t′ = t′} x =
@@ -211,7 +181,7 @@ begun-by d (called y a b out z u) = (y, out, sym z ∙ d)
 once-made : (ps : List Export) (ms : List Made) → CallsOf ps ms → OnceTold ps → Once ms
 once-made [] [] no-more o = tt
 once-made (p ∷ ps) (m ∷ ms) (made x r) o = (
-  ap₂ (λ (n : ℕ) (c : Call). eqb n 0 && starts-call c) (sym (x .told)) (x .call) ∙ o .0,
+  ap₂ (λ (n : ℕ) (c : Call). eqb n 0 && starts c) (sym (x .told)) (x .call) ∙ o .0,
   once-made ps ms r (o .1),
 )
 once-made (p ∷ ps) ms (not-made x r) o = once-made ps ms r (o .1)
@@ -284,8 +254,8 @@ module _ {p : Export} {t t₁ : List ℕ} (w : World) (h : Table t) (e : decode 
       let g = h .size in
       let l : table-least ≤ min (p .bytes) (length t) = omega (arith, length-take (p .bytes) t) in
       let d = one-call w h e out in
-      let s = same-step (min (p .bytes) (length t)) (length t) true (length (p .output)) w
-      (le-ltb (min (p .bytes) (length t)) table-least l ∙ sym (le-ltb (length t) table-least g)) (p .call) in
+      let s = same-step (lent-of (length t) p) (lending (length t) true (length (p .output))) w
+      (le-ltb (min (p .bytes) (length t)) table-least l ∙ sym (le-ltb (length t) table-least g)) refl refl (p .call) in
       subst (λ (x : Returned). Modelled p x t₁) (sym (returned-made p (length t) w a ∙ ap as-made s))
       (record {
         returns = record {

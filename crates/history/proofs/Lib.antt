@@ -4,6 +4,7 @@ pub mod Signals
 pub mod Sessions
 pub mod Calls
 pub mod Turns
+pub mod Sendings
 pub mod Frames
 pub mod Replies
 pub mod Product

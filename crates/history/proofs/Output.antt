@@ -10,16 +10,18 @@ use lib.Dec.{leb, eqb}
 use lib.ListN.{length, take, drop, length-append}
 use lib.Seq.{take-at, drop-at}
 use borrow.Author.Tests.{eqb-true, eqb-false, eq-eqb, ne-eqb, le-leb}
+use Rattle.model.specs.Limits.{session-count, output-least}
 use Rattle.model.specs.Bytes.{NUL, in-bytes}
-use Rattle.model.specs.Records.{house-record}
-use Rattle.model.specs.Frames.{frame-record, close-record}
+use Rattle.model.specs.Records.{record-head, house-record}
+use Rattle.model.specs.Frames.{frame-kind, close-kind, frame-record, close-record}
 use Rattle.model.specs.Row.{Tagged, pick}
 use Rattle.model.specs.Session.{Emission, reply, copy, close}
 use Rattle.model.specs.Calls.{output-record, output}
 use Rattle.watch.specs.Marks.{Every}
 use Rattle.controller.proofs.Outputs.{Below}
 use Rattle.history.specs.Turns.{frames-in, orders-close}
-use Rattle.history.specs.Output.{Read, first-size, first-read, and-more, read-within, read-output, frames-read, close-read, as-read, record-of}
+use Rattle.history.specs.Output.{Read, first-size, first-read, and-more, read-within, read-output, frames-read, close-read, as-read}
+use Rattle.history.specs.Output.{record-of}
 
 -- ==== one record, and more behind it
 
@@ -30,7 +32,7 @@ Fits r = (r .kind < 65_536) × (length (r .payload) < 65_536)
 abbrev bytes-of : Read → List ℕ
 bytes-of r = house-record (r .kind) (r .payload)
 
-record-length : (r : Read) → length (bytes-of r) ≡ 4 + length (r .payload)
+record-length : (r : Read) → length (bytes-of r) ≡ record-head + length (r .payload)
 unfolding in-bytes
 record-length r = omega arith
 
@@ -49,7 +51,8 @@ read-next more b bs rest r h e d =
     go true q = ap₂ and-more e (ap (read-within more) d)
     go false q = absurd (let z : _≡_ {A = ℕ} 0 1 = cc in omega arith)
 
-record-next : (more : ℕ) (r : Read) (rest : List ℕ) → Fits r → read-within (suc more) (bytes-of r ++ rest) ≡ and-more r (read-within more rest)
+record-next : (more : ℕ) (r : Read) (rest : List ℕ) → Fits r
+    → read-within (suc more) (bytes-of r ++ rest) ≡ and-more r (read-within more rest)
 unfolding in-bytes
 record-next more r rest f =
     let n = length (r .payload) in
@@ -91,20 +94,22 @@ read-back es f =
     let rs = map record-of es in
     ap read-output (output-bytes es) ∙ read-all rs f (length (joined rs)) (few-records rs)
 
--- ==== whatever a call sends fits, as it goes to one of four sessions and is written in 2,048 bytes
+-- ==== whatever a call sends fits, as it goes to one of the sessions and is written in as many bytes as have to be lent
 
-fits-one : (s : ℕ) (e : Emission) → s < 4 → length (bytes-of (as-read s e)) ≤ 2_048 → Fits (as-read s e)
+fits-one : (s : ℕ) (e : Emission) → s < session-count → length (bytes-of (as-read s e)) ≤ output-least → Fits (as-read s e)
 fits-one s (reply frame) h n = let k = record-length (as-read s (reply frame)) in (omega arith, omega arith)
 fits-one s (copy c) h n = let k = record-length (as-read s (copy c)) in (omega arith, omega arith)
 fits-one s close h n = (omega arith, omega arith)
 
-fits-all : (es : List (Tagged Emission)) → Below 4 es → length (joined (map record-of es)) ≤ 2_048 → Every Fits (map record-of es)
+fits-all : (es : List (Tagged Emission)) → Below session-count es → length (joined (map record-of es)) ≤ output-least
+    → Every Fits (map record-of es)
 fits-all [] b n = tt
 fits-all (x ∷ xs) b n =
     let a = length-append (bytes-of (record-of x)) (joined (map record-of xs)) in
     (fits-one (x .who) (x .what) (b .0) (omega arith), fits-all xs (b .1) (omega arith))
 
-pub read-written : (es : List (Tagged Emission)) → Below 4 es → length (output es) ≤ 2_048 → read-output (output es) ≡ some (map record-of es)
+pub read-written : (es : List (Tagged Emission)) → Below session-count es → length (output es) ≤ output-least
+    → read-output (output es) ≡ some (map record-of es)
 read-written es b n = read-back es (fits-all es b (rw (output-bytes es) at n))
 
 -- ==== what a session is sent, read from the records
@@ -119,49 +124,51 @@ same-test a b n = go (eqb a b) refl
 pub without-NUL : (frame : List ℕ) → take (length (frame ++ NUL ∷ []) - 1) (frame ++ NUL ∷ []) ≡ frame
 without-NUL frame = let n = length-append frame (NUL ∷ []) in take-at frame (NUL ∷ []) (length (frame ++ NUL ∷ []) - 1) (omega arith)
 
-module _ (s : ℕ) (h : s < 4) where
+module _ (s : ℕ) (h : s < session-count) where
   -- one record more
   module _ (rs : List Read) (picked : List Emission) where
-    a-frame : (t : ℕ) (frame : List ℕ) (e : Emission) → frames-in (e ∷ picked) ≡ frame ∷ frames-in picked → frames-read s rs ≡ frames-in picked
-        → frames-read s (record { kind = 256 + t; payload = frame ++ NUL ∷ [] } ∷ rs) ≡ frames-in (cond (eqb t s) (e ∷ picked) picked)
-    a-frame t frame e q ih = rw (same-test t s 256, without-NUL frame) (go (eqb t s))
+    a-frame : (t : ℕ) (frame : List ℕ) (e : Emission) → frames-in (e ∷ picked) ≡ frame ∷ frames-in picked
+        → frames-read s rs ≡ frames-in picked
+        → frames-read s (record { kind = frame-kind t; payload = frame ++ NUL ∷ [] } ∷ rs) ≡ frames-in (cond (eqb t s) (e ∷ picked) picked)
+    a-frame t frame e q ih = rw (same-test t s (frame-kind 0), without-NUL frame) (go (eqb t s))
       where
         go : (b : Bool) → cond b (frame ∷ frames-read s rs) (frames-read s rs) ≡ frames-in (cond b (e ∷ picked) picked)
         go true = ap (frame ∷_) ih ∙ sym q
         go false = ih
 
-    frames-more : (t : ℕ) (e : Emission) → t < 4 → frames-read s rs ≡ frames-in picked
+    frames-more : (t : ℕ) (e : Emission) → t < session-count → frames-read s rs ≡ frames-in picked
         → frames-read s (as-read t e ∷ rs) ≡ frames-in (cond (eqb t s) (e ∷ picked) picked)
     frames-more t (reply frame) u ih = a-frame t frame (reply frame) refl ih
     frames-more t (copy c) u ih = a-frame t (c .what .frame) (copy c) refl ih
-    frames-more t close u ih = rw (ne-eqb (512 + t) (256 + s) (λ z. omega arith)) (go (eqb t s))
+    frames-more t close u ih = rw (ne-eqb (close-kind t) (frame-kind s) (λ z. omega arith)) (go (eqb t s))
       where
         go : (b : Bool) → frames-read s rs ≡ frames-in (cond b (close ∷ picked) picked)
         go true = ih
         go false = ih
 
-    no-close : (t : ℕ) (e : Emission) → t < 4 → orders-close (e ∷ picked) ≡ orders-close picked → close-read s rs ≡ orders-close picked → (bs : List ℕ)
-        → close-read s (record { kind = 256 + t; payload = bs } ∷ rs) ≡ orders-close (cond (eqb t s) (e ∷ picked) picked)
-    no-close t e u q ih bs = rw (ne-eqb (256 + t) (512 + s) (λ z. omega arith)) (go (eqb t s))
+    no-close : (t : ℕ) (e : Emission) → t < session-count → orders-close (e ∷ picked) ≡ orders-close picked
+        → close-read s rs ≡ orders-close picked → (bs : List ℕ)
+        → close-read s (record { kind = frame-kind t; payload = bs } ∷ rs) ≡ orders-close (cond (eqb t s) (e ∷ picked) picked)
+    no-close t e u q ih bs = rw (ne-eqb (frame-kind t) (close-kind s) (λ z. omega arith)) (go (eqb t s))
       where
         go : (b : Bool) → close-read s rs ≡ orders-close (cond b (e ∷ picked) picked)
         go true = ih ∙ sym q
         go false = ih
 
-    closes-more : (t : ℕ) (e : Emission) → t < 4 → close-read s rs ≡ orders-close picked
+    closes-more : (t : ℕ) (e : Emission) → t < session-count → close-read s rs ≡ orders-close picked
         → close-read s (as-read t e ∷ rs) ≡ orders-close (cond (eqb t s) (e ∷ picked) picked)
     closes-more t (reply frame) u ih = no-close t (reply frame) u refl ih (frame ++ NUL ∷ [])
     closes-more t (copy c) u ih = no-close t (copy c) u refl ih (c .what .frame ++ NUL ∷ [])
-    closes-more t close u ih = rw (same-test t s 512) (go (eqb t s))
+    closes-more t close u ih = rw (same-test t s (close-kind 0)) (go (eqb t s))
       where
         go : (b : Bool) → cond b true (close-read s rs) ≡ orders-close (cond b (close ∷ picked) picked)
         go true = refl
         go false = ih
 
-  pub frames-back : (es : List (Tagged Emission)) → Below 4 es → frames-read s (map record-of es) ≡ frames-in (pick s es)
+  pub frames-back : (es : List (Tagged Emission)) → Below session-count es → frames-read s (map record-of es) ≡ frames-in (pick s es)
   frames-back [] b = refl
   frames-back (x ∷ xs) b = frames-more (map record-of xs) (pick s xs) (x .who) (x .what) (b .0) (frames-back xs (b .1))
 
-  pub closes-back : (es : List (Tagged Emission)) → Below 4 es → close-read s (map record-of es) ≡ orders-close (pick s es)
+  pub closes-back : (es : List (Tagged Emission)) → Below session-count es → close-read s (map record-of es) ≡ orders-close (pick s es)
   closes-back [] b = refl
   closes-back (x ∷ xs) b = closes-more (map record-of xs) (pick s xs) (x .who) (x .what) (b .0) (closes-back xs (b .1))

@@ -8,20 +8,21 @@ use mathlib.Core.Option.{none}
 use native.Mathlib.Omega.{arith}
 use lib.Dec.{eqb}
 use lib.ListN.{length, length-take}
+use Rattle.model.specs.Limits.{session-count, output-least}
 use Rattle.model.specs.Records.{Settings, payload, settings-of}
 use Rattle.model.specs.World.{World, begun}
-use Rattle.model.specs.Calls.{Call, start, Answer as ModelAnswer, step}
-use Rattle.model.proofs.Erase.{erase-world}
+use Rattle.model.specs.Calls.{Call, Answer as ModelAnswer, step}
+use Rattle.model.specs.Sights.{starts}
+use Rattle.model.specs.Erased.{erase-world}
 use Rattle.table.specs.Table.{decode, Table}
-use Rattle.refusal.specs.Numbers.{number}
 use Rattle.refusal.proofs.Numbers.{start-passes}
 use Rattle.controller.specs.Trace.{Made, Trace, none as no-call, and, History, lendings}
-use Rattle.controller.proofs.Outputs.{step-below, step-four}
+use Rattle.controller.proofs.Outputs.{step-below, step-many}
 use Rattle.controller.proofs.Traces.{number-is, table-left, table-begun}
 use Rattle.controller.proofs.Modelled.{lending, one-call, begun-meaning}
 use Rattle.watch.specs.Marks.{copies, Demand3}
-use Rattle.history.specs.Turns.{Turn, accepted, starts-call, turns}
-use Rattle.history.specs.Reading.{unsubscribe, message, parts, started, wish-of, wish, is-some, subscribed, subscribe, shared}
+use Rattle.history.specs.Turns.{Turn, turns, stops, subscribes, unsubscribes}
+use Rattle.history.specs.Reading.{message, parts, started, wish-of, wish, is-some, subscribed, shared}
 use Rattle.history.specs.Output.{read-output, record-of}
 use Rattle.history.specs.Demand.{mark, marks, past-after, NoStart}
 use Rattle.history.specs.Product.{Tells, Once, Meets}
@@ -32,17 +33,17 @@ use Rattle.history.proofs.Replies.{told-apart-in-runs}
 
 -- ==== a trace is a run of the model, with the numbers of events
 
-told : {t t′ : List ℕ} {ms : List Made} (w : World) → length (w .sessions) ≡ 4 → Table t → decode t ≡ erase-world w → Trace t ms t′
-    → Tells ms (turns w (lendings (length t) ms))
-told w four h e no-call = tt
-told {t = t} w four h e (and {t₁ = t₁} {m = m} {ms = ms} out rest) =
+told : {t t′ : List ℕ} {ms : List Made} (w : World) → length (w .sessions) ≡ session-count → Table t → decode t ≡ erase-world w
+    → Trace t ms t′ → Tells ms (turns w (lendings (length t) ms))
+told w all-there h e no-call = tt
+told {t = t} w all-there h e (and {t₁ = t₁} {m = m} {ms = ms} out rest) =
     let k = one-call w h e out in
     let l = lending (length t) (length (m .output)) in
     let q = step l w (m .call) in
-    let below = step-below l w (m .call) four in
+    let below = step-below session-count l w (m .call) all-there in
     let long = ap length (k .bytes) in
     let taken = length-take (m .answer .written) (m .output-left) in
-    let most : m .answer .written ≤ 2_048 = out .fits in (
+    let most : m .answer .written ≤ output-least = out .fits in (
       record {
         call = refl;
         answer = sym (k .answer);
@@ -53,7 +54,7 @@ told {t = t} w four h e (and {t₁ = t₁} {m = m} {ms = ms} out rest) =
         closes = λ s u. sym (closes-back s u (q .2) below);
       },
       subst (λ (n : ℕ). Tells ms (turns (q .0) (lendings n ms))) (out .size)
-          (told (q .0) (step-four l w (m .call) four) (table-left h out) (k .world) rest),
+          (told (q .0) (step-many session-count l w (m .call) all-there) (table-left h out) (k .world) rest),
     )
 
 -- no second start
@@ -62,7 +63,7 @@ no-start [] [] h o = tt
 no-start [] (x ∷ xs) h o = absurd h
 no-start (m ∷ ms) [] h o = absurd h
 no-start (m ∷ ms) (x ∷ xs) h o = (
-  ap₂ (λ (n : ℕ) (c : Call). eqb n 0 && starts-call c) (ap (λ (a : ModelAnswer). a .number) (h .0 .answer)) (h .0 .call) ∙ o .0,
+  ap₂ (λ (n : ℕ) (c : Call). eqb n 0 && starts c) (ap (λ (a : ModelAnswer). a .number) (h .0 .answer)) (h .0 .call) ∙ o .0,
   no-start ms xs (h .1) (o .1),
 )
 
@@ -90,15 +91,15 @@ and-false false = refl
 
 -- a hang-up, a time-out, an accepted stop and an accepted unsubscribe each leave the session not started and subscribed
 pub ends-subscription : (s kind : ℕ) (past : List Turn) (x : Turn)
-    → (parts s x || accepted s 0003 x || accepted s (unsubscribe kind) x) ≡ true
+    → (parts s x || stops s x || unsubscribes s kind x) ≡ true
     → subscribed s kind (x ∷ past) ≡ false
 ends-subscription s kind past x e =
-    let other = cond (accepted s (subscribe kind) x) (wish-of (message s past x)) (wish s kind past) in
+    let other = cond (subscribes s kind x) (wish-of (message s past x)) (wish s kind past) in
     ap (λ (b : Bool). started s (x ∷ past) && is-some (cond b none other)) e ∙ and-false (started s (x ∷ past))
 
 -- so from such a call on no copy goes out of an event that came before it, whether it had been sent or waited
 pub none-kept : (st : Settings) (s kind : ℕ) (before : List Turn) (x : Turn) (later : List Turn) → let past = past-after [] before in
-    Demand3 (marks st s kind [] (before ++ x ∷ later)) → (parts s x || accepted s 0003 x || accepted s (unsubscribe kind) x) ≡ true
+    Demand3 (marks st s kind [] (before ++ x ∷ later)) → (parts s x || stops s x || unsubscribes s kind x) ≡ true
     → (n : ℕ) → n < shared st past .events → copies n (marks st s kind past (x ∷ later)) ≡ 0
 none-kept st s kind before x later d e n l =
     let past = past-after [] before in

@@ -9,9 +9,11 @@ use lib.Dec.{eqb}
 use borrow.Author.Tests.{ne-eqb}
 use Rattle.model.specs.Bytes.{places, decimal, digits}
 use Rattle.model.specs.Records.{Settings}
+use Rattle.model.specs.Messages.{Bearing, entry-bearing, entry-of}
 use Rattle.model.specs.Events.{Event, identified, tightened, Notice}
 use Rattle.model.specs.Frames.{header, frame, frame-0002, frame-0004, frame-0005, frame-0052, frame-0061, event-frame}
-use Rattle.model.specs.Notices.{room-of, empty, busy, Subscription, unsubscribed, plain, acked, Deed, nothing, beats, news, asks, drops, acks, act}
+use Rattle.model.specs.Kinds.{room-of}
+use Rattle.model.specs.Notices.{Pending, Subscription, unsubscribed, plain, acked, Deed, nothing, beats, news, asks, drops, acks, act}
 use Rattle.model.specs.Row.{Tagged, tag, said}
 use Rattle.model.specs.Session.{Copy, Emission, reply, copy, close, copies-to, deal}
 use Rattle.watch.specs.Marks.{Every}
@@ -20,17 +22,18 @@ use Rattle.history.specs.Turns.{frames-in, orders-close, any, mid-of, is
 pub record Signals : Type 0 where
   pub closes : Bool
   pub welcomes : Bool
-  pub accepts : ℕ → Bool
+  -- a message that is so
+  pub accepts : (Bearing → Bool) → Bool
 
 abbrev pub signals : List Emission → Signals
 signals es = record {
   closes = orders-close es;
   welcomes = any is-0002 (frames-in es);
-  accepts = λ mid. any (is-0005 mid) (frames-in es);
+  accepts = λ so. any (is-0005 so) (frames-in es);
 }
 
 abbrev pub silence : Signals
-silence = record { closes = false; welcomes = false; accepts = λ mid. false }
+silence = record { closes = false; welcomes = false; accepts = λ so. false }
 
 -- ==== notices
 
@@ -51,13 +54,9 @@ module _ (st : Settings) where
   plain-notices i r [] = tt
   plain-notices i r (n ∷ ns) = (notice-mid st r true (n .event), plain-notices i r ns)
 
-  acked-notices : (i r : ℕ) (ns : List Notice) → Notices (tag i (copies-to st (acked r empty) ns))
-  acked-notices i r [] = tt
-  acked-notices i r (n ∷ ns) = (notice-mid st r false (n .event), acked-notices i r ns)
-
-  busy-notices : (i r : ℕ) (y : Notice) (c : ℕ) (q : List Notice) (ns : List Notice) → Notices (tag i (copies-to st (acked r (busy y c q)) ns))
-  busy-notices i r y c q [] = tt
-  busy-notices i r y c q (n ∷ ns) = (notice-mid st r false (n .event), busy-notices i r y c q ns)
+  acked-notices : (i r : ℕ) (q : Pending) (ns : List Notice) → Notices (tag i (copies-to st (acked r q) ns))
+  acked-notices i r q [] = tt
+  acked-notices i r q (n ∷ ns) = (notice-mid st r false (n .event), acked-notices i r q ns)
 
   deal-notices : (i j : ℕ) (d : Deed) (x : Subscription) → Notices (tag i (copies-to st x ((act (room-of j) d x) .1)))
   deal-notices i j nothing unsubscribed = tt
@@ -67,8 +66,7 @@ module _ (st : Settings) where
   deal-notices i j drops unsubscribed = tt
   deal-notices i j acks unsubscribed = tt
   deal-notices i j d (plain r) = plain-notices i r ((act (room-of j) d (plain r)) .1)
-  deal-notices i j d (acked r empty) = acked-notices i r ((act (room-of j) d (acked r empty)) .1)
-  deal-notices i j d (acked r (busy y c q)) = busy-notices i r y c q ((act (room-of j) d (acked r (busy y c q))) .1)
+  deal-notices i j d (acked r q) = acked-notices i r q ((act (room-of j) d (acked r q)) .1)
 
   pub dealt-notices : (D : ℕ → Deed) (i : ℕ) (xs : List Subscription) → Notices (said (deal st D) i xs)
   dealt-notices D i [] = tt
@@ -83,11 +81,11 @@ notices-0002 : (cs : List (Tagged Copy)) → Notices cs → any is-0002 (frames-
 notices-0002 [] h = refl
 notices-0002 (c ∷ cs) h = rw (ne-eqb (mid-of (c .what .frame)) 2 (λ e. let u = h .0 in omega arith)) (notices-0002 cs (h .1))
 
-notices-0005 : (cs : List (Tagged Copy)) (mid : ℕ) → Notices cs → any (is-0005 mid) (frames-in (map copy cs)) ≡ false
-notices-0005 [] mid h = refl
-notices-0005 (c ∷ cs) mid h = rw (ne-eqb (mid-of (c .what .frame)) 5 (λ e. let u = h .0 in omega arith)) (notices-0005 cs mid (h .1))
+notices-0005 : (cs : List (Tagged Copy)) (so : Bearing → Bool) → Notices cs → any (is-0005 so) (frames-in (map copy cs)) ≡ false
+notices-0005 [] so h = refl
+notices-0005 (c ∷ cs) so h = rw (ne-eqb (mid-of (c .what .frame)) 5 (λ e. let u = h .0 in omega arith)) (notices-0005 cs so (h .1))
 
-abbrev signals-of : Bool → Bool → (ℕ → Bool) → Signals
+abbrev signals-of : Bool → Bool → ((Bearing → Bool) → Bool) → Signals
 signals-of c w a = record { closes = c; welcomes = w; accepts = a }
 
 -- copies are silent
@@ -95,7 +93,7 @@ pub copies-silent : (st : Settings) (D : ℕ → Deed) (xs : List Subscription) 
 copies-silent st D xs =
     let h = dealt-notices st D 0 xs in
     let cs = said (deal st D) 0 xs in
-    λ i. signals-of (notices-close cs i) (notices-0002 cs h i) ((fun-ext (λ mid. notices-0005 cs mid h)) i)
+    λ i. signals-of (notices-close cs i) (notices-0002 cs h i) ((fun-ext (λ so. notices-0005 cs so h)) i)
 
 -- ==== what is silent may be left out
 
@@ -119,40 +117,51 @@ pub silent-after : (xs ys : List Emission) → signals ys ≡ silence → signal
 silent-after xs ys h =
     λ i. signals-of (close-append xs ys (ap (λ (x : Signals). x .closes) h) i)
     ((ap (any is-0002) (frames-append xs ys) ∙ any-append is-0002 (frames-in xs) (frames-in ys) (ap (λ (x : Signals). x .welcomes) h)) i)
-    ((fun-ext (λ mid. ap (any (is-0005 mid)) (frames-append xs ys) ∙ any-append (is-0005 mid) (frames-in xs) (frames-in ys) (ap (λ (x : Signals). x .accepts mid) h))) i)
+    ((fun-ext (λ so.
+    ap (any (is-0005 so)) (frames-append xs ys)
+    ∙ any-append (is-0005 so) (frames-in xs) (frames-in ys) (ap (λ (x : Signals). x .accepts so) h))) i)
 
 -- ==== replies
 
 abbrev pub signals-by : List ℕ → Signals
-signals-by f = record { closes = false; welcomes = cond (is-0002 f) true false; accepts = λ mid. cond (is-0005 mid f) true false }
+signals-by f = record { closes = false; welcomes = cond (is-0002 f) true false; accepts = λ so. cond (is-0005 so f) true false }
 
 pub reply-first : (f : List ℕ) (es : List Emission) → signals es ≡ silence → signals (reply f ∷ es) ≡ signals-by f
 reply-first f es h =
-    ap {B = Signals} (λ (x : Signals). record { closes = x .closes; welcomes = cond (is-0002 f) true (x .welcomes); accepts = λ mid. cond (is-0005 mid f) true (x .accepts mid) }) h
+    ap {B = Signals}
+    (λ (x : Signals). record {
+      closes = x .closes;
+      welcomes = cond (is-0002 f) true (x .welcomes);
+      accepts = λ so. cond (is-0005 so f) true (x .accepts so);
+    })
+    h
 
 pub silent-0004 : (mid error : ℕ) → signals-by (frame-0004 mid error) ≡ silence
 unfolding frame-0004 frame header digits
 silent-0004 mid error = refl
 
-pub welcome-0002 : (st : Settings) → signals-by (frame-0002 st) ≡ record { closes = false; welcomes = true; accepts = λ mid. false }
+pub welcome-0002 : (st : Settings) → signals-by (frame-0002 st) ≡ record { closes = false; welcomes = true; accepts = λ so. false }
 unfolding frame-0002 frame header digits
 welcome-0002 st = refl
 
 -- another message comes back
-pub silent-other : (f : List ℕ) → 5 < mid-of f → signals-by f ≡ silence
-silent-other f h =
-    λ i. signals-of false (cond ((ne-eqb (mid-of f) 2 (λ e. omega arith)) i) true false)
-    (λ mid. cond ((ne-eqb (mid-of f) 5 (λ e. omega arith)) i && eqb (decimal (places 21 24 f)) mid) true false)
+pub silent-other : (f : List ℕ) → eqb (mid-of f) 0002 ≡ false → eqb (mid-of f) 0005 ≡ false → signals-by f ≡ silence
+silent-other f h k =
+    λ i. signals-of false (cond (h i) true false)
+    (λ so. cond (k i && so (entry-bearing (entry-of (decimal (places 21 24 f))))) true false)
 
--- an acceptance
-abbrev pub accepting : ℕ → Signals
-accepting number = record { closes = false; welcomes = false; accepts = λ mid. eqb number mid }
+-- an acceptance of a message that is such
+abbrev pub accepting : Bearing → Signals
+accepting b = record { closes = false; welcomes = false; accepts = λ so. so b }
 
 same-test : (b : Bool) → cond b true false ≡ b
 same-test true = refl
 same-test false = refl
 
-pub accepting-0005 : (number : ℕ) → decimal (digits 4 number) ≡ number → signals-by (frame-0005 number) ≡ accepting number
+pub accepting-0005 : (mid : ℕ) (b : Bearing) → decimal (digits 4 mid) ≡ mid → entry-bearing (entry-of mid) ≡ b
+    → signals-by (frame-0005 mid) ≡ accepting b
 unfolding frame-0005 frame header digits
-accepting-0005 number h =
-    λ i. signals-of false false ((fun-ext (λ mid. same-test (eqb (decimal (digits 4 number)) mid) ∙ ap (λ (n : ℕ). eqb n mid) h)) i)
+accepting-0005 mid b h e =
+    λ i. signals-of false false
+    ((fun-ext (λ so. same-test (so (entry-bearing (entry-of (decimal (digits 4 mid)))))
+    ∙ ap (λ (n : ℕ). so (entry-bearing (entry-of n))) h ∙ ap so e)) i)

@@ -1,6 +1,6 @@
 -- What a deed does to a subscription is one of the things that a call can do to the notices of its kind. One proof for every kind.
 -- Assumes nothing.
-use Prim.Native.Nat.{ℕ, zero, suc, _%_, _≤_, _<_}
+use Prim.Native.Nat.{ℕ, suc, _%_, _≤_, _<_}
 use mathlib.Core.Path.{_≡_, refl}
 use mathlib.Core.Bool.{Bool, true, false, cond, _&&_, true≢false}
 use mathlib.Core.List.{List, [], _∷_, _++_, map, map-append}
@@ -9,14 +9,19 @@ use native.Mathlib.Omega.{arith}
 use native.Mathlib.Nat.{le-refl}
 use lib.Dec.{ltb, eqb}
 use lib.ListN.{length, length-map}
-use borrow.Author.Tests.{eqb-true, eqb-false, ltb-true}
-use Rattle.model.specs.Limits.{given-up-at, copy-every}
+use borrow.Author.Tests.{eqb-true, eqb-false, leb-true, ltb-true}
+use Rattle.model.specs.Limits.{given-up-at, copy-every, tightenings-held}
 use Rattle.model.specs.Records.{Settings}
 use Rattle.model.specs.Events.{Event, kind-of, Notice}
-use Rattle.model.specs.Notices.{Room, the-newest, up-to, room-of, empty, busy, Subscription, unsubscribed, plain, acked, is-subscribed, has-room, takes, nothing, beats, news, asks, drops, acks, next-one, waits, act}
+use Rattle.model.specs.Frames.{event-frame}
+use Rattle.model.specs.Kinds.{Room, the-newest, up-to}
+use Rattle.model.specs.Notices.{empty, busy, Subscription, unsubscribed, plain, acked, is-subscribed, has-room, takes, nothing, beats, news}
+use Rattle.model.specs.Notices.{asks, drops, acks, next-one, waits, act}
 use Rattle.model.specs.Session.{frame-to}
+use Rattle.model.proofs.KindLaws.{small}
 use Rattle.watch.specs.Marks.{Seen}
-use Rattle.watch.specs.Course.{Queue, empty as none-waits, busy as waiting, Eff, rest, lone, first, keep, wait, swap, wipe, over, pass, beat, again, quit, quit-pass}
+use Rattle.watch.specs.Course.{Queue, empty as none-waits, busy as waiting, Eff, rest, lone, first, keep, wait, swap, wipe, over, pass}
+use Rattle.watch.specs.Course.{beat, again, quit, quit-pass}
 use Rattle.history.specs.Reading.{Wish, asks-acknowledge, is-some, frame-for}
 
 -- ==== a subscription as it is read
@@ -51,17 +56,8 @@ is-newest (up-to most) = false
 -- is one; was it taken; does it close; is it a tick
 abbrev pub Done : Bool → Settings → ℕ → ℕ → Option (List ℕ) → Bool → Bool → Bool → Subscription → Subscription × List Notice → Type 0
 Done z st k k′ e o cl t x r =
-    Eff z k k′ e o (asks-acknowledge (wish-in x)) cl t (is-subscribed x) (is-subscribed (r .0)) (view st x) (view st (r .0)) (map (as-seen st x) (r .1))
-
--- room for eight at most
-abbrev pub Few : Room → Type 0
-Few the-newest = Unit {0}
-Few (up-to most) = most ≤ 8
-
-pub few-rooms : (kind : ℕ) → Few (room-of kind)
-few-rooms zero = tt
-few-rooms (suc zero) = omega arith
-few-rooms (suc (suc kind)) = tt
+    Eff z k k′ e o (asks-acknowledge (wish-in x)) cl t (is-subscribed x) (is-subscribed (r .0)) (view st x) (view st (r .0))
+    (map (as-seen st x) (r .1))
 
 module _ (z : Bool) (st : Settings) (k : ℕ) where
   pub unchanged : (k′ : ℕ) (e : Option (List ℕ)) (x : Subscription) → k ≤ k′ → Done z st k k′ e false false false x (x, [])
@@ -90,48 +86,46 @@ module _ (z : Bool) (st : Settings) (k : ℕ) where
   beats-does room (acked r empty) = rest (le-refl k)
   beats-does room (acked r (busy n c q)) = clock-does (eqb (suc c) given-up-at) (eqb (suc c % copy-every) 0) r n c q refl refl
 
-  more-does : (b : Bool) (r : ℕ) (n : Notice) (c : ℕ) (q : List Notice) (e : Event) → (b ≡ true → length q < 7)
+  more-does : (b : Bool) (r : ℕ) (n : Notice) (c : ℕ) (q : List Notice) (e : Event)
+      → (b ≡ true → suc (length q) < tightenings-held)
       → Done z st k (suc k) (some (frame-to st (acked r (busy n c q)) (record { id = k; event = e }))) b false false (acked r (busy n c q))
       (acked r (busy n c (cond b (q ++ record { id = k; event = e } ∷ []) q)), [])
   more-does true r n c q e h =
       rw (map-append (as-seen st (acked r empty)) q (record { id = k; event = e } ∷ []))
-      (wait {q = map (as-seen st (acked r empty)) q} refl (rw (length-map q (as-seen st (acked r empty))) (h refl)))
+      (wait {q = map (as-seen st (acked r empty)) q} refl (let u = h refl in omega (arith, length-map q (as-seen st (acked r empty)))))
   more-does false r n c q e h = keep (omega arith)
 
-  waits-does : (room : Room) → Few room → z ≡ is-newest room → (r : ℕ) (n : Notice) (c : ℕ) (q : List Notice) (e : Event)
+  waits-does : (room : Room) → small room ≡ true → z ≡ is-newest room → (r : ℕ) (n : Notice) (c : ℕ) (q : List Notice) (e : Event)
       → Done z st k (suc k) (some (frame-to st (acked r (busy n c q)) (record { id = k; event = e }))) (has-room room q) false false
       (acked r (busy n c q)) (acked r (busy n c (waits room (record { id = k; event = e }) q)), [])
   waits-does the-newest few new r n c q e = swap new refl
   waits-does (up-to most) few new r n c q e =
-      more-does (ltb (suc (length q)) most) r n c q e (λ z. let y = ltb-true (suc (length q)) most z in omega arith)
+      more-does (ltb (suc (length q)) most) r n c q e
+      (λ z. let y = ltb-true (suc (length q)) most z in omega (arith, leb-true most tightenings-held few))
 
-  -- b: is it an event of this kind
-  pub news-does : (room : Room) → Few room → z ≡ is-newest room → (kind : ℕ) (e : Event) (x : Subscription)
-      → Done z st k (suc k) (frame-for st kind (wish-in x) (some e)) (eqb kind (kind-of e) && takes room x) false false x
-      (act room (cond (eqb kind (kind-of e)) (news (record { id = k; event = e })) nothing) x)
-  news-does room few new kind e unsubscribed = go (eqb kind (kind-of e))
-    where
-      go : (b : Bool) → Done z st k (suc k) none (b && false) false false unsubscribed (act room (cond b (news (record { id = k; event = e })) nothing) unsubscribed)
-      go true = rest (omega arith)
-      go false = rest (omega arith)
-  news-does room few new kind e (plain r) = go (eqb kind (kind-of e))
-    where
-      go : (b : Bool) → Done z st k (suc k) (cond b (some (frame-to st (plain r) (record { id = k; event = e }))) none) (b && true) false false (plain r)
-          (act room (cond b (news (record { id = k; event = e })) nothing) (plain r))
-      go true = lone refl
-      go false = rest (omega arith)
-  news-does room few new kind e (acked r empty) = go (eqb kind (kind-of e))
-    where
-      go : (b : Bool) → Done z st k (suc k) (cond b (some (frame-to st (acked r empty) (record { id = k; event = e }))) none) (b && true) false false (acked r empty)
-          (act room (cond b (news (record { id = k; event = e })) nothing) (acked r empty))
-      go true = first refl
-      go false = rest (omega arith)
-  news-does room few new kind e (acked r (busy n c q)) = go (eqb kind (kind-of e))
-    where
-      go : (b : Bool) → Done z st k (suc k) (cond b (some (frame-to st (acked r (busy n c q)) (record { id = k; event = e }))) none) (b && has-room room q) false false
-          (acked r (busy n c q)) (act room (cond b (news (record { id = k; event = e })) nothing) (acked r (busy n c q)))
-      go true = waits-does room few new r n c q e
-      go false = keep (omega arith)
+  -- an event, of this kind or (false) not
+  module _ (room : Room) (few : small room ≡ true) (new : z ≡ is-newest room) (e : Event) where
+    abbrev notice : Notice
+    notice = record { id = k; event = e }
+
+    abbrev framed : Bool → Option Wish → Option (List ℕ)
+    framed b none = none
+    framed b (some w) = cond b (some (event-frame st (w .revision) (w .no-acknowledge) e)) none
+
+    by-kind : (b : Bool) (x : Subscription)
+        → Done z st k (suc k) (framed b (wish-in x)) (b && takes room x) false false x (act room (cond b (news notice) nothing) x)
+    by-kind false x = unchanged (suc k) (framed false (wish-in x)) x (omega arith)
+    by-kind true unsubscribed = rest (omega arith)
+    by-kind true (plain r) = lone refl
+    by-kind true (acked r empty) = first refl
+    by-kind true (acked r (busy n c q)) = waits-does room few new r n c q e
+
+    pub news-does : (kind : ℕ) (x : Subscription)
+        → Done z st k (suc k) (frame-for st kind (wish-in x) (some e)) (eqb kind (kind-of e) && takes room x) false false x
+        (act room (cond (eqb kind (kind-of e)) (news notice) nothing) x)
+    news-does kind unsubscribed = by-kind (eqb kind (kind-of e)) unsubscribed
+    news-does kind (plain r) = by-kind (eqb kind (kind-of e)) (plain r)
+    news-does kind (acked r q) = by-kind (eqb kind (kind-of e)) (acked r q)
 
   pub asks-does : (room : Room) (b : Bool) (r : ℕ) (a : Bool) (x : Subscription)
       → Done z st k k none false false false x (act room (cond b (asks r a) nothing) x)
@@ -167,7 +161,9 @@ module _ (room : Room) where
   beats-wish (acked r empty) = refl
   beats-wish (acked r (busy n c q)) = go (eqb (suc c) given-up-at)
     where
-      go : (b : Bool) → wish-in ((cond b (next-one r q) (acked r (busy n (suc c) q), cond (eqb (suc c % copy-every) 0) (n ∷ []) [])) .0) ≡ wish-in (acked r empty)
+      go : (b : Bool)
+          → wish-in ((cond b (next-one r q) (acked r (busy n (suc c) q), cond (eqb (suc c % copy-every) 0) (n ∷ []) [])) .0)
+          ≡ wish-in (acked r empty)
       go true = next-wish r q
       go false = refl
 

@@ -10,11 +10,11 @@ use lib.Seq.{sets}
 use Rattle.model.specs.Limits.{table-least, answer-least}
 use Rattle.model.specs.World.{World}
 use Rattle.model.specs.Calls.{Call, start, Lent, Answer, answer-bytes, Returned, returned}
+use Rattle.model.specs.Sights.{starts}
 use Rattle.watch.specs.Marks.{Every}
 use Rattle.controller.specs.Contract.{model-answer}
 use Rattle.controller.specs.Trace.{Made}
 use Rattle.serifladder.specs.Export.{Exported}
-use Rattle.history.specs.Turns.{starts-call}
 
 -- ==== a history of calls that C makes, in which only these calls write the table
 
@@ -62,7 +62,7 @@ pub record ExportHistory (t : List ℕ) (ps : List Export) (t′ : List ℕ) : T
 
 -- no second start is done among them
 abbrev pub OnceTold : List Export → Type 0
-OnceTold ps = Every (λ p. (eqb (p .told) 0 && starts-call (p .call)) ≡ false) ps
+OnceTold ps = Every (λ p. (eqb (p .told) 0 && starts (p .call)) ≡ false) ps
 
 -- none of them is told that number
 abbrev pub NeverTold : ℕ → List Export → Type 0

@@ -7,6 +7,7 @@ use lib.Dec.{leb, eqb}
 use lib.ListN.{length, take, drop}
 use Rattle.model.specs.Bytes.{NUL, places, little}
 use Rattle.model.specs.Records.{record-head}
+use Rattle.model.specs.Frames.{frame-kind, close-kind}
 use Rattle.model.specs.Session.{Emission, reply, copy, close}
 use Rattle.model.specs.Row.{Tagged}
 
@@ -42,23 +43,23 @@ read-within (suc more) (b ∷ bs) =
 abbrev pub read-output : List ℕ → Option (List Read)
 read-output bs = read-within (length bs) bs
 
--- ==== output records: kind 256 + s is a frame to session s, with its NUL, and kind 512 + s the order to close it
+-- ==== output records: a frame to session s, with its NUL, and the order to close it
 
 abbrev pub frames-read : ℕ → List Read → List (List ℕ)
 frames-read s [] = []
 frames-read s (r ∷ rs) =
     let more = frames-read s rs in
-    cond (eqb (r .kind) (256 + s)) (take (length (r .payload) - 1) (r .payload) ∷ more) more
+    cond (eqb (r .kind) (frame-kind s)) (take (length (r .payload) - 1) (r .payload) ∷ more) more
 
 abbrev pub close-read : ℕ → List Read → Bool
 close-read s [] = false
-close-read s (r ∷ rs) = let more = close-read s rs in cond (eqb (r .kind) (512 + s)) true more
+close-read s (r ∷ rs) = let more = close-read s rs in cond (eqb (r .kind) (close-kind s)) true more
 
 -- the record of an emission
 abbrev pub as-read : ℕ → Emission → Read
-as-read s (reply frame) = record { kind = 256 + s; payload = frame ++ NUL ∷ [] }
-as-read s (copy c) = record { kind = 256 + s; payload = c .what .frame ++ NUL ∷ [] }
-as-read s close = record { kind = 512 + s; payload = [] }
+as-read s (reply frame) = record { kind = frame-kind s; payload = frame ++ NUL ∷ [] }
+as-read s (copy c) = record { kind = frame-kind s; payload = c .what .frame ++ NUL ∷ [] }
+as-read s close = record { kind = close-kind s; payload = [] }
 
 abbrev pub record-of : Tagged Emission → Read
 record-of x = as-read (x .who) (x .what)

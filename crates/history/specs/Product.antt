@@ -5,15 +5,17 @@ use mathlib.Core.Bool.{false, _&&_}
 use mathlib.Core.List.{List, [], _∷_}
 use mathlib.Core.Option.{some}
 use lib.Dec.{eqb}
-use lib.ListN.{take}
+use lib.ListN.{length, take}
+use Rattle.model.specs.Limits.{session-count}
 use Rattle.model.specs.Records.{Settings, read-settings}
-use Rattle.model.specs.Events.{tightenings}
+use Rattle.model.specs.Kinds.{kinds, tightenings}
 use Rattle.model.specs.World.{begun}
 use Rattle.model.specs.Calls.{output}
+use Rattle.model.specs.Sights.{starts}
 use Rattle.watch.specs.Marks.{Every, Demand3, InTime}
 use Rattle.controller.specs.Contract.{model-answer}
 use Rattle.controller.specs.Trace.{Made, lendings}
-use Rattle.history.specs.Turns.{Turn, turns, starts-call, frames-to, times-out}
+use Rattle.history.specs.Turns.{Turn, turns, frames-to, times-out}
 use Rattle.history.specs.Output.{Read, read-output, frames-read, close-read}
 use Rattle.history.specs.Demand.{marks, FewFrames, ToldApart}
 
@@ -26,8 +28,8 @@ pub record Shows (m : Made) (x : Turn) : Type 0 where
   -- these bytes, read as house records to their end; and what is counted of the turn is what is read
   pub records : List Read
   pub read : read-output (take (m .answer .written) (m .output-left)) ≡ some records
-  pub frames : (s : ℕ) → s < 4 → frames-to s x ≡ frames-read s records
-  pub closes : (s : ℕ) → s < 4 → times-out s x ≡ close-read s records
+  pub frames : (s : ℕ) → s < session-count → frames-to s x ≡ frames-read s records
+  pub closes : (s : ℕ) → s < session-count → times-out s x ≡ close-read s records
 
 abbrev pub Tells : List Made → List Turn → Type 0
 Tells [] [] = Unit {0}
@@ -42,15 +44,16 @@ turns-of settings size ms = turns (begun settings 0) (lendings size ms)
 
 -- no second start is done among them
 abbrev pub Once : List Made → Type 0
-Once ms = Every (λ m. (eqb (m .answer .number) 0 && starts-call (m .call)) ≡ false) ms
+Once ms = Every (λ m. (eqb (m .answer .number) 0 && starts (m .call)) ≡ false) ms
 
--- ==== demand 3, for sessions 0 to 3 and both kinds of notice, of a history that began with those settings in a table of that size
+-- ==== demand 3, for every session and every kind of notice, of a history that began with those settings in a table of that size
 
 pub record Meets (slice : List ℕ) (size : ℕ) (ms : List Made) : Type 0 where
   pub settings : Settings
   pub given : read-settings slice ≡ some settings
   pub tells : Tells ms (turns-of settings size ms)
-  pub told-apart : (s : ℕ) → s < 4 → ToldApart settings s (turns-of settings size ms)
-  pub notices : (s : ℕ) → s < 4 → (kind : ℕ) → kind < 2 → Demand3 (marks settings s kind [] (turns-of settings size ms))
-  pub in-time : (s : ℕ) → s < 4 → InTime (marks settings s tightenings [] (turns-of settings size ms))
-  pub few-frames : (s : ℕ) → s < 4 → FewFrames settings s (turns-of settings size ms)
+  pub told-apart : (s : ℕ) → s < session-count → ToldApart settings s (turns-of settings size ms)
+  pub notices : (s : ℕ) → s < session-count → (kind : ℕ) → kind < length kinds
+      → Demand3 (marks settings s kind [] (turns-of settings size ms))
+  pub in-time : (s : ℕ) → s < session-count → InTime (marks settings s tightenings [] (turns-of settings size ms))
+  pub few-frames : (s : ℕ) → s < session-count → FewFrames settings s (turns-of settings size ms)

@@ -1,30 +1,22 @@
 -- What demand 3 speaks of, read off the calls so far, their bytes and their answers; the newest call stands first. Nothing here looks
 -- into the table. Assumes nothing: these are definitions.
-use Prim.Native.Nat.{ℕ, suc, _+_, _/_, _%_, _^_}
+use Prim.Native.Nat.{ℕ}
 use mathlib.Core.Bool.{Bool, true, false, not, cond, _&&_, _||_}
 use mathlib.Core.List.{List, [], _∷_, _++_}
 use mathlib.Core.Option.{Option, none, some}
 use lib.Dec.{eqb}
-use lib.ListN.{getD}
-use Rattle.model.specs.Limits.{identifier-length, header-length}
-use Rattle.model.specs.Bytes.{spaces, padded}
-use Rattle.model.specs.Records.{Settings, Tool, scanned, tightening, read-tool}
+use Rattle.model.specs.Limits.{identifier-length}
+use Rattle.model.specs.Bytes.{padded}
+use Rattle.model.specs.Records.{Settings, Tool}
 use Rattle.model.specs.Runs.{empty-run, longer, Piece, Message, read-run}
-use Rattle.model.specs.Events.{Event, identified, tightened, kind-of, identifier-of}
+use Rattle.model.specs.Messages.{Entry, entry-of, bearing, good-length}
+use Rattle.model.specs.Events.{Event, identified, kind-of}
+use Rattle.model.specs.Sharing.{Shared, shared-begun, shared-with, reported}
 use Rattle.model.specs.Frames.{event-frame}
-use Rattle.model.specs.Calls.{Call, start, open-session, hang-up-session, bytes, one-tick, tool}
-use Rattle.history.specs.Turns.{Turn, is-done, opens, hangs-up, given, times-out, welcomed, accepted}
-
--- ==== 01, "What a message does", the table: the messages of a kind of notice, identifiers and tightenings
-
-abbrev pub subscribe : ℕ → ℕ
-subscribe kind = getD (0051 ∷ 0060 ∷ []) kind 0
-
-abbrev pub acknowledge : ℕ → ℕ
-acknowledge kind = getD (0053 ∷ 0062 ∷ []) kind 0
-
-abbrev pub unsubscribe : ℕ → ℕ
-unsubscribe kind = getD (0054 ∷ 0063 ∷ []) kind 0
+use Rattle.model.specs.Calls.{in-sum}
+use Rattle.model.specs.Sights.{reports, speaker}
+use Rattle.history.specs.Turns.{Turn, is-done, opens, hangs-up, given, times-out, welcomed, stops, subscribes, unsubscribes}
+use Rattle.history.specs.Turns.{identifies}
 
 -- ==== 01, "Runs and headers": a session's run, and its messages
 
@@ -55,7 +47,7 @@ parts s x = hangs-up s x || times-out s x
 -- welcomed, and neither stopped nor parted since
 abbrev pub started : ℕ → List Turn → Bool
 started s [] = false
-started s (x ∷ past) = cond (parts s x || accepted s 0003 x) false (cond (welcomed s x) true (started s past))
+started s (x ∷ past) = cond (parts s x || stops s x) false (cond (welcomed s x) true (started s past))
 
 -- the revision, and whether no acknowledge was asked
 pub record Wish : Type 0 where
@@ -70,8 +62,8 @@ wish-of (some m) = some (record { revision = m .revision; no-acknowledge = m .no
 abbrev pub wish : ℕ → ℕ → List Turn → Option Wish
 wish s kind [] = none
 wish s kind (x ∷ past) =
-    cond (parts s x || accepted s 0003 x || accepted s (unsubscribe kind) x) none
-    (cond (accepted s (subscribe kind) x) (wish-of (message s past x)) (wish s kind past))
+    cond (parts s x || stops s x || unsubscribes s kind x) none
+    (cond (subscribes s kind x) (wish-of (message s past x)) (wish s kind past))
 
 abbrev pub is-some : {A : Type 0} → Option A → Bool
 is-some none = false
@@ -86,59 +78,46 @@ subscribed s kind past = started s past && is-some (wish s kind past)
 
 -- ==== demand 3: what closes an open notice of that kind
 
--- 01, "What a message does": an acknowledge is well made that is a message of its number, with its length
+-- 01, "What a message does": an acknowledge is well made that has its length
+abbrev pub well-made : ℕ → ℕ → Option Entry → Bool
+well-made kind size none = false
+well-made kind size (some e) = (bearing (e .effect)) .acknowledges kind && good-length e size
+
 abbrev pub acknowledges : ℕ → Option Message → Bool
 acknowledges kind none = false
-acknowledges kind (some m) = eqb (m .mid) (acknowledge kind) && eqb (m .size) header-length
+acknowledges kind (some m) = well-made kind (m .size) (entry-of (m .mid))
 
 -- a hang-up, a time-out, an accepted stop, an accepted unsubscribe, a well-made acknowledge
 abbrev pub closes : ℕ → ℕ → List Turn → Turn → Bool
 closes s kind past x =
     parts s x
-    || accepted s 0003 x
-    || accepted s (unsubscribe kind) x
+    || stops s x
+    || unsubscribes s kind x
     || acknowledges kind (message s past x)
 
 -- ==== 01, "Frames we write" and "Notices and the clock": events
 
--- what all sessions share: the identifier in force, the last tightening number, and how many events there were
-pub record Shared : Type 0 where
-  pub in-force : List ℕ
-  pub last : ℕ
-  pub events : ℕ
-
--- a tightening gets the next number, and the identifier that is meant now
-abbrev pub tool-event : Shared → Option Tool → Option Event
-tool-event g none = none
-tool-event g (some (scanned x)) = some (identified x)
-tool-event g (some (tightening x t)) =
-    some (tightened (record { number = g .last + 1; identifier = identifier-of x (g .in-force); tightening = t }))
-
+-- an identifier that was accepted over the net, of the session whose bytes they are
 abbrev pub identifier-event : Option Message → Option Event
 identifier-event none = none
 identifier-event (some m) = some (identified (padded identifier-length (m .data-field)))
 
--- a tool record, or an identifier that was accepted over the net
-abbrev pub call-event : Shared → List Turn → Turn → Call → Option Event
-call-event g past x (start slice) = none
-call-event g past x (open-session t) = none
-call-event g past x (hang-up-session t) = none
-call-event g past x (bytes t bs) = cond (accepted t 0050 x) (identifier-event (message t past x)) none
-call-event g past x one-tick = none
-call-event g past x (tool slice) = tool-event g (read-tool slice)
+abbrev pub spoken : List Turn → Turn → Option ℕ → Option Event
+spoken past x none = none
+spoken past x (some t) = cond (identifies t x) (identifier-event (message t past x)) none
+
+-- what the tool reports is an event, or else what was spoken
+abbrev pub call-event : Shared → List Turn → Turn → Option Tool → Option Event
+call-event g past x none = spoken past x (speaker (x .call))
+call-event g past x (some r) = some (reported g r)
 
 -- the event that a call is, if it is one
 abbrev pub event : Shared → List Turn → Turn → Option Event
-event g past x = cond (is-done x) (call-event g past x (x .call)) none
+event g past x = cond (is-done x) (call-event g past x (reports (x .call))) none
 
-abbrev pub shared-with : Shared → Option Event → Shared
-shared-with g none = g
-shared-with g (some (identified x)) = record { in-force = x; last = g .last; events = suc (g .events) }
-shared-with g (some (tightened r)) = record { in-force = g .in-force; last = r .number; events = suc (g .events) }
-
--- the history began with these settings
+-- what all sessions share; the history began with these settings
 abbrev pub shared : Settings → List Turn → Shared
-shared st [] = record { in-force = spaces identifier-length; last = st .last; events = 0 }
+shared st [] = shared-begun st 0
 shared st (x ∷ past) = let g = shared st past in shared-with g (event g past x)
 
 -- the frame of an event to a session with that wish
@@ -149,22 +128,15 @@ frame-for st kind (some w) (some e) = cond (eqb kind (kind-of e)) (some (event-f
 
 -- ==== 01, "What the product holds" and "Notices and the clock": who takes an event
 
--- 2^s is in the sum
-abbrev pub in-sum : ℕ → ℕ → Bool
-in-sum s taken = eqb (taken / 2 ^ s % 2) 1
-
--- the answer to a tool record says it; an identifier is always taken by those that are subscribed
-abbrev pub takes-call : ℕ → Turn → Call → Bool → Bool
-takes-call s x (start slice) subscribed = false
-takes-call s x (open-session t) subscribed = false
-takes-call s x (hang-up-session t) subscribed = false
-takes-call s x (bytes t bs) subscribed = subscribed
-takes-call s x one-tick subscribed = false
-takes-call s x (tool slice) subscribed = in-sum s (x .answer .taken)
+-- the answer says it of what the tool reports; an identifier over the net is taken by those that are subscribed
+abbrev pub takes-it : ℕ → Turn → Option Tool → Bool → Bool
+takes-it s x none subscribed = subscribed
+takes-it s x (some r) subscribed = in-sum s (x .answer .taken)
 
 abbrev pub of-kind : ℕ → Option Event → Bool
 of-kind kind none = false
 of-kind kind (some e) = eqb kind (kind-of e)
 
 abbrev pub takes : ℕ → ℕ → Shared → List Turn → Turn → Bool
-takes s kind g past x = of-kind kind (event g past x) && takes-call s x (x .call) (is-some (wish s kind past))
+takes s kind g past x =
+    of-kind kind (event g past x) && takes-it s x (reports (x .call)) (is-some (wish s kind past))

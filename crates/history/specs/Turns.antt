@@ -1,19 +1,26 @@
 -- A history as it is seen from outside: the calls, their answers and the records of their output. Assumes nothing: these are definitions.
-use Prim.Native.Nat.{ℕ}
+use Prim.Native.Nat.{ℕ, _*_, _-_, _/_}
 use mathlib.Core.Bool.{Bool, true, false, cond, _&&_}
 use mathlib.Core.List.{List, [], _∷_}
-use mathlib.Core.Option.{Option, none, some}
+use mathlib.Core.Option.{Option, none}
 use lib.Dec.{eqb}
+use Rattle.model.specs.Limits.{copy-every, given-up-at, tightenings-held}
 use Rattle.model.specs.Bytes.{places, decimal}
-use Rattle.model.specs.Runs.{Piece, cut}
+use Rattle.model.specs.Runs.{Piece}
+use Rattle.model.specs.Messages.{Bearing, entry-bearing, entry-of}
 use Rattle.model.specs.Session.{Emission, reply, copy, close}
 use Rattle.model.specs.World.{World}
-use Rattle.model.specs.Calls.{Call, start, open-session, hang-up-session, bytes, one-tick, tool, Lent, Answer, step}
+use Rattle.model.specs.Calls.{Call, Lent, Answer, step}
+use Rattle.model.specs.Sights.{sight, starts}
 use Rattle.model.specs.Row.{Tagged, pick}
 
--- 01, "Notices and the clock": so many ticks, at most, wait those that are taken: seven before it, 120 ticks each
+-- 01, "Notices and the clock": so many ticks, at most, waits a tightening that is taken: those before it are each given up in their time
 abbrev pub longest-wait : ℕ
-longest-wait = 840
+longest-wait = (tightenings-held - 1) * given-up-at
+
+-- so many copies, at most, has a notice: one at once, and one more at each time for a copy before it is given up
+abbrev pub most-copies : ℕ
+most-copies = given-up-at / copy-every
 
 -- a call that was made: its answer, and the records that it wrote to the output. Each is tagged with its session; a copy of a notice
 -- also carries the number of its event, which no byte shows
@@ -35,62 +42,21 @@ turns w (c ∷ cs) = let r = step (c .0) w (c .1) in turn (c .1) r ∷ turns (r 
 abbrev pub is-done : Turn → Bool
 is-done x = eqb (x .answer .number) 0
 
--- what a call is, if it is done
-abbrev pub starts-call : Call → Bool
-starts-call (start slice) = true
-starts-call (open-session t) = false
-starts-call (hang-up-session t) = false
-starts-call (bytes t bs) = false
-starts-call one-tick = false
-starts-call (tool slice) = false
-
-abbrev pub opens-call : ℕ → Call → Bool
-opens-call s (start slice) = false
-opens-call s (open-session t) = eqb s t
-opens-call s (hang-up-session t) = false
-opens-call s (bytes t bs) = false
-opens-call s one-tick = false
-opens-call s (tool slice) = false
-
-abbrev pub hangs-up-call : ℕ → Call → Bool
-hangs-up-call s (start slice) = false
-hangs-up-call s (open-session t) = false
-hangs-up-call s (hang-up-session t) = eqb s t
-hangs-up-call s (bytes t bs) = false
-hangs-up-call s one-tick = false
-hangs-up-call s (tool slice) = false
-
-abbrev pub ticks-call : Call → Bool
-ticks-call (start slice) = false
-ticks-call (open-session t) = false
-ticks-call (hang-up-session t) = false
-ticks-call (bytes t bs) = false
-ticks-call one-tick = true
-ticks-call (tool slice) = false
-
-abbrev pub given-call : ℕ → Call → Option Piece
-given-call s (start slice) = none
-given-call s (open-session t) = none
-given-call s (hang-up-session t) = none
-given-call s (bytes t bs) = cond (eqb s t) (some (cut bs)) none
-given-call s one-tick = none
-given-call s (tool slice) = none
-
 abbrev pub is-start : Turn → Bool
-is-start x = is-done x && starts-call (x .call)
+is-start x = is-done x && starts (x .call)
 
 abbrev pub opens : ℕ → Turn → Bool
-opens s x = is-done x && opens-call s (x .call)
+opens s x = is-done x && (sight s (x .call)) .opens
 
 abbrev pub hangs-up : ℕ → Turn → Bool
-hangs-up s x = is-done x && hangs-up-call s (x .call)
+hangs-up s x = is-done x && (sight s (x .call)) .hangs-up
 
-abbrev pub is-tick : Turn → Bool
-is-tick x = is-done x && ticks-call (x .call)
+abbrev pub ticks : ℕ → Turn → Bool
+ticks s x = is-done x && (sight s (x .call)) .ticks
 
 -- 01, "Runs and headers": what a call reads of the session's bytes, up to the first NUL
 abbrev pub given : ℕ → Turn → Option Piece
-given s x = cond (is-done x) (given-call s (x .call)) none
+given s x = cond (is-done x) ((sight s (x .call)) .given) none
 
 -- ==== what goes out to a session
 
@@ -118,19 +84,31 @@ abbrev pub any {ℓ} : {A : Type ℓ} → (A → Bool) → List A → Bool
 any test [] = false
 any test (x ∷ xs) = let r = any test xs in cond (test x) true r
 
--- 01, "Frames we write": a frame 0002, and a frame 0005 for that message
+-- 01, "Frames we write": a frame 0002, and a frame 0005 for a message that is so
 abbrev pub mid-of : List ℕ → ℕ
 mid-of frame = decimal (places 5 8 frame)
 
 abbrev pub is-0002 : List ℕ → Bool
 is-0002 frame = eqb (mid-of frame) 0002
 
-abbrev pub is-0005 : ℕ → List ℕ → Bool
-is-0005 mid frame = eqb (mid-of frame) 0005 && eqb (decimal (places 21 24 frame)) mid
+abbrev pub is-0005 : (Bearing → Bool) → List ℕ → Bool
+is-0005 so frame = eqb (mid-of frame) 0005 && so (entry-bearing (entry-of (decimal (places 21 24 frame))))
 
 abbrev pub welcomed : ℕ → Turn → Bool
 welcomed s x = any is-0002 (frames-to s x)
 
--- a message of that number is accepted
-abbrev pub accepted : ℕ → ℕ → Turn → Bool
-accepted s mid x = any (is-0005 mid) (frames-to s x)
+abbrev pub accepted : ℕ → (Bearing → Bool) → Turn → Bool
+accepted s so x = any (is-0005 so) (frames-to s x)
+
+-- a message is accepted that stops the session, that subscribes to a kind of notice or unsubscribes from it, that is an identifier
+abbrev pub stops : ℕ → Turn → Bool
+stops s x = accepted s (λ m. m .stops) x
+
+abbrev pub subscribes : ℕ → ℕ → Turn → Bool
+subscribes s kind x = accepted s (λ m. m .subscribes kind) x
+
+abbrev pub unsubscribes : ℕ → ℕ → Turn → Bool
+unsubscribes s kind x = accepted s (λ m. m .unsubscribes kind) x
+
+abbrev pub identifies : ℕ → Turn → Bool
+identifies s x = accepted s (λ m. m .identifies) x

@@ -21,7 +21,7 @@ use Rattle.model.specs.Runs.{Run, longer, Piece, cut, Message, is-flag, 
 use Rattle.model.specs.Messages.{Effect, starts, stops, identifies, subscribes, unsubscribes, acknowledges, mirrors, Entry, table}
 use Rattle.model.specs.Messages.{listed, entry-of, Error, already-started, wrong-length, wrong-revision, wrong-data, Standing}
 use Rattle.model.specs.Messages.{good-length, good-among, own-test, tested}
-use Rattle.model.specs.Wire.{Every, NoNUL, Framed}
+use Rattle.model.specs.Wire.{NoNUL, Framed}
 use Rattle.model.proofs.Framed.{every-take, Shown, nul-append, nul-text, Text, CleanSettings}
 
 -- ==== records: the texts of a good one
@@ -180,37 +180,53 @@ clean-end r h n = go (is-message r) refl
     go true e = clean-message r h n e
     go false e = tt
 
--- ==== the table: what is mirrored is a 9999 of 20 bytes
-
-abbrev pub MirrorsOnly : Effect → ℕ → ℕ → ℕ → Type 0
-MirrorsOnly starts mid least greatest = Unit {0}
-MirrorsOnly stops mid least greatest = Unit {0}
-MirrorsOnly (identifies n) mid least greatest = Unit {0}
-MirrorsOnly (subscribes kind n) mid least greatest = Unit {0}
-MirrorsOnly (unsubscribes kind n) mid least greatest = Unit {0}
-MirrorsOnly (acknowledges kind) mid least greatest = Unit {0}
-MirrorsOnly mirrors mid least greatest = (mid ≡ 9999) × (least ≡ header-length) × (greatest ≡ header-length)
-
-abbrev pub Listed : ℕ → Option Entry → Type 0
-Listed mid none = Unit {0}
-Listed mid (some e) = MirrorsOnly (e .effect) mid (e .least) (e .greatest)
-
-listed-so : (es : List Entry) (mid : ℕ) → Every (λ e. MirrorsOnly (e .effect) (e .mid) (e .least) (e .greatest)) es
-    → Listed mid (listed es mid)
-listed-so [] mid h = tt
-listed-so (e ∷ es) mid h = go (eqb (e .mid) mid) refl (listed-so es mid (h .1))
-  where
-    go : (b : Bool) → eqb (e .mid) mid ≡ b → Listed mid (listed es mid) → Listed mid (cond b (some e) (listed es mid))
-    go true q ih = subst (λ (n : ℕ). MirrorsOnly (e .effect) n (e .least) (e .greatest)) (eqb-true (e .mid) mid q) (h .0)
-    go false q ih = ih
-
-pub entry-so : (mid : ℕ) → Listed mid (entry-of mid)
-unfolding entry-of
-entry-so mid = listed-so table mid (tt, (tt, (tt, (tt, (tt, (tt, (tt, (tt, (tt, ((refl, refl, refl), tt))))))))))
-
 -- (what is there is not missing)
 pub there : {A : Type 0} {a : A} → some a ≡ none → ⊥
 there e = let z : _≡_ {A = ℕ} 0 1 = cc in omega arith
+
+-- ==== the table: what a computed test over it says of the entry of a number
+
+listed-at : (test : Entry → Bool) (es : List Entry) → all test es ≡ true → (mid : ℕ) (e : Entry) → listed es mid ≡ some e
+    → (e .mid ≡ mid) × (test e ≡ true)
+listed-at test [] h mid e q = absurd (there (sym q))
+listed-at test (f ∷ es) h mid e q =
+    let s = both (test f) (all test es) h in go (s .0) (eqb (f .mid) mid) refl q (λ p. listed-at test es (s .1) mid e p)
+  where
+    go : test f ≡ true → (b : Bool) → eqb (f .mid) mid ≡ b → cond b (some f) (listed es mid) ≡ some e
+        → (listed es mid ≡ some e → (e .mid ≡ mid) × (test e ≡ true)) → (e .mid ≡ mid) × (test e ≡ true)
+    go s true n p ih = let r : f ≡ e = cc in rw (← r) (eqb-true (f .mid) mid n, s)
+    go s false n p ih = ih p
+
+pub entry-at : (test : Entry → Bool) → all test table ≡ true → (mid : ℕ) (e : Entry) → entry-of mid ≡ some e
+    → (e .mid ≡ mid) × (test e ≡ true)
+unfolding entry-of
+entry-at test h mid e q = listed-at test table h mid e q
+
+-- what is mirrored is a 9999 of 20 bytes
+abbrev pub mirrors-only : Effect → ℕ → ℕ → ℕ → Bool
+mirrors-only starts mid least greatest = true
+mirrors-only stops mid least greatest = true
+mirrors-only (identifies n) mid least greatest = true
+mirrors-only (subscribes kind n) mid least greatest = true
+mirrors-only (unsubscribes kind n) mid least greatest = true
+mirrors-only (acknowledges kind) mid least greatest = true
+mirrors-only mirrors mid least greatest = eqb mid 9999 && eqb least header-length && eqb greatest header-length
+
+abbrev own-entry : Entry → Bool
+own-entry e = mirrors-only (e .effect) (e .mid) (e .least) (e .greatest)
+
+abbrev pub Listed : ℕ → Option Entry → Type 0
+Listed mid none = Unit {0}
+Listed mid (some e) = mirrors-only (e .effect) mid (e .least) (e .greatest) ≡ true
+
+pub entry-so : (mid : ℕ) → Listed mid (entry-of mid)
+entry-so mid = go (entry-of mid) refl
+  where
+    go : (o : Option Entry) → entry-of mid ≡ o → Listed mid o
+    go none q = tt
+    go (some e) q =
+        let s = entry-at own-entry refl mid e q in
+        subst (λ (n : ℕ). mirrors-only (e .effect) n (e .least) (e .greatest) ≡ true) (s .0) (s .1)
 
 -- a message that has no error has a good length, and its data are text
 pub passed : (x : Standing) (e : Entry) (size revision : ℕ) (bs : List ℕ) → tested x (some e) size revision bs ≡ none

@@ -5,22 +5,25 @@ use Prim.Native.Nat.{ℕ, zero, suc, _+_, _%_}
 use mathlib.Core.Path.{_≡_, refl, sym, _∙_, ap, ap₂, fun-ext}
 use mathlib.Core.Bool.{Bool, true, false, cond}
 use mathlib.Core.List.{List, [], _∷_, _++_, map, map-append, append-assoc}
-use mathlib.Core.Option.{Option, none, some}
+use mathlib.Core.Option.{Option, none, some, Option·map as option-map}
 use lib.Dec.{eqb}
 use lib.ListN.{getD, length-map, List·getD-map}
 use Rattle.model.specs.Limits.{given-up-at, copy-every, idle-limit}
 use Rattle.model.specs.Records.{Settings, Tool, scanned, tightening, read-settings, read-tool}
+use Rattle.model.specs.Kinds.{Room, the-newest, up-to, room-of}
 use Rattle.model.specs.Runs.{Run, empty-run, longer, Piece, cut, Message, read-run}
 use Rattle.model.specs.Messages.{Effect, starts, stops, identifies, subscribes, unsubscribes, acknowledges, mirrors, Entry, entry-of, gets-reply, Error, code}
-use Rattle.model.specs.Events.{identified, tightened, identifier-of, Notice, kind-of, identifiers, tightenings}
+use Rattle.model.specs.Events.{Event, identified, Notice, kind-of}
+use Rattle.model.specs.Sharing.{Shared, unnumbered, notice-of, reported}
 use Rattle.model.specs.Frames.{frame-0004}
-use Rattle.model.specs.Notices.{Room, the-newest, up-to, room-of, empty, busy, Subscription, unsubscribed, plain, acked, is-subscribed, has-room, takes as takes-event, Deed, nothing, beats, news, asks, drops, acks, next-one, waits, clock-at, act}
+use Rattle.model.specs.Notices.{empty, busy, Subscription, unsubscribed, plain, acked, is-subscribed, has-room, takes as takes-event, Deed, nothing, beats, news, asks, drops, acks, next-one, waits, clock-at, act}
 use Rattle.model.specs.Row.{Tagged, said}
 use Rattle.model.specs.Session.{Session, closed, opened, started, is-closed, subscribed-to, Copy, Emission, reply, copy, close, frame-to, copies-to, deal, dealt, only}
 use Rattle.model.specs.Hearing.{message-error, started-standing, opened-standing, error-reply, accepted, carry-out, judged, hear, begin, hear-opened}
-use Rattle.model.specs.Steps.{end-run, end-run-opened, Local, opening, hang-up, receives, tick, event, elsewhere, tick-at, receive, receive-opened, step as session-step, takes, identifier-run, announces}
-use Rattle.model.specs.World.{World, uncounted, session-at, Moment, begins, opens, hangs-up, hears, ticks, happens, local, each, sessions-after, next, emits, after, emitted}
-use Rattle.model.specs.Calls.{Call, start, open-session, hang-up-session, bytes, one-tick, tool, Lent, refusal, settled, told, reported, moments, output-record, output, takers, taken-by, taken-of, Answer, answered, step, run}
+use Rattle.model.specs.Local.{end-run, end-run-opened, Local, opening, hang-up, receives, tick, event, elsewhere, tick-at, receive, receive-opened, step as session-step, takes, identifier-run, announces}
+use Rattle.model.specs.World.{World, uncounted, session-at, Change, no-change, by-event, by-start, Moment, to, opens, hangs-up, hears, ticks, happens, begins, changed, each, sessions-after, next, emits, after, emitted}
+use Rattle.model.specs.Calls.{Call, start, open-session, hang-up-session, bytes, one-tick, tool, Lent, refusal, at-most-one, happening, moments, output-record, output, takers, taken-by, does, Answer, answered, step, run}
+use Rattle.model.specs.Erased.{erase, erase-sub, erase-session, erase-world, observed}
 use Rattle.model.proofs.RowLaws.{retag, row-map, said-map}
 
 -- a function of a choice is a choice of its values
@@ -29,15 +32,6 @@ chosen f true x y = refl
 chosen f false x y = refl
 
 -- ==== a subscription
-
-abbrev pub erase : Notice → Notice
-erase n = record { id = 0; event = n .event }
-
-abbrev pub erase-sub : Subscription → Subscription
-erase-sub unsubscribed = unsubscribed
-erase-sub (plain revision) = plain revision
-erase-sub (acked revision empty) = acked revision empty
-erase-sub (acked revision (busy x clock waiting)) = acked revision (busy (erase x) clock (map erase waiting))
 
 abbrev erase-deed : Deed → Deed
 erase-deed nothing = nothing
@@ -108,11 +102,6 @@ takes-event-erased room (acked r (busy x c q)) = has-room-erased room q
 
 -- ==== a session
 
-abbrev pub erase-session : Session → Session
-erase-session closed = closed
-erase-session (opened idle run) = opened idle run
-erase-session (started idle run subs) = started idle run (map erase-sub subs)
-
 abbrev pub erase-copy : Copy → Copy
 erase-copy c = record { notice = erase (c .notice); frame = c .frame }
 
@@ -120,14 +109,6 @@ abbrev pub erase-emission : Emission → Emission
 erase-emission (reply frame) = reply frame
 erase-emission (copy c) = copy (retag erase-copy c)
 erase-emission close = close
-
-abbrev erase-local : Local → Local
-erase-local opening = opening
-erase-local hang-up = hang-up
-erase-local (receives p) = receives p
-erase-local tick = tick
-erase-local (event n) = event (erase n)
-erase-local elsewhere = elsewhere
 
 abbrev both : Session × List Emission → Session × List Emission
 both a = (erase-session (a .0), map erase-emission (a .1))
@@ -166,11 +147,14 @@ module _ (st : Settings) where
   only-dealt i run kind d subs =
       dealt-erased i run (only kind (erase-deed d)) (only kind d) subs (λ j. chosen erase-deed (eqb j kind) d nothing)
 
+-- what is shared counts no events on the changed
+
+module _ (g : Shared) where
   at-erased : (subs : List Subscription) (kind : ℕ) → subscribed-to (map erase-sub subs) kind ≡ subscribed-to subs kind
   at-erased subs kind =
       ap is-subscribed (List·getD-map erase-sub subs kind unsubscribed) ∙ subscribed-erased (getD subs kind unsubscribed)
 
-  standing-erased : (subs : List Subscription) → started-standing st (map erase-sub subs) ≡ started-standing st subs
+  standing-erased : (subs : List Subscription) → started-standing (unnumbered g) (map erase-sub subs) ≡ started-standing g subs
   standing-erased subs = rw (fun-ext (at-erased subs))
 
   error-reply-erased : (m : Message) (o : Option Entry) (error : Error)
@@ -180,51 +164,51 @@ module _ (st : Settings) where
       chosen (map erase-emission) (gets-reply (e .effect)) (reply (frame-0004 (m .mid) (code error)) ∷ []) []
 
   carry-out-erased : (subs : List Subscription) (m : Message) (e : Effect)
-      → carry-out st (map erase-sub subs) m e ≡ both (carry-out st subs m e)
+      → carry-out (unnumbered g) (map erase-sub subs) m e ≡ both (carry-out g subs m e)
   carry-out-erased subs m starts = refl
   carry-out-erased subs m stops = refl
   carry-out-erased subs m (identifies error) = refl
   carry-out-erased subs m (subscribes kind error) =
-      ap (accepted m) (only-dealt 0 empty-run kind (asks (m .revision) (m .no-acknowledge)) subs)
-  carry-out-erased subs m (unsubscribes kind error) = ap (accepted m) (only-dealt 0 empty-run kind drops subs)
-  carry-out-erased subs m (acknowledges kind) = only-dealt 0 empty-run kind acks subs
+      ap (accepted m) (only-dealt (g .settings) 0 empty-run kind (asks (m .revision) (m .no-acknowledge)) subs)
+  carry-out-erased subs m (unsubscribes kind error) = ap (accepted m) (only-dealt (g .settings) 0 empty-run kind drops subs)
+  carry-out-erased subs m (acknowledges kind) = only-dealt (g .settings) 0 empty-run kind acks subs
   carry-out-erased subs m mirrors = refl
 
   judged-erased : (subs : List Subscription) (m : Message) (o : Option Entry) (error : Option Error)
-      → judged st (map erase-sub subs) m o error ≡ both (judged st subs m o error)
+      → judged (unnumbered g) (map erase-sub subs) m o error ≡ both (judged g subs m o error)
   judged-erased subs m o (some error) = rw (← error-reply-erased m o error)
   judged-erased subs m (some e) none = carry-out-erased subs m (e .effect)
   judged-erased subs m none none = refl
 
-  hear-erased : (subs : List Subscription) (m : Message) → hear st (map erase-sub subs) m ≡ both (hear st subs m)
+  hear-erased : (subs : List Subscription) (m : Message) → hear (unnumbered g) (map erase-sub subs) m ≡ both (hear g subs m)
   hear-erased subs m =
-      rw (standing-erased subs) (judged-erased subs m (entry-of (m .mid)) (message-error (started-standing st subs) m))
+      rw (standing-erased subs) (judged-erased subs m (entry-of (m .mid)) (message-error (started-standing g subs) m))
 
   end-run-erased : (i : ℕ) (subs : List Subscription) (o : Option Message)
-      → end-run st i (map erase-sub subs) o ≡ both (end-run st i subs o)
+      → end-run (unnumbered g) i (map erase-sub subs) o ≡ both (end-run g i subs o)
   end-run-erased i subs none = refl
   end-run-erased i subs (some m) = hear-erased subs m
 
   receive-erased : (i : ℕ) (run : Run) (subs : List Subscription) (b : Bool)
-      → receive st i run (map erase-sub subs) b ≡ both (receive st i run subs b)
+      → receive (unnumbered g) i run (map erase-sub subs) b ≡ both (receive g i run subs b)
   receive-erased i run subs false = refl
   receive-erased i run subs true = end-run-erased i subs (read-run run)
 
-  begin-erased : (i : ℕ) (m : Message) (error : Option Error) → begin st i m error ≡ both (begin st i m error)
+  begin-erased : (i : ℕ) (m : Message) (error : Option Error) → begin (unnumbered g) i m error ≡ both (begin g i m error)
   begin-erased i m none = refl
   begin-erased i m (some error) = refl
 
-  hear-opened-erased : (i : ℕ) (m : Message) → hear-opened st i m ≡ both (hear-opened st i m)
+  hear-opened-erased : (i : ℕ) (m : Message) → hear-opened (unnumbered g) i m ≡ both (hear-opened g i m)
   hear-opened-erased i m =
-      let error = message-error (opened-standing st) m in
+      let error = message-error (opened-standing g) m in
       ap (λ a. cond (eqb (m .mid) 0001) a (opened i empty-run, [])) (begin-erased i m error)
-      ∙ chosen both (eqb (m .mid) 0001) (begin st i m error) (opened i empty-run, [])
+      ∙ chosen both (eqb (m .mid) 0001) (begin g i m error) (opened i empty-run, [])
 
-  receive-opened-erased : (i : ℕ) (run : Run) (b : Bool) → receive-opened st i run b ≡ both (receive-opened st i run b)
+  receive-opened-erased : (i : ℕ) (run : Run) (b : Bool) → receive-opened (unnumbered g) i run b ≡ both (receive-opened g i run b)
   receive-opened-erased i run false = refl
   receive-opened-erased i run true = go (read-run run)
     where
-      go : (o : Option Message) → end-run-opened st i o ≡ both (end-run-opened st i o)
+      go : (o : Option Message) → end-run-opened (unnumbered g) i o ≡ both (end-run-opened g i o)
       go none = refl
       go (some m) = hear-opened-erased i m
 
@@ -232,27 +216,24 @@ module _ (st : Settings) where
   tick-at-erased i a b h =
       ap (cond (eqb i idle-limit) (closed, close ∷ [])) h ∙ chosen both (eqb i idle-limit) (closed, close ∷ []) b
 
-  step-erased : (c : Local) (x : Session) → session-step st (erase-local c) (erase-session x) ≡ both (session-step st c x)
+  step-erased : (l : Local) (x : Session) → session-step (unnumbered g) l (erase-session x) ≡ both (session-step g l x)
+  step-erased elsewhere x = refl
+  step-erased hang-up x = refl
   step-erased opening closed = refl
-  step-erased hang-up closed = refl
-  step-erased (receives p) closed = refl
-  step-erased tick closed = refl
-  step-erased (event n) closed = refl
-  step-erased elsewhere closed = refl
   step-erased opening (opened i run) = refl
-  step-erased hang-up (opened i run) = refl
-  step-erased (receives p) (opened i run) = receive-opened-erased i (longer run (p .bytes)) (p .ends)
-  step-erased tick (opened i run) = tick-at-erased (suc i) (opened (suc i) run, []) (opened (suc i) run, []) refl
-  step-erased (event n) (opened i run) = refl
-  step-erased elsewhere (opened i run) = refl
   step-erased opening (started i run subs) = refl
-  step-erased hang-up (started i run subs) = refl
+  step-erased (receives p) closed = refl
+  step-erased (receives p) (opened i run) = receive-opened-erased i (longer run (p .bytes)) (p .ends)
   step-erased (receives p) (started i run subs) = receive-erased i (longer run (p .bytes)) subs (p .ends)
+  step-erased tick closed = refl
+  step-erased tick (opened i run) = tick-at-erased (suc i) (opened (suc i) run, []) (opened (suc i) run, []) refl
   step-erased tick (started i run subs) =
+      let st = g .settings in
       tick-at-erased (suc i) (dealt st (suc i) run (λ j. beats) (map erase-sub subs)) (dealt st (suc i) run (λ j. beats) subs)
-      (dealt-erased (suc i) run (λ j. beats) (λ j. beats) subs (λ j. refl))
-  step-erased (event n) (started i run subs) = only-dealt i run (kind-of (n .event)) (news n) subs
-  step-erased elsewhere (started i run subs) = refl
+      (dealt-erased st (suc i) run (λ j. beats) (λ j. beats) subs (λ j. refl))
+  step-erased (event e) closed = refl
+  step-erased (event e) (opened i run) = refl
+  step-erased (event e) (started i run subs) = only-dealt (g .settings) i run (kind-of e) (news (notice-of g e)) subs
 
 -- ==== what the others learn of a session
 
@@ -272,52 +253,36 @@ takers-erased : (kind s : ℕ) (xs : List Session) → takers kind s (map erase-
 takers-erased kind s [] = refl
 takers-erased kind s (x ∷ xs) = rw (takes-erased kind x, takers-erased kind (suc s) xs)
 
-run-erased : (st : Settings) (subs : List Subscription) (o : Option Message)
-    → identifier-run st (map erase-sub subs) o ≡ identifier-run st subs o
-run-erased st subs none = refl
-run-erased st subs (some m) = rw (standing-erased st subs)
+run-erased : (g : Shared) (subs : List Subscription) (o : Option Message)
+    → identifier-run (unnumbered g) (map erase-sub subs) o ≡ identifier-run g subs o
+run-erased g subs none = refl
+run-erased g subs (some m) = rw (standing-erased g subs)
 
-announces-erased : (st : Settings) (p : Piece) (x : Session) → announces st p (erase-session x) ≡ announces st p x
-announces-erased st p closed = refl
-announces-erased st p (opened i run) = refl
-announces-erased st p (started i run subs) = rw (run-erased st subs (read-run (longer run (p .bytes))))
+announces-erased : (g : Shared) (p : Piece) (x : Session) → announces (unnumbered g) p (erase-session x) ≡ announces g p x
+announces-erased g p closed = refl
+announces-erased g p (opened i run) = refl
+announces-erased g p (started i run subs) = rw (run-erased g subs (read-run (longer run (p .bytes))))
 
 -- ==== the world
 
-abbrev pub erase-world : World → World
-erase-world w = record {
-  settings = w .settings;
-  in-force = w .in-force;
-  last = w .last;
-  sessions = map erase-session (w .sessions);
-  events = 0;
-}
-
-local-erased : (k : ℕ) (m : Moment) (s : ℕ) → local 0 m s ≡ erase-local (local k m s)
-local-erased k (begins st) s = refl
-local-erased k (opens t) s = chosen erase-local (eqb s t) opening elsewhere
-local-erased k (hangs-up t) s = chosen erase-local (eqb s t) hang-up elsewhere
-local-erased k (hears t p) s = chosen erase-local (eqb s t) (receives p) elsewhere
-local-erased k ticks s = refl
-local-erased k (happens e) s = refl
+left-erased : (g : Shared) (c : Change) → unnumbered (changed (unnumbered g) c) ≡ unnumbered (changed g c)
+left-erased g no-change = refl
+left-erased g (by-event e) = refl
+left-erased g (by-start st) = refl
 
 module _ (w : World) where
-  each-erased : (m : Moment) (s : ℕ) (x : Session) → each (erase-world w) m s (erase-session x) ≡ both (each w m s x)
-  each-erased m s x = rw (local-erased (w .events) m s) (step-erased (w .settings) (local (w .events) m s) x)
+  module _ (m : Moment) where
+    each-erased : (s : ℕ) (x : Session) → each (erase-world w) m s (erase-session x) ≡ both (each w m s x)
+    each-erased s x = step-erased (w .shared) (m .sees s) x
 
-  sessions-erased : (m : Moment) → sessions-after (erase-world w) m ≡ map erase-session (sessions-after w m)
-  sessions-erased m = row-map (each w m) (each (erase-world w) m) erase-session erase-emission (each-erased m) 0 (w .sessions)
+    sessions-erased : sessions-after (erase-world w) m ≡ map erase-session (sessions-after w m)
+    sessions-erased = row-map (each w m) (each (erase-world w) m) erase-session erase-emission each-erased 0 (w .sessions)
 
-  emits-erased : (m : Moment) → emits (erase-world w) m ≡ map (retag erase-emission) (emits w m)
-  emits-erased m = said-map (each w m) (each (erase-world w) m) erase-session erase-emission (each-erased m) 0 (w .sessions)
+    emits-erased : emits (erase-world w) m ≡ map (retag erase-emission) (emits w m)
+    emits-erased = said-map (each w m) (each (erase-world w) m) erase-session erase-emission each-erased 0 (w .sessions)
 
-  next-erased : (m : Moment) → uncounted (next (erase-world w) m) ≡ erase-world (next w m)
-  next-erased (begins st) = refl
-  next-erased (opens s) = rw (sessions-erased (opens s))
-  next-erased (hangs-up s) = rw (sessions-erased (hangs-up s))
-  next-erased (hears s p) = rw (sessions-erased (hears s p))
-  next-erased ticks = rw (sessions-erased ticks)
-  next-erased (happens e) = rw (sessions-erased (happens e))
+    next-erased : uncounted (next (erase-world w) m) ≡ erase-world (next w m)
+    next-erased = rw (sessions-erased, left-erased (w .shared) (m .leaves))
 
   session-erased : (s : ℕ) → session-at (erase-world w) s ≡ erase-session (session-at w s)
   session-erased s = List·getD-map erase-session (w .sessions) s closed
@@ -353,6 +318,7 @@ Alike w ms =
 first-alike : (w : World) (m : Moment) → output (emits (erase-world w) m) ≡ output (emits w m)
 first-alike w m = ap output (emits-erased w m) ∙ output-erased (emits w m)
 
+-- the last moment may be an event; the one before it may not, since it leaves a count
 alike-one : (w : World) (m : Moment) → Alike w (m ∷ [])
 alike-one w m = (
   next-erased w m,
@@ -360,75 +326,54 @@ alike-one w m = (
       ∙ ap (_++ []) (first-alike w m) ∙ sym (output-append (emits w m) []),
 )
 
-alike-hears : (w : World) (s : ℕ) (p : Piece) (ms : List Moment) → Alike (next w (hears s p)) ms → Alike w (hears s p ∷ ms)
-alike-hears w s p ms h =
-    let e : next (erase-world w) (hears s p) ≡ erase-world (next w (hears s p)) = next-erased w (hears s p) in (
+alike-to : (w : World) (s : ℕ) (l : Local) (ms : List Moment) → Alike (next w (to s l)) ms → Alike w (to s l ∷ ms)
+alike-to w s l ms h =
+    let m = to s l in
+    let e : next (erase-world w) m ≡ erase-world (next w m) = next-erased w m in (
       ap (λ v. uncounted (after v ms)) e ∙ h .0,
-      output-append (emits (erase-world w) (hears s p)) (emitted (next (erase-world w) (hears s p)) ms)
-          ∙ ap₂ (_++_) (first-alike w (hears s p)) (ap (λ v. output (emitted v ms)) e ∙ h .1)
-          ∙ sym (output-append (emits w (hears s p)) (emitted (next w (hears s p)) ms)),
+      output-append (emits (erase-world w) m) (emitted (next (erase-world w) m) ms)
+          ∙ ap₂ (_++_) (first-alike w m) (ap (λ v. output (emitted v ms)) e ∙ h .1)
+          ∙ sym (output-append (emits w m) (emitted (next w m) ms)),
     )
 
-alike-told : (w : World) (o : Option (List ℕ)) → Alike w (told o)
-alike-told w none = (refl, refl)
-alike-told w (some x) = alike-one w (happens (identified x))
+alike-happening : (w : World) (o : Option Event) → Alike w (happening o)
+alike-happening w none = (refl, refl)
+alike-happening w (some e) = alike-one w (happens e)
 
-alike-reported : (w : World) (o : Option Tool) → Alike w (reported w o)
-alike-reported w none = (refl, refl)
-alike-reported w (some (scanned x)) = alike-one w (happens (identified x))
-alike-reported w (some (tightening x t)) =
-    alike-one w
-    (happens
-    (tightened (record { number = w .last + 1; identifier = identifier-of x (w .in-force); tightening = t })))
+alike-start : (w : World) (o : Option Settings) → Alike w (at-most-one (option-map begins o) ++ [])
+alike-start w none = (refl, refl)
+alike-start w (some st) = alike-one w (begins st)
 
-alike-settled : (w : World) (o : Option Settings) → Alike w (settled o)
-alike-settled w none = (refl, refl)
-alike-settled w (some st) = alike-one w (begins st)
+taken-erased : (xs : List Session) (o : Option Event) → taken-by (map erase-session xs) o ≡ taken-by xs o
+taken-erased xs none = refl
+taken-erased xs (some e) = takers-erased (kind-of e) 0 xs
+
+reported-erased : (g : Shared) (o : Option Tool) → option-map (reported (unnumbered g)) o ≡ option-map (reported g) o
+reported-erased g none = refl
+reported-erased g (some (scanned x)) = refl
+reported-erased g (some (tightening x t)) = refl
 
 alike : (w : World) (c : Call) → Alike w (moments w c)
-alike w (start slice) = alike-settled w (read-settings slice)
+alike w (start slice) = alike-start w (read-settings slice)
 alike w (open-session s) = alike-one w (opens s)
 alike w (hang-up-session s) = alike-one w (hangs-up s)
 alike w (bytes s bs) =
-    alike-hears w s (cut bs) (told (announces (w .settings) (cut bs) (session-at w s)))
-    (alike-told (next w (hears s (cut bs))) (announces (w .settings) (cut bs) (session-at w s)))
+    let o = option-map identified (announces (w .shared) (cut bs) (session-at w s)) in
+    alike-to w s (receives (cut bs)) (happening o) (alike-happening (next w (hears s (cut bs))) o)
 alike w one-tick = alike-one w ticks
-alike w (tool slice) = alike-reported w (read-tool slice)
+alike w (tool slice) = alike-happening w (option-map (reported (w .shared)) (read-tool slice))
 
-reported-erased : (w : World) (o : Option Tool) → reported (erase-world w) o ≡ reported w o
-reported-erased w none = refl
-reported-erased w (some (scanned x)) = refl
-reported-erased w (some (tightening x t)) = refl
-
-moments-erased : (w : World) (c : Call) → moments (erase-world w) c ≡ moments w c
-moments-erased w (start slice) = refl
-moments-erased w (open-session s) = refl
-moments-erased w (hang-up-session s) = refl
-moments-erased w (bytes s bs) = rw (session-erased w s, announces-erased (w .settings) (cut bs) (session-at w s))
-moments-erased w one-tick = refl
-moments-erased w (tool slice) = reported-erased w (read-tool slice)
-
-refusal-erased : (l : Lent) (w : World) (c : Call) → refusal l (erase-world w) c ≡ refusal l w c
-unfolding refusal
-refusal-erased l w (start slice) = refl
-refusal-erased l w (open-session s) = rw (session-erased w s, is-closed-erased (session-at w s))
-refusal-erased l w (hang-up-session s) = rw (session-erased w s, is-closed-erased (session-at w s))
-refusal-erased l w (bytes s bs) = rw (session-erased w s, is-closed-erased (session-at w s))
-refusal-erased l w one-tick = refl
-refusal-erased l w (tool slice) = refl
-
-taken-erased : (w : World) (c : Call) → taken-of (erase-world w) c ≡ taken-of w c
-taken-erased w (start slice) = refl
-taken-erased w (open-session s) = refl
-taken-erased w (hang-up-session s) = refl
-taken-erased w (bytes s bs) = refl
-taken-erased w one-tick = refl
-taken-erased w (tool slice) = go (read-tool slice)
-  where
-    go : (o : Option Tool) → taken-by (erase-world w) o ≡ taken-by w o
-    go none = refl
-    go (some (scanned x)) = takers-erased identifiers 0 (w .sessions)
-    go (some (tightening x t)) = takers-erased tightenings 0 (w .sessions)
+-- the table of calls
+does-erased : (w : World) (c : Call) → does (erase-world w) c ≡ does w c
+does-erased w (start slice) = refl
+does-erased w (open-session s) = rw (session-erased w s, is-closed-erased (session-at w s))
+does-erased w (hang-up-session s) = rw (session-erased w s, is-closed-erased (session-at w s))
+does-erased w (bytes s bs) =
+    rw (session-erased w s, is-closed-erased (session-at w s), announces-erased (w .shared) (cut bs) (session-at w s))
+does-erased w one-tick = refl
+does-erased w (tool slice) =
+    let t = read-tool slice in
+    rw (reported-erased (w .shared) t, taken-erased (w .sessions) (option-map (reported (w .shared)) t))
 
 -- two outcomes of a call: the same world but for the numbers, the same answer, the same bytes
 pub record Same (q r : World × Answer × List (Tagged Emission)) : Type 0 where
@@ -440,23 +385,18 @@ answered-erased : (w : World) (c : Call) (n : ℕ) → Same (answered (erase-wor
 answered-erased w c zero =
     let a = alike w c in
     record {
-      world = rw (moments-erased w c) (a .0);
-      answer = rw (moments-erased w c, taken-erased w c, a .1);
-      bytes = rw (moments-erased w c) (a .1);
+      world = rw (does-erased w c) (a .0);
+      answer = rw (does-erased w c, a .1);
+      bytes = rw (does-erased w c) (a .1);
     }
 answered-erased w c (suc n) = record { world = refl; answer = refl; bytes = refl }
 
 -- A CALL, with the numbers of events and without
 pub step-without-numbers : (l : Lent) (w : World) (c : Call) → Same (step l (erase-world w) c) (step l w c)
-unfolding step
-step-without-numbers l w c = rw (refusal-erased l w c) (answered-erased w c (refusal l w c))
+unfolding step refusal
+step-without-numbers l w c = rw (does-erased w c) (answered-erased w c (refusal l w c))
 
 -- ==== runs
-
--- the answers and the bytes of a run
-abbrev pub observed : List (Answer × List (Tagged Emission)) → List (Answer × List ℕ)
-observed [] = []
-observed (r ∷ rs) = (r .0, output (r .1)) ∷ observed rs
 
 -- a run that forgets the count after each call, as a program does that keeps none
 abbrev pub run-uncounted : World → List (Lent × Call) → List (Answer × List ℕ)

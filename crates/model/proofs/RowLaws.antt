@@ -1,12 +1,13 @@
 -- Laws of a row, for any cells and any call: what the call does to one cell, and what that cell says; and cells of another kind
 -- that go along with these. Assumes nothing.
 use Prim.Native.Nat.{ℕ, zero, suc, _+_, _≤_, _<_}
-use mathlib.Core.Path.{_≡_, refl, sym, _∙_, ap, subst}
+use mathlib.Core.Path.{_≡_, refl, sym, _∙_, ap, ap₂, subst}
 use mathlib.Core.Bool.{Bool, true, false, cond}
 use mathlib.Core.List.{List, [], _∷_, _++_, map, append-nil, map-append}
 use native.Mathlib.Omega.{arith}
 use lib.Dec.{eqb}
-use lib.ListN.{length, getD}
+use lib.ListN.{length, getD, set, take, drop}
+use lib.Seq.{length-take-le, split-at, set-split}
 use borrow.Author.Tests.{eq-eqb, ne-eqb}
 use Rattle.model.specs.Row.{Tagged, tag, pick, row, said}
 
@@ -54,12 +55,6 @@ module _ {X E : Type 0} (act : ℕ → X → X × List E) where
       pick-append n (tag i ((act i x) .1)) (said act (suc i) xs)
       ∙ rw (pick-other n i ((act i x) .1) (omega arith)) (said-from xs (suc i) j n d (omega arith) (omega arith))
 
-  none-from : (xs : List X) (i n : ℕ) → i + length xs ≤ n → pick n (said act i xs) ≡ []
-  none-from [] i n h = refl
-  none-from (x ∷ xs) i n h =
-      pick-append n (tag i ((act i x) .1)) (said act (suc i) xs)
-      ∙ rw (pick-other n i ((act i x) .1) (omega arith)) (none-from xs (suc i) n (omega arith))
-
   -- cell n after the call, and what it said
   pub row-at : (xs : List X) (n : ℕ) (d : X) → n < length xs → getD (row act 0 xs) n d ≡ (act n (getD xs n d)) .0
   row-at xs n d h = row-from xs 0 n n d (omega arith) h
@@ -67,11 +62,9 @@ module _ {X E : Type 0} (act : ℕ → X → X × List E) where
   pub said-at : (xs : List X) (n : ℕ) (d : X) → n < length xs → pick n (said act 0 xs) ≡ (act n (getD xs n d)) .1
   said-at xs n d h = said-from xs 0 n n d (omega arith) h
 
-  pub said-past : (xs : List X) (n : ℕ) → length xs ≤ n → pick n (said act 0 xs) ≡ []
-  said-past xs n h = none-from xs 0 n (omega arith)
-
   -- cell n after the call, past the last one too, where the call leaves d as it is
-  pub row-everywhere : (d : X) → ((n : ℕ) → (act n d) .0 ≡ d) → (xs : List X) (i j n : ℕ) → i + j ≡ n → getD (row act i xs) j d ≡ (act n (getD xs j d)) .0
+  pub row-everywhere : (d : X) → ((n : ℕ) → (act n d) .0 ≡ d) → (xs : List X) (i j n : ℕ) → i + j ≡ n
+      → getD (row act i xs) j d ≡ (act n (getD xs j d)) .0
   row-everywhere d h [] i j n e = sym (h n)
   row-everywhere d h (x ∷ xs) i zero n e = ap (λ (m : ℕ). (act m x) .0) (omega arith)
   row-everywhere d h (x ∷ xs) i (suc j) n e = row-everywhere d h xs (suc i) j n (omega arith)
@@ -80,6 +73,45 @@ module _ {X E : Type 0} (act : ℕ → X → X × List E) where
   pub said-none : ((n : ℕ) (x : X) → (act n x) .1 ≡ []) → (i : ℕ) (xs : List X) → said act i xs ≡ []
   said-none h i [] = refl
   said-none h i (x ∷ xs) = rw (h i x) (said-none h (suc i) xs)
+
+-- ==== a call to cell s alone, which the others pass over
+
+module _ {X E : Type 0} (act : ℕ → X → X × List E) (s : ℕ) (others : (j : ℕ) (x : X) → (j ≡ s → ⊥) → act j x ≡ (x, [])) where
+  passed : (i : ℕ) (xs : List X) → s < i → (row act i xs ≡ xs) × (said act i xs ≡ [])
+  passed i [] h = (refl, refl)
+  passed i (x ∷ xs) h =
+      let r = passed (suc i) xs (omega arith) in
+      let e = others i x (λ z. omega arith) in
+      (ap₂ _∷_ (ap (λ (p : X × List E). p .0) e) (r .0), ap₂ _++_ (ap (λ (p : X × List E). tag i (p .1)) e) (r .1))
+
+  -- there is no cell s
+  pub said-past : (i : ℕ) (xs : List X) → i + length xs ≤ s → said act i xs ≡ []
+  said-past i [] h = refl
+  said-past i (x ∷ xs) h = rw (ap (λ (p : X × List E). p .1) (others i x (λ z. omega arith))) (said-past (suc i) xs (omega arith))
+
+  -- it stands behind these, the first of which has number i
+  pub alone-behind : (before : List X) (i : ℕ) (x : X) (xs : List X) → i + length before ≡ s
+      → (row act i (before ++ x ∷ xs) ≡ before ++ (act s x) .0 ∷ xs) × (said act i (before ++ x ∷ xs) ≡ tag s ((act s x) .1))
+  alone-behind [] i x xs h =
+      let r = passed (suc i) xs (omega arith) in
+      let n : i ≡ s = omega arith in (
+        ap₂ (λ (k : ℕ) (l : List X). (act k x) .0 ∷ l) n (r .0),
+        ap₂ (λ (k : ℕ) (l : List (Tagged E)). tag k ((act k x) .1) ++ l) n (r .1) ∙ append-nil (tag s ((act s x) .1)),
+      )
+  alone-behind (y ∷ before) i x xs h =
+      let r = alone-behind before (suc i) x xs (omega arith) in
+      let e = others i y (λ z. omega arith) in
+      (ap₂ _∷_ (ap (λ (p : X × List E). p .0) e) (r .0), ap₂ _++_ (ap (λ (p : X × List E). tag i (p .1)) e) (r .1))
+
+  -- by its number
+  pub row-alone : (xs : List X) (d : X) → s < length xs
+      → (row act 0 xs ≡ set xs s ((act s (getD xs s d)) .0)) × (said act 0 xs ≡ tag s ((act s (getD xs s d)) .1))
+  row-alone xs d h =
+      let x = getD xs s d in
+      let r = alone-behind (take s xs) 0 x (drop (suc s) xs) (omega (arith, length-take-le s xs (omega arith))) in (
+        ap (row act 0) (split-at xs s d h) ∙ r .0 ∙ sym (set-split xs s ((act s x) .0) h),
+        ap (said act 0) (split-at xs s d h) ∙ r .1,
+      )
 
 -- ==== a call, and then another, which come to a third
 

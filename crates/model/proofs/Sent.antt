@@ -3,7 +3,7 @@
 -- kind of a notice. Assumes nothing.
 use Prim.Native.Nat.{ℕ, suc, _-_, _%_, _≤_}
 use mathlib.Core.Path.{_≡_, refl, sym, subst}
-use mathlib.Core.Bool.{Bool, true, false, cond}
+use mathlib.Core.Bool.{Bool, true, false, cond, _&&_}
 use mathlib.Core.List.{List, [], _∷_, _++_, map}
 use mathlib.Core.Option.{Option, none, some}
 use native.Mathlib.Omega.{arith}
@@ -17,21 +17,23 @@ use Rattle.model.specs.Runs.{Run, empty-run, longer, Piece, Message, rea
 use Rattle.model.specs.Messages.{Effect, starts, stops, identifies, subscribes, unsubscribes, acknowledges, mirrors, Entry}
 use Rattle.model.specs.Messages.{entry-of, gets-reply, Error, code, tested, error-of}
 use Rattle.model.specs.Events.{Notice, kind-of}
+use Rattle.model.specs.Sharing.{Shared, notice-of}
 use Rattle.model.specs.Frames.{frame-0004}
-use Rattle.model.specs.Notices.{Room, the-newest, up-to, room-of, Queue, empty, busy, Subscription, unsubscribed, plain, acked}
+use Rattle.model.specs.Kinds.{Room, the-newest, up-to, room-of}
+use Rattle.model.specs.Notices.{Pending, empty, busy, Subscription, unsubscribed, plain, acked}
 use Rattle.model.specs.Notices.{has-room, Deed, nothing, beats, news, asks, drops, acks, next-one, waits, clock-at, act}
 use Rattle.model.specs.Row.{Tagged, tag, row, said}
 use Rattle.model.specs.Session.{Session, closed, opened, started, fresh, Copy, Emission, reply, copy, close}
 use Rattle.model.specs.Session.{copies-to, deal, dealt, only}
 use Rattle.model.specs.Hearing.{message-error, started-standing, opened-standing, error-reply, accepted, carry-out, judged, hear}
 use Rattle.model.specs.Hearing.{begin, hear-opened, identifier-told, identifier-judged, identifier-heard}
-use Rattle.model.specs.Steps.{end-run, end-run-opened, Local, opening, hang-up, receives, tick, event, elsewhere, tick-at}
-use Rattle.model.specs.Steps.{receive-opened, receive, step, identifier-run, announces}
+use Rattle.model.specs.Local.{end-run, end-run-opened, Local, opening, hang-up, receives, tick, event, elsewhere, tick-at}
+use Rattle.model.specs.Local.{receive-opened, receive, step, identifier-run, announces}
 use Rattle.model.specs.Wire.{Every, NoNUL, Framed, Answers, welcomes, refuses, accepts, mirrors as mirror, is-notice}
 use Rattle.model.proofs.Framed.{every-append, either, nul-append, nul-spaces, nul-text, Text, CleanSettings, CleanEvent}
 use Rattle.model.proofs.Framed.{framed-0002, framed-0004, framed-0005, framed-event, notice-event}
 use Rattle.model.proofs.Clean.{both, CleanRun, clean-longer, CleanMessage, CleanEnd, clean-end}
-use Rattle.model.proofs.Clean.{MirrorsOnly, Listed, entry-so, passed}
+use Rattle.model.proofs.Clean.{mirrors-only, Listed, entry-so, passed}
 
 -- ==== a subscription
 
@@ -151,7 +153,7 @@ CleanLocal opening = Unit {0}
 CleanLocal hang-up = Unit {0}
 CleanLocal (receives p) = NoNUL (p .bytes)
 CleanLocal tick = Unit {0}
-CleanLocal (event n) = CleanNotice n
+CleanLocal (event e) = CleanEvent e
 CleanLocal elsewhere = Unit {0}
 
 -- the message that a piece of bytes completes there
@@ -165,7 +167,7 @@ heard opening x = none
 heard hang-up x = none
 heard (receives p) x = completes x p
 heard tick x = none
-heard (event n) x = none
+heard (event e) x = none
 heard elsewhere x = none
 
 abbrev pub CleanTold : Option (List ℕ) → Type 0
@@ -190,7 +192,7 @@ module _ (st : Settings) (clean : CleanSettings st) where
       let e = n .event in
       ((framed-event st clean revision true e (h .0), notice-event st clean revision true e), copies-plain revision ns (h .1))
 
-  copies-acked : (revision : ℕ) (q : Queue) (ns : List Notice) → CleanNotices ns → Every CleanCopy (copies-to st (acked revision q) ns)
+  copies-acked : (revision : ℕ) (q : Pending) (ns : List Notice) → CleanNotices ns → Every CleanCopy (copies-to st (acked revision q) ns)
   copies-acked revision q [] h = tt
   copies-acked revision q (n ∷ ns) h =
       let e = n .event in
@@ -226,26 +228,32 @@ module _ (st : Settings) (clean : CleanSettings st) where
       → Still (dealt st idle run (only kind d) subs)
   only-dealt idle run kind d subs h k = dealt-clean (only kind d) (only-clean kind d h) idle run subs k
 
+-- a step, by what all share
+module _ (g : Shared) (clean : CleanSettings (g .settings)) where
   -- a message that is heard
   accepted-clean : (m : Message) (r : Session × List Emission) → Still r → Goes (some m) (accepted m r)
   accepted-clean m r h = (h .0, answers refl accepts (framed-0005 (m .mid)) (h .1))
 
   carry-out-clean : (subs : List Subscription) (m : Message) (f : Effect) → CleanMessage m → Every CleanSub subs → (least greatest : ℕ)
-      → MirrorsOnly f (m .mid) least greatest → within least greatest (m .size) ≡ true → Goes (some m) (carry-out st subs m f)
+      → mirrors-only f (m .mid) least greatest ≡ true → within least greatest (m .size) ≡ true → Goes (some m) (carry-out g subs m f)
   carry-out-clean subs m starts c h least greatest u v = ((tt, h), quiet tt)
   carry-out-clean subs m stops c h least greatest u v = accepted-clean m (fresh, []) (tt, tt)
   carry-out-clean subs m (identifies n) c h least greatest u v = accepted-clean m (started 0 empty-run subs, []) ((tt, h), tt)
   carry-out-clean subs m (subscribes kind n) c h least greatest u v =
       let d = asks (m .revision) (m .no-acknowledge) in
-      accepted-clean m (dealt st 0 empty-run (only kind d) subs) (only-dealt 0 empty-run kind d subs tt tt h)
+      accepted-clean m (dealt (g .settings) 0 empty-run (only kind d) subs) (only-dealt (g .settings) clean 0 empty-run kind d subs tt tt h)
   carry-out-clean subs m (unsubscribes kind n) c h least greatest u v =
-      accepted-clean m (dealt st 0 empty-run (only kind drops) subs) (only-dealt 0 empty-run kind drops subs tt tt h)
+      accepted-clean m (dealt (g .settings) 0 empty-run (only kind drops) subs) (only-dealt (g .settings) clean 0 empty-run kind drops subs tt tt h)
   carry-out-clean subs m (acknowledges kind) c h least greatest u v =
-      still (some m) (dealt st 0 empty-run (only kind acks) subs) (only-dealt 0 empty-run kind acks subs tt tt h)
+      still (some m) (dealt (g .settings) 0 empty-run (only kind acks) subs) (only-dealt (g .settings) clean 0 empty-run kind acks subs tt tt h)
   carry-out-clean subs m mirrors c h least greatest u v =
       let w = both (leb least (m .size)) (leb (m .size) greatest) v in
+      let a = both (eqb (m .mid) 9999 && eqb least header-length) (eqb greatest header-length) u in
+      let b = both (eqb (m .mid) 9999) (eqb least header-length) (a .0) in
+      let from = eqb-true least header-length (b .1) in
+      let to = eqb-true greatest header-length (a .1) in
       let size : m .size ≡ header-length = omega (arith, leb-true least (m .size) (w .0), leb-true (m .size) greatest (w .1)) in
-      ((tt, h), answers refl (mirror (u .0) size) (c .own size) tt)
+      ((tt, h), answers refl (mirror (eqb-true (m .mid) 9999 (b .0)) size) (c .own size) tt)
 
   error-clean : (m : Message) (o : Option Entry) (x : Error) → Says (some m) (error-reply m o x)
   error-clean m none x = answers refl (refuses (code x)) (framed-0004 (m .mid) (code x)) tt
@@ -253,46 +261,46 @@ module _ (st : Settings) (clean : CleanSettings st) where
       either (Says (some m)) (gets-reply (e .effect)) (reply (frame-0004 (m .mid) (code x)) ∷ []) []
       (answers refl (refuses (code x)) (framed-0004 (m .mid) (code x)) tt) (quiet tt)
 
-  hear-clean : (subs : List Subscription) (m : Message) → CleanMessage m → Every CleanSub subs → Goes (some m) (hear st subs m)
+  hear-clean : (subs : List Subscription) (m : Message) → CleanMessage m → Every CleanSub subs → Goes (some m) (hear g subs m)
   unfolding error-of
   hear-clean subs m c h = by-entry (entry-of (m .mid)) (entry-so (m .mid))
     where
-      by-error : (o : Option Entry) (x : Option Error) → tested (started-standing st subs) o (m .size) (m .revision) (m .data-field) ≡ x
-          → Listed (m .mid) o → Goes (some m) (judged st subs m o x)
+      by-error : (o : Option Entry) (x : Option Error) → tested (started-standing g subs) o (m .size) (m .revision) (m .data-field) ≡ x
+          → Listed (m .mid) o → Goes (some m) (judged g subs m o x)
       by-error o (some x) e u = ((tt, h), error-clean m o x)
       by-error none none e u = ((tt, h), quiet tt)
       by-error (some f) none e u =
           carry-out-clean subs m (f .effect) c h (f .least) (f .greatest) u
-          (passed (started-standing st subs) f (m .size) (m .revision) (m .data-field) e .0)
+          (passed (started-standing g subs) f (m .size) (m .revision) (m .data-field) e .0)
 
       by-entry : (o : Option Entry) → Listed (m .mid) o
-          → Goes (some m) (judged st subs m o (tested (started-standing st subs) o (m .size) (m .revision) (m .data-field)))
-      by-entry o u = by-error o (tested (started-standing st subs) o (m .size) (m .revision) (m .data-field)) refl u
+          → Goes (some m) (judged g subs m o (tested (started-standing g subs) o (m .size) (m .revision) (m .data-field)))
+      by-entry o u = by-error o (tested (started-standing g subs) o (m .size) (m .revision) (m .data-field)) refl u
 
-  hear-opened-clean : (idle : ℕ) (m : Message) → Goes (some m) (hear-opened st idle m)
-  hear-opened-clean idle m = go (eqb (m .mid) 0001) refl (message-error (opened-standing st) m)
+  hear-opened-clean : (idle : ℕ) (m : Message) → Goes (some m) (hear-opened g idle m)
+  hear-opened-clean idle m = go (eqb (m .mid) 0001) refl (message-error (opened-standing g) m)
     where
-      go : (b : Bool) → eqb (m .mid) 0001 ≡ b → (x : Option Error) → Goes (some m) (cond b (begin st idle m x) (opened idle empty-run, []))
-      go true e none = ((tt, (tt, (tt, tt))), answers refl (welcomes st (eqb-true (m .mid) 0001 e)) (framed-0002 st clean) tt)
+      go : (b : Bool) → eqb (m .mid) 0001 ≡ b → (x : Option Error) → Goes (some m) (cond b (begin g idle m x) (opened idle empty-run, []))
+      go true e none = ((tt, (tt, (tt, tt))), answers refl (welcomes (g .settings) (eqb-true (m .mid) 0001 e)) (framed-0002 (g .settings) clean) tt)
       go true e (some x) = (tt, answers refl (refuses (code x)) (framed-0004 (m .mid) (code x)) tt)
       go false e x = (tt, quiet tt)
 
   -- the end of a run, and bytes
   end-run-clean : (idle : ℕ) (subs : List Subscription) (o : Option Message) → CleanEnd o → Every CleanSub subs
-      → Goes o (end-run st idle subs o)
+      → Goes o (end-run g idle subs o)
   end-run-clean idle subs none c h = ((tt, h), quiet tt)
   end-run-clean idle subs (some m) c h = hear-clean subs m c h
 
-  end-run-opened-clean : (idle : ℕ) (o : Option Message) → Goes o (end-run-opened st idle o)
+  end-run-opened-clean : (idle : ℕ) (o : Option Message) → Goes o (end-run-opened g idle o)
   end-run-opened-clean idle none = (tt, quiet tt)
   end-run-opened-clean idle (some m) = hear-opened-clean idle m
 
   receive-clean : (idle : ℕ) (r : Run) (subs : List Subscription) (b : Bool) → CleanRun r → length (r .kept) ≤ run-kept
-      → Every CleanSub subs → Goes (cond b (read-run r) none) (receive st idle r subs b)
+      → Every CleanSub subs → Goes (cond b (read-run r) none) (receive g idle r subs b)
   receive-clean idle r subs false h n k = ((h, k), quiet tt)
   receive-clean idle r subs true h n k = end-run-clean idle subs (read-run r) (clean-end r h n) k
 
-  receive-opened-clean : (idle : ℕ) (r : Run) (b : Bool) → CleanRun r → Goes (cond b (read-run r) none) (receive-opened st idle r b)
+  receive-opened-clean : (idle : ℕ) (r : Run) (b : Bool) → CleanRun r → Goes (cond b (read-run r) none) (receive-opened g idle r b)
   receive-opened-clean idle r false h = (h, quiet tt)
   receive-opened-clean idle r true h = end-run-opened-clean idle (read-run r)
 
@@ -302,18 +310,18 @@ module _ (st : Settings) (clean : CleanSettings st) where
       either (Goes none) (eqb idle idle-limit) shut r (still none shut (tt, (tt, tt))) (still none r h)
 
   -- A STEP of a session
-  pub step-clean : (l : Local) (x : Session) → CleanLocal l → CleanSession x → Goes (heard l x) (step st l x)
+  pub step-clean : (l : Local) (x : Session) → CleanLocal l → CleanSession x → Goes (heard l x) (step g l x)
   step-clean opening closed c h = (tt, quiet tt)
   step-clean hang-up closed c h = (tt, quiet tt)
   step-clean (receives p) closed c h = (tt, quiet tt)
   step-clean tick closed c h = (tt, quiet tt)
-  step-clean (event n) closed c h = (tt, quiet tt)
+  step-clean (event e) closed c h = (tt, quiet tt)
   step-clean elsewhere closed c h = (tt, quiet tt)
   step-clean opening (opened i run) c h = (h, quiet tt)
   step-clean hang-up (opened i run) c h = (tt, quiet tt)
   step-clean (receives p) (opened i run) c h = receive-opened-clean i (longer run (p .bytes)) (p .ends) (clean-longer run (p .bytes) h c)
   step-clean tick (opened i run) c h = tick-at-clean (suc i) (opened (suc i) run, []) (h, tt)
-  step-clean (event n) (opened i run) c h = (h, quiet tt)
+  step-clean (event e) (opened i run) c h = (h, quiet tt)
   step-clean elsewhere (opened i run) c h = (h, quiet tt)
   step-clean opening (started i run subs) c h = (h, quiet tt)
   step-clean hang-up (started i run subs) c h = (tt, quiet tt)
@@ -321,11 +329,12 @@ module _ (st : Settings) (clean : CleanSettings st) where
       receive-clean i (longer run (p .bytes)) subs (p .ends) (clean-longer run (p .bytes) (h .0) c)
       (omega (arith, length-take run-kept (run .kept ++ p .bytes))) (h .1)
   step-clean tick (started i run subs) c h =
-      tick-at-clean (suc i) (dealt st (suc i) run (λ kind. beats) subs)
-      (dealt-clean (λ kind. beats) (λ kind. tt) (suc i) run subs (h .0) (h .1))
-  step-clean (event n) (started i run subs) c h =
-      let kind = kind-of (n .event) in
-      still none (dealt st i run (only kind (news n)) subs) (only-dealt i run kind (news n) subs c (h .0) (h .1))
+      tick-at-clean (suc i) (dealt (g .settings) (suc i) run (λ kind. beats) subs)
+      (dealt-clean (g .settings) clean (λ kind. beats) (λ kind. tt) (suc i) run subs (h .0) (h .1))
+  step-clean (event e) (started i run subs) c h =
+      let kind = kind-of e in
+      let n = notice-of g e in
+      still none (dealt (g .settings) i run (only kind (news n)) subs) (only-dealt (g .settings) clean i run kind (news n) subs c (h .0) (h .1))
   step-clean elsewhere (started i run subs) c h = (h, quiet tt)
 
   -- the identifier that bytes make known
@@ -344,22 +353,22 @@ module _ (st : Settings) (clean : CleanSettings st) where
   told-clean m (acknowledges kind) c h = tt
   told-clean m mirrors c h = tt
 
-  heard-clean : (subs : List Subscription) (m : Message) → CleanMessage m → CleanTold (identifier-heard st subs m)
+  heard-clean : (subs : List Subscription) (m : Message) → CleanMessage m → CleanTold (identifier-heard g subs m)
   unfolding error-of
   heard-clean subs m c = by-entry (entry-of (m .mid))
     where
-      by-error : (o : Option Entry) (e : Option Error) → tested (started-standing st subs) o (m .size) (m .revision) (m .data-field) ≡ e
+      by-error : (o : Option Entry) (e : Option Error) → tested (started-standing g subs) o (m .size) (m .revision) (m .data-field) ≡ e
           → CleanTold (identifier-judged m o e)
       by-error o (some e) q = tt
       by-error none none q = tt
       by-error (some f) none q =
-          told-clean m (f .effect) c (passed (started-standing st subs) f (m .size) (m .revision) (m .data-field) q .1)
+          told-clean m (f .effect) c (passed (started-standing g subs) f (m .size) (m .revision) (m .data-field) q .1)
 
       by-entry : (o : Option Entry)
-          → CleanTold (identifier-judged m o (tested (started-standing st subs) o (m .size) (m .revision) (m .data-field)))
-      by-entry o = by-error o (tested (started-standing st subs) o (m .size) (m .revision) (m .data-field)) refl
+          → CleanTold (identifier-judged m o (tested (started-standing g subs) o (m .size) (m .revision) (m .data-field)))
+      by-entry o = by-error o (tested (started-standing g subs) o (m .size) (m .revision) (m .data-field)) refl
 
-  pub announces-clean : (p : Piece) (x : Session) → NoNUL (p .bytes) → CleanSession x → CleanTold (announces st p x)
+  pub announces-clean : (p : Piece) (x : Session) → NoNUL (p .bytes) → CleanSession x → CleanTold (announces g p x)
   announces-clean p closed c h = tt
   announces-clean p (opened i run) c h = tt
   announces-clean p (started i run subs) c h =
@@ -367,7 +376,7 @@ module _ (st : Settings) (clean : CleanSettings st) where
       let kept = length-take run-kept (run .kept ++ p .bytes) in
       go (p .ends) (read-run more) (clean-end more (clean-longer run (p .bytes) (h .0) c) (omega arith))
     where
-      go : (b : Bool) (o : Option Message) → CleanEnd o → CleanTold (cond b (identifier-run st subs o) none)
+      go : (b : Bool) (o : Option Message) → CleanEnd o → CleanTold (cond b (identifier-run g subs o) none)
       go true none k = tt
       go true (some m) k = heard-clean subs m k
       go false o k = tt

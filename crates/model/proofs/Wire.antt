@@ -1,54 +1,53 @@
 -- What a call sends, whatever came before it: frames that a line server reads alike by their NUL and by their length, and at most one
 -- reply, the first of them, to the session whose bytes completed the message that it answers. Assumes nothing.
-use Prim.Native.Nat.{ℕ, zero, suc, _+_, _<_}
+use Prim.Native.Nat.{ℕ, zero, suc, _<_}
 use mathlib.Core.Path.{_≡_, refl, sym, _∙_, ap, subst}
-use mathlib.Core.Bool.{Bool, cond}
-use mathlib.Core.List.{List, [], _∷_, _++_, append-nil}
-use mathlib.Core.Option.{Option, none, some}
+use mathlib.Core.Bool.{true, cond}
+use mathlib.Core.List.{List, [], _∷_, _++_}
+use mathlib.Core.Option.{Option, none, some, Option·map as option-map}
 use native.Mathlib.Omega.{arith}
-use lib.Dec.{eqb}
-use lib.ListN.{getD, replicate}
-use borrow.Author.Tests.{eq-eqb, ne-eqb}
+use lib.Dec.{leb, eqb}
+use lib.ListN.{length, getD, replicate}
+use borrow.Author.Tests.{eq-eqb}
 use Rattle.model.specs.Limits.{session-count}
-use Rattle.model.specs.Bytes.{NUL, is-space, all}
+use Rattle.model.specs.Bytes.{is-space, all}
 use Rattle.model.specs.Records.{Settings, read-settings, Tool, scanned, tightening, read-tool}
 use Rattle.model.specs.Runs.{Piece, cut, Message}
 use Rattle.model.specs.Events.{Event, identified, tightened, identifier-of}
-use Rattle.model.specs.Row.{Tagged, tag, said}
-use Rattle.model.specs.Session.{Session, closed, opened, started, Emission, reply}
-use Rattle.model.specs.Steps.{opening, hang-up, receives, elsewhere, step as session-step, announces}
-use Rattle.model.specs.World.{World, session-at, Moment, begins, opens, hangs-up, hears, ticks, happens, local, each}
-use Rattle.model.specs.World.{sessions-after, begun, moved, in-force-after, next, emits, after, emitted}
-use Rattle.model.specs.Calls.{Call, start, open-session, hang-up-session, bytes, one-tick, tool, Lent, refusal}
-use Rattle.model.specs.Calls.{settled, told, reported, moments, answered, step}
-use Rattle.model.specs.Wire.{Every, NoNUL, Framed, Answers}
+use Rattle.model.specs.Sharing.{Shared, in-force-after, reported}
+use Rattle.model.specs.Row.{Tagged, tag}
+use Rattle.model.specs.Session.{Session, closed, Emission, reply}
+use Rattle.model.specs.Local.{Local, opening, hang-up, receives, tick, elsewhere, step as session-step, announces}
+use Rattle.model.specs.World.{World, session-at, Change, no-change, by-event, by-start, Moment, to, begins, opens, hangs-up, hears, ticks}
+use Rattle.model.specs.World.{begun, happens, each, sessions-after, changed, next, emits, after, emitted}
+use Rattle.model.specs.Calls.{Call, start, open-session, hang-up-session, bytes, one-tick, tool, Lent, refusal, does}
+use Rattle.model.specs.Calls.{at-most-one, happening, moments, answered, step}
+use Rattle.model.specs.Sights.{sight}
+use Rattle.model.specs.Wire.{Every, Framed, Answers}
 use Rattle.model.proofs.Framed.{every-append, either, Text, text-spaces, CleanSettings, CleanEvent}
 use Rattle.model.proofs.Clean.{CleanStart, clean-start, CleanTool, clean-tool, nul-cut, there}
 use Rattle.model.proofs.Sent.{Follows, Says, quiet, answers, row-every, said-every, CleanSession, CleanLocal, completes, heard}
 use Rattle.model.proofs.Sent.{CleanTold, step-clean, announces-clean}
+use Rattle.model.proofs.InTurn.{either-emits}
 
 -- ==== the world, and a moment
 
 pub record CleanWorld (w : World) : Type 0 where
-  pub settings : CleanSettings (w .settings)
-  pub in-force : Text (w .in-force)
+  pub settings : CleanSettings (w .shared .settings)
+  pub in-force : Text (w .shared .in-force)
   pub sessions : Every CleanSession (w .sessions)
 
-abbrev CleanMoment : Moment → Type 0
-CleanMoment (begins st) = CleanSettings st
-CleanMoment (opens s) = Unit {0}
-CleanMoment (hangs-up s) = Unit {0}
-CleanMoment (hears s p) = NoNUL (p .bytes)
-CleanMoment ticks = Unit {0}
-CleanMoment (happens e) = CleanEvent e
+abbrev CleanChange : Change → Type 0
+CleanChange no-change = Unit {0}
+CleanChange (by-event e) = CleanEvent e
+CleanChange (by-start st) = CleanSettings st
 
-local-clean : (events : ℕ) (m : Moment) (s : ℕ) → CleanMoment m → CleanLocal (local events m s)
-local-clean events (begins st) s c = tt
-local-clean events (opens t) s c = either CleanLocal (eqb s t) opening elsewhere tt tt
-local-clean events (hangs-up t) s c = either CleanLocal (eqb s t) hang-up elsewhere tt tt
-local-clean events (hears t p) s c = either CleanLocal (eqb s t) (receives p) elsewhere c tt
-local-clean events ticks s c = tt
-local-clean events (happens e) s c = c
+record CleanMoment (m : Moment) : Type 0 where
+  pub sees : (s : ℕ) → CleanLocal (m .sees s)
+  pub leaves : CleanChange (m .leaves)
+
+to-clean : (s : ℕ) (l : Local) → CleanLocal l → CleanMoment (to s l)
+to-clean s l c = record { sees = λ t. either CleanLocal (eqb t s) l elsewhere c tt; leaves = tt }
 
 -- closed sessions, as a start leaves them
 closed-clean : (n : ℕ) → Every CleanSession (replicate n closed)
@@ -62,36 +61,28 @@ in-force-clean : (x : List ℕ) (e : Event) → Text x → CleanEvent e → Text
 in-force-clean x (identified y) h c = c
 in-force-clean x (tightened r) h c = h
 
-module _ (w : World) (h : CleanWorld w) where
-  sessions-clean : (m : Moment) → CleanMoment m → Every CleanSession (sessions-after w m)
-  sessions-clean m c =
-      row-every (each w m) CleanSession
-      (λ s x k. step-clean (w .settings) (h .settings) (local (w .events) m s) x (local-clean (w .events) m s c) k .0)
+changed-clean : (g : Shared) (c : Change) → CleanSettings (g .settings) → Text (g .in-force) → CleanChange c
+    → CleanSettings ((changed g c) .settings) × Text ((changed g c) .in-force)
+changed-clean g no-change h k c = (h, k)
+changed-clean g (by-event e) h k c = (h, in-force-clean (g .in-force) e k c)
+changed-clean g (by-start st) h k c = (c, text-spaces)
+
+module _ (w : World) (h : CleanWorld w) (m : Moment) (c : CleanMoment m) where
+  sessions-clean : Every CleanSession (sessions-after w m)
+  sessions-clean =
+      row-every (each w m) CleanSession (λ s x k. step-clean (w .shared) (h .settings) (m .sees s) x (c .sees s) k .0)
       0 (w .sessions) (h .sessions)
 
-  moved-clean : (m : Moment) → CleanMoment m → CleanWorld (moved w m)
-  moved-clean m c = record { settings = h .settings; in-force = h .in-force; sessions = sessions-clean m c }
-
-  next-clean : (m : Moment) → CleanMoment m → CleanWorld (next w m)
-  next-clean (begins st) c = begun-clean st (w .events) c
-  next-clean (opens s) c = moved-clean (opens s) c
-  next-clean (hangs-up s) c = moved-clean (hangs-up s) c
-  next-clean (hears s p) c = moved-clean (hears s p) c
-  next-clean ticks c = moved-clean ticks c
-  next-clean (happens e) c =
-      record { settings = h .settings; in-force = in-force-clean (w .in-force) e (h .in-force) c; sessions = sessions-clean (happens e) c }
+  next-clean : CleanWorld (next w m)
+  next-clean =
+      let g = changed-clean (w .shared) (m .leaves) (h .settings) (h .in-force) (c .leaves) in
+      record { settings = g .0; in-force = g .1; sessions = sessions-clean }
 
 -- ==== what goes out, by session
 
 -- copies of notices and orders to close
 abbrev pub Silent : List (Tagged Emission) → Type 0
 Silent es = Every (λ t. Follows (t .what)) es
-
--- after a reply to session s, which has sent that message, if any
-pub data Speaks (s : ℕ) (o : Option Message) : List (Tagged Emission) → Type 0 where
-  none-replies : {es : List (Tagged Emission)} → Silent es → Speaks s o es
-  replies : {m : Message} {frame : List ℕ} {es : List (Tagged Emission)}
-      → o ≡ some m → Answers m frame → Framed frame → Silent es → Speaks s o (record { who = s; what = reply frame } ∷ es)
 
 silent-tag : (s : ℕ) (es : List Emission) → Every Follows es → Silent (tag s es)
 silent-tag s [] h = tt
@@ -100,68 +91,22 @@ silent-tag s (e ∷ es) h = (h .0, silent-tag s es (h .1))
 silent-append : (xs ys : List (Tagged Emission)) → Silent xs → Silent ys → Silent (xs ++ ys)
 silent-append xs ys h k = every-append (λ t. Follows (t .what)) xs ys h k
 
-speaks-tag : (s : ℕ) {o : Option Message} {es : List Emission} → Says o es → Speaks s o (tag s es)
-speaks-tag s (quiet {es = es} h) = none-replies (silent-tag s es h)
-speaks-tag s (answers {es = es} e a f h) = replies e a f (silent-tag s es h)
-
-speaks-append : (s : ℕ) {o : Option Message} {xs : List (Tagged Emission)} (ys : List (Tagged Emission)) → Speaks s o xs → Silent ys
-    → Speaks s o (xs ++ ys)
-speaks-append s ys (none-replies {es = es} h) k = none-replies (silent-append es ys h k)
-speaks-append s ys (replies {es = es} e a f h) k = replies e a f (silent-append es ys h k)
-
 -- to whom no message is heard, no reply goes
 unheard : {o : Option Message} {es : List Emission} → o ≡ none → Says o es → Every Follows es
 unheard n (quiet h) = h
 unheard n (answers e a f h) = absurd (there (sym e ∙ n))
 
--- bytes are heard by one session
-elsewhere-silent : (st : Settings) (x : Session) → (session-step st elsewhere x) .1 ≡ []
-elsewhere-silent st closed = refl
-elsewhere-silent st (opened i run) = refl
-elsewhere-silent st (started i run subs) = refl
-
-module _ (st : Settings) (clean : CleanSettings st) (n : ℕ) (p : Piece) (c : NoNUL (p .bytes)) where
-  abbrev hearing : ℕ → Session → Session × List Emission
-  hearing s = session-step st (cond (eqb s n) (receives p) elsewhere)
-
-  other-silent : (s : ℕ) (x : Session) → (s ≡ n → ⊥) → (hearing s x) .1 ≡ []
-  other-silent s x h = ap (λ (b : Bool). (session-step st (cond b (receives p) elsewhere) x) .1) (ne-eqb s n h) ∙ elsewhere-silent st x
-
-  later-silent : (i : ℕ) (xs : List Session) → n < i → said hearing i xs ≡ []
-  later-silent i [] h = refl
-  later-silent i (x ∷ xs) h = rw (other-silent i x (λ e. omega arith)) (later-silent (suc i) xs (omega arith))
-
-  hears-speaks : (xs : List Session) (i j : ℕ) → i + j ≡ n → Every CleanSession xs
-      → Speaks n (completes (getD xs j closed) p) (said hearing i xs)
-  hears-speaks [] i j e h = none-replies tt
-  hears-speaks (x ∷ xs) i zero e h =
-      let k : i ≡ n = omega arith in
-      rw (later-silent (suc i) xs (omega arith), append-nil (tag i ((hearing i x) .1)), eq-eqb i n k, k)
-      (speaks-tag n (step-clean st clean (receives p) x c (h .0) .1))
-  hears-speaks (x ∷ xs) i (suc j) e h = rw (other-silent i x (λ k. omega arith)) (hears-speaks xs (suc i) j (omega arith) (h .1))
-
--- any other moment is heard by none
+-- a moment of which no session hears a message
 abbrev Unheard : Moment → Type 0
-Unheard (begins st) = Unit {0}
-Unheard (opens s) = Unit {0}
-Unheard (hangs-up s) = Unit {0}
-Unheard (hears s p) = ⊥
-Unheard ticks = Unit {0}
-Unheard (happens e) = Unit {0}
+Unheard m = (s : ℕ) (x : Session) → heard (m .sees s) x ≡ none
 
-none-heard : (events : ℕ) (m : Moment) (s : ℕ) (x : Session) → Unheard m → heard (local events m s) x ≡ none
-none-heard events (begins st) s x u = refl
-none-heard events (opens t) s x u = either (λ l. heard l x ≡ none) (eqb s t) opening elsewhere refl refl
-none-heard events (hangs-up t) s x u = either (λ l. heard l x ≡ none) (eqb s t) hang-up elsewhere refl refl
-none-heard events (hears t p) s x u = absurd u
-none-heard events ticks s x u = refl
-none-heard events (happens e) s x u = refl
+to-unheard : (s : ℕ) (l : Local) → ((x : Session) → heard l x ≡ none) → Unheard (to s l)
+to-unheard s l h t x = either (λ i. heard i x ≡ none) (eqb t s) l elsewhere (h x) refl
 
 emits-silent : (w : World) → CleanWorld w → (m : Moment) → CleanMoment m → Unheard m → Silent (emits w m)
 emits-silent w h m c u =
     said-every (each w m) CleanSession Follows
-    (λ s x k. unheard (none-heard (w .events) m s x u)
-    (step-clean (w .settings) (h .settings) (local (w .events) m s) x (local-clean (w .events) m s c) k .1)) 0 (w .sessions) (h .sessions)
+    (λ s x k. unheard (u s x) (step-clean (w .shared) (h .settings) (m .sees s) x (c .sees s) k .1)) 0 (w .sessions) (h .sessions)
 
 -- ==== moments one after another
 
@@ -177,94 +122,108 @@ emitted-silent w (m ∷ ms) h c u =
 
 -- ==== the moments of a call: settings, tool records and identifiers over the net are tested before they come in
 
-settled-clean : (o : Option Settings) → CleanStart o → Every CleanMoment (settled o)
-settled-clean none h = tt
-settled-clean (some st) h = (h, tt)
+abbrev CleanNews : Option Event → Type 0
+CleanNews none = Unit {0}
+CleanNews (some e) = CleanEvent e
 
-told-clean : (o : Option (List ℕ)) → CleanTold o → Every CleanMoment (told o)
+happening-clean : (o : Option Event) → CleanNews o → Every CleanMoment (happening o)
+happening-clean none h = tt
+happening-clean (some e) h = (record { sees = λ s. h; leaves = h }, tt)
+
+happening-unheard : (o : Option Event) → Every Unheard (happening o)
+happening-unheard none = tt
+happening-unheard (some e) = (λ s x. refl, tt)
+
+told-clean : (o : Option (List ℕ)) → CleanTold o → CleanNews (option-map identified o)
 told-clean none h = tt
-told-clean (some x) h = (h, tt)
+told-clean (some x) h = h
 
 identifier-clean : (x y : List ℕ) → Text x → Text y → Text (identifier-of x y)
 identifier-clean x y h k = either Text (all is-space x) y x k h
 
-reported-clean : (w : World) (o : Option Tool) → CleanWorld w → CleanTool o → Every CleanMoment (reported w o)
+reported-clean : (w : World) (o : Option Tool) → CleanWorld w → CleanTool o → CleanNews (option-map (reported (w .shared)) o)
 reported-clean w none h c = tt
-reported-clean w (some (scanned x)) h c = (c, tt)
-reported-clean w (some (tightening x t)) h c = ((identifier-clean x (w .in-force) (c .0) (h .in-force), c .1, c .2), tt)
+reported-clean w (some (scanned x)) h c = c
+reported-clean w (some (tightening x t)) h c = (identifier-clean x (w .shared .in-force) (c .0) (h .in-force), c .1, c .2)
 
 session-clean : (xs : List Session) (s : ℕ) → Every CleanSession xs → CleanSession (getD xs s closed)
 session-clean [] s h = tt
 session-clean (x ∷ xs) zero h = h .0
 session-clean (x ∷ xs) (suc s) h = session-clean xs s (h .1)
 
-moments-clean : (w : World) (c : Call) → CleanWorld w → Every CleanMoment (moments w c)
-moments-clean w (start slice) h = settled-clean (read-settings slice) (clean-start slice)
-moments-clean w (open-session s) h = (tt, tt)
-moments-clean w (hang-up-session s) h = (tt, tt)
-moments-clean w (bytes s bs) h = (
-  nul-cut bs,
-  told-clean (announces (w .settings) (cut bs) (session-at w s))
-      (announces-clean (w .settings) (h .settings) (cut bs) (session-at w s) (nul-cut bs) (session-clean (w .sessions) s (h .sessions))),
-)
-moments-clean w one-tick h = (tt, tt)
-moments-clean w (tool slice) h = reported-clean w (read-tool slice) h (clean-tool slice)
-
-settled-unheard : (o : Option Settings) → Every Unheard (settled o)
-settled-unheard none = tt
-settled-unheard (some st) = (tt, tt)
-
-told-unheard : (o : Option (List ℕ)) → Every Unheard (told o)
-told-unheard none = tt
-told-unheard (some x) = (tt, tt)
-
-reported-unheard : (w : World) (o : Option Tool) → Every Unheard (reported w o)
-reported-unheard w none = tt
-reported-unheard w (some (scanned x)) = (tt, tt)
-reported-unheard w (some (tightening x t)) = (tt, tt)
-
 -- ==== a call
 
--- only received bytes get a reply, in the call that completes their message
-abbrev pub Sends : World → Call → List (Tagged Emission) → Type 0
-Sends w (start slice) es = Silent es
-Sends w (open-session s) es = Silent es
-Sends w (hang-up-session s) es = Silent es
-Sends w (bytes s bs) es = Speaks s (completes (session-at w s) (cut bs)) es
-Sends w one-tick es = Silent es
-Sends w (tool slice) es = Silent es
+-- the message that a call completes of session s
+abbrev pub completes-given : Session → Option Piece → Option Message
+completes-given x none = none
+completes-given x (some p) = completes x p
 
-sends-nothing : (w : World) (c : Call) → Sends w c []
-sends-nothing w (start slice) = tt
-sends-nothing w (open-session s) = tt
-sends-nothing w (hang-up-session s) = tt
-sends-nothing w (bytes s bs) = none-replies tt
-sends-nothing w one-tick = tt
-sends-nothing w (tool slice) = tt
+abbrev pub completed : World → Call → ℕ → Option Message
+completed w c s = completes-given (session-at w s) ((sight s c) .given)
 
-done-sends : (w : World) (c : Call) → CleanWorld w → Sends w c (emitted w (moments w c))
-done-sends w (start slice) h =
-    emitted-silent w (moments w (start slice)) h (moments-clean w (start slice) h) (settled-unheard (read-settings slice))
-done-sends w (open-session s) h = emitted-silent w (moments w (open-session s)) h (tt, tt) (tt, tt)
-done-sends w (hang-up-session s) h = emitted-silent w (moments w (hang-up-session s)) h (tt, tt) (tt, tt)
-done-sends w (bytes s bs) h =
-    let m = hears s (cut bs) in
-    let o = announces (w .settings) (cut bs) (session-at w s) in
-    speaks-append s (emitted (next w m) (told o))
-    (hears-speaks (w .settings) (h .settings) s (cut bs) (nul-cut bs) (w .sessions) 0 s (omega arith) (h .sessions))
-    (emitted-silent (next w m) (told o) (next-clean w h m (nul-cut bs)) (moments-clean w (bytes s bs) h .1) (told-unheard o))
-done-sends w one-tick h = emitted-silent w (moments w one-tick) h (tt, tt) (tt, tt)
-done-sends w (tool slice) h =
-    emitted-silent w (moments w (tool slice)) h (moments-clean w (tool slice) h) (reported-unheard w (read-tool slice))
+-- copies of notices and orders to close, and before them a reply, if there is one, to the session of which the call completes a message
+pub data Sends (w : World) (c : Call) : List (Tagged Emission) → Type 0 where
+  none-replies : {es : List (Tagged Emission)} → Silent es → Sends w c es
+  replies : {s : ℕ} {m : Message} {frame : List ℕ} {es : List (Tagged Emission)} → completed w c s ≡ some m → Answers m frame
+      → Framed frame → Silent es → Sends w c (record { who = s; what = reply frame } ∷ es)
 
-answered-sends : (w : World) (c : Call) (n : ℕ) → CleanWorld w → CleanWorld ((answered w c n) .0) × Sends w c ((answered w c n) .2)
-answered-sends w c zero h = (after-clean w (moments w c) h (moments-clean w c h), done-sends w c h)
-answered-sends w c (suc n) h = (h, sends-nothing w c)
+-- what goes out to one session, and after it what is silent
+sends-to : {w : World} {c : Call} (s : ℕ) {o : Option Message} {es : List Emission} (more : List (Tagged Emission)) → Says o es
+    → completed w c s ≡ o → Silent more → Sends w c (tag s es ++ more)
+sends-to s more (quiet {es = es} h) e k = none-replies (silent-append (tag s es) more (silent-tag s es h) k)
+sends-to s more (answers {es = es} f a b h) e k = replies (e ∙ f) a b (silent-append (tag s es) more (silent-tag s es h) k)
+
+module _ (w : World) (h : CleanWorld w) where
+  silently : (c : Call) (ms : List Moment) → Every CleanMoment ms → Every Unheard ms
+      → Every CleanMoment ms × Sends w c (emitted w ms)
+  silently c ms k u = (k, none-replies (emitted-silent w ms h k u))
+
+  hears-sends : (s : ℕ) (bs : List ℕ) (o : Option Event) → CleanNews o
+      → let m = hears s (cut bs) in Every CleanMoment (m ∷ happening o) × Sends w (bytes s bs) (emitted w (m ∷ happening o))
+  hears-sends s bs o k =
+      let c = bytes s bs in
+      let m = hears s (cut bs) in
+      let clean = to-clean s (receives (cut bs)) (nul-cut bs) in
+      let more = emitted (next w m) (happening o) in
+      let silent = emitted-silent (next w m) (happening o) (next-clean w h m clean) (happening-clean o k) (happening-unheard o) in
+      let x = session-at w s in
+      let said = step-clean (w .shared) (h .settings) (receives (cut bs)) x (nul-cut bs) (session-clean (w .sessions) s (h .sessions)) .1 in (
+        (clean, happening-clean o k),
+        either-emits w s (receives (cut bs)) (λ es. Sends w c (es ++ more)) (none-replies silent)
+            (sends-to s more said (rw (eq-eqb s s refl)) silent),
+      )
+
+  -- whatever the call: its moments are clean, and so is what they send
+  done-sends : (c : Call) → Every CleanMoment (moments w c) × Sends w c (emitted w (moments w c))
+  done-sends (start slice) = go (read-settings slice) (clean-start slice)
+    where
+      go : (o : Option Settings) → CleanStart o
+          → let ms = at-most-one (option-map begins o) ++ [] in Every CleanMoment ms × Sends w (start slice) (emitted w ms)
+      go none k = silently (start slice) [] tt tt
+      go (some st) k = silently (start slice) (begins st ∷ []) (record { sees = λ s. tt; leaves = k }, tt) (λ s x. refl, tt)
+  done-sends (open-session s) =
+      silently (open-session s) (opens s ∷ []) (to-clean s opening tt, tt) (to-unheard s opening (λ x. refl), tt)
+  done-sends (hang-up-session s) =
+      silently (hang-up-session s) (hangs-up s ∷ []) (to-clean s hang-up tt, tt) (to-unheard s hang-up (λ x. refl), tt)
+  done-sends (bytes s bs) =
+      let x = session-at w s in
+      hears-sends s bs (option-map identified (announces (w .shared) (cut bs) x))
+      (told-clean (announces (w .shared) (cut bs) x)
+      (announces-clean (w .shared) (h .settings) (cut bs) x (nul-cut bs) (session-clean (w .sessions) s (h .sessions))))
+  done-sends one-tick = silently one-tick (ticks ∷ []) (record { sees = λ s. tt; leaves = tt }, tt) (λ s x. refl, tt)
+  done-sends (tool slice) =
+      let o = option-map (reported (w .shared)) (read-tool slice) in
+      silently (tool slice) (happening o) (happening-clean o (reported-clean w (read-tool slice) h (clean-tool slice)))
+      (happening-unheard o)
+
+  answered-sends : (c : Call) (n : ℕ) → CleanWorld ((answered w c n) .0) × Sends w c ((answered w c n) .2)
+  answered-sends c zero = let d = done-sends c in (after-clean w (moments w c) h (d .0), d .1)
+  answered-sends c (suc n) = (h, none-replies tt)
 
 -- A CALL leaves a clean world, and sends frames only that are read alike by NUL and by length, a reply first
 pub step-sends : (l : Lent) (w : World) (c : Call) → CleanWorld w → CleanWorld ((step l w c) .0) × Sends w c ((step l w c) .2)
 unfolding step
-step-sends l w c h = answered-sends w c (refusal l w c) h
+step-sends l w c h = answered-sends w h c (refusal l w c)
 
 -- what a start takes is clean
 pub settings-clean : {st : Settings} (slice : List ℕ) → read-settings slice ≡ some st → CleanSettings st

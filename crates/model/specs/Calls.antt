@@ -1,9 +1,9 @@
 -- The calls: their refusals, what they do, their answers and their output. 01, "What the product holds".
 -- Assumes nothing: these are definitions.
-use Prim.Native.Nat.{ℕ, zero, suc, _+_, _^_}
-use mathlib.Core.Bool.{Bool, true, false, not, cond}
+use Prim.Native.Nat.{ℕ, zero, suc, _+_, _/_, _%_, _^_}
+use mathlib.Core.Bool.{Bool, true, false, not, cond, _&&_}
 use mathlib.Core.List.{List, [], _∷_, _++_}
-use mathlib.Core.Option.{Option, none, some}
+use mathlib.Core.Option.{Option, none, some, Option·map as option-map}
 use lib.Dec.{leb, ltb, eqb}
 use lib.ListN.{length}
 use Rattle.model.specs.Limits.{session-count, table-least, output-least, number-greatest, answer-least}
@@ -11,10 +11,11 @@ use Rattle.model.specs.Bytes.{in-bytes}
 use Rattle.model.specs.Tests.{Test, _gives_, first}
 use Rattle.model.specs.Records.{Settings, read-settings, Tool, scanned, tightening, read-tool}
 use Rattle.model.specs.Runs.{cut, consumed-by}
-use Rattle.model.specs.Events.{identifiers, tightenings, identified, tightened, identifier-of}
+use Rattle.model.specs.Events.{Event, identified, kind-of}
+use Rattle.model.specs.Sharing.{reported}
 use Rattle.model.specs.Frames.{frame-record, close-record}
 use Rattle.model.specs.Session.{Session, is-closed, Emission, reply, copy, close}
-use Rattle.model.specs.Steps.{takes, announces}
+use Rattle.model.specs.Local.{takes, announces}
 use Rattle.model.specs.World.{World, session-at, Moment, begins, opens, hangs-up, hears, ticks, happens, after, emitted}
 use Rattle.model.specs.Row.{Tagged}
 
@@ -35,14 +36,30 @@ pub record Lent : Type 0 where
   pub well-formed : Bool
   pub output : ℕ
 
--- ==== refusals: the tests stand in the order of their numbers, so that the first which applies is the lowest; 0 where none does
+-- ==== what the refusals look at
 
-abbrev pub lent-tests : Lent → List (Test ℕ)
-lent-tests l =
+-- what a call asks of what is lent besides a table that is long enough: that it is well formed, and an output; and its own tests
+pub record Asks : Type 0 where
+  pub table : Bool
+  pub output : Bool
+  pub own : List (Test ℕ)
+
+abbrev pub asks-neither : List (Test ℕ) → Asks
+asks-neither own = record { table = false; output = false; own = own }
+
+abbrev pub asks-both : List (Test ℕ) → Asks
+asks-both own = record { table = true; output = true; own = own }
+
+-- they stand in the order of their numbers, so that the first which applies is the lowest
+abbrev pub tests : Lent → Asks → List (Test ℕ)
+tests l a =
     ltb (l .table) table-least gives 1
-    ∷ not (l .well-formed) gives 2
-    ∷ ltb (l .output) output-least gives 3
-    ∷ []
+    ∷ (a .table && not (l .well-formed)) gives 2
+    ∷ (a .output && ltb (l .output) output-least) gives 3
+    ∷ a .own
+
+abbrev pub session-test : ℕ → Test ℕ
+session-test s = leb session-count s gives 4
 
 abbrev pub is-none {ℓ} : {A : Type ℓ} → Option A → Bool
 is-none none = true
@@ -53,45 +70,75 @@ is-tightening none = false
 is-tightening (some (scanned x)) = false
 is-tightening (some (tightening x t)) = true
 
--- (a start asks neither whether the table is well formed nor for an output)
-unfoldable pub refusal : Lent → World → Call → ℕ
-refusal l w (start slice) = first 0 (ltb (l .table) table-least gives 1 ∷ is-none (read-settings slice) gives 9 ∷ [])
-refusal l w (open-session s) =
-    first 0 (lent-tests l ++ leb session-count s gives 4 ∷ not (is-closed (session-at w s)) gives 6 ∷ [])
-refusal l w (hang-up-session s) =
-    first 0 (lent-tests l ++ leb session-count s gives 4 ∷ is-closed (session-at w s) gives 5 ∷ [])
-refusal l w (bytes s bs) =
-    first 0 (lent-tests l ++ leb session-count s gives 4 ∷ is-closed (session-at w s) gives 5 ∷ [])
-refusal l w one-tick = first 0 (lent-tests l)
-refusal l w (tool slice) =
+-- ==== who takes an event
+
+-- 2^s for each session that takes an event of that kind, added up; s is the number of the first in the list
+abbrev pub takers : ℕ → ℕ → List Session → ℕ
+takers kind s [] = 0
+takers kind s (x ∷ xs) = cond (takes kind x) (2 ^ s) 0 + takers kind (suc s) xs
+
+abbrev pub taken-by : List Session → Option Event → ℕ
+taken-by xs none = 0
+taken-by xs (some e) = takers (kind-of e) 0 xs
+
+-- 2^s is in the sum
+abbrev pub in-sum : ℕ → ℕ → Bool
+in-sum s taken = eqb (taken / 2 ^ s % 2) 1
+
+-- ==== the table of calls
+
+-- what it asks; and, where no test applies, its moment, the event that it is, if it is one, which comes behind; the bytes that it
+-- consumes, and who takes the event
+pub record Conduct : Type 0 where
+  pub asks : Asks
+  pub moment : Option Moment
+  pub event : Option Event
+  pub consumed : ℕ
+  pub taken : ℕ
+
+-- a call that is no event; and only received bytes are consumed
+abbrev pub simply : Asks → Option Moment → Conduct
+simply asks m = record { asks = asks; moment = m; event = none; consumed = 0; taken = 0 }
+
+-- (an identifier that was accepted over the net is an event, and comes after the reply; only a tool record reports who took it)
+abbrev pub does : World → Call → Conduct
+does w (start slice) = simply (asks-neither (is-none (read-settings slice) gives 9 ∷ [])) (option-map begins (read-settings slice))
+does w (open-session s) = simply (asks-both (session-test s ∷ not (is-closed (session-at w s)) gives 6 ∷ [])) (some (opens s))
+does w (hang-up-session s) = simply (asks-both (session-test s ∷ is-closed (session-at w s) gives 5 ∷ [])) (some (hangs-up s))
+does w (bytes s bs) = record {
+  asks = asks-both (session-test s ∷ is-closed (session-at w s) gives 5 ∷ []);
+  moment = some (hears s (cut bs));
+  event = option-map identified (announces (w .shared) (cut bs) (session-at w s));
+  consumed = consumed-by (cut bs);
+  taken = 0;
+}
+does w one-tick = simply (asks-both []) (some ticks)
+does w (tool slice) =
     let t = read-tool slice in
-    first 0 (lent-tests l ++ is-none t gives 7 ∷ cond (is-tightening t) (eqb (w .last) number-greatest) false gives 8 ∷ [])
+    let e = option-map (reported (w .shared)) t in
+    record {
+      asks = asks-both (is-none t gives 7 ∷ cond (is-tightening t) (eqb (w .shared .last) number-greatest) false gives 8 ∷ []);
+      moment = none;
+      event = e;
+      consumed = 0;
+      taken = taken-by (w .sessions) e;
+    }
 
--- ==== the moments of a call that is done
+-- the number of the first test that applies; 0 where none does
+unfoldable pub refusal : Lent → World → Call → ℕ
+refusal l w c = first 0 (tests l ((does w c) .asks))
 
-abbrev pub settled : Option Settings → List Moment
-settled none = []
-settled (some st) = begins st ∷ []
+-- a moment, if there is one, and then the event
+abbrev pub at-most-one : Option Moment → List Moment
+at-most-one none = []
+at-most-one (some m) = m ∷ []
 
--- an identifier that was accepted over the net is an event, and comes after the reply
-abbrev pub told : Option (List ℕ) → List Moment
-told none = []
-told (some x) = happens (identified x) ∷ []
-
--- a tool record is an event; a tightening gets its number and the identifier that is meant now
-abbrev pub reported : World → Option Tool → List Moment
-reported w none = []
-reported w (some (scanned x)) = happens (identified x) ∷ []
-reported w (some (tightening x t)) =
-    happens (tightened (record { number = w .last + 1; identifier = identifier-of x (w .in-force); tightening = t })) ∷ []
+abbrev pub happening : Option Event → List Moment
+happening none = []
+happening (some e) = happens e ∷ []
 
 abbrev pub moments : World → Call → List Moment
-moments w (start slice) = settled (read-settings slice)
-moments w (open-session s) = opens s ∷ []
-moments w (hang-up-session s) = hangs-up s ∷ []
-moments w (bytes s bs) = hears s (cut bs) ∷ told (announces (w .settings) (cut bs) (session-at w s))
-moments w one-tick = ticks ∷ []
-moments w (tool slice) = reported w (read-tool slice)
+moments w c = at-most-one ((does w c) .moment) ++ happening ((does w c) .event)
 
 -- ==== the output: a record for each emission
 
@@ -115,34 +162,6 @@ pub record Answer : Type 0 where
   pub written : ℕ
   pub taken : ℕ
 
--- only received bytes are consumed
-abbrev pub consumed-of : Call → ℕ
-consumed-of (start slice) = 0
-consumed-of (open-session s) = 0
-consumed-of (hang-up-session s) = 0
-consumed-of (bytes s bs) = consumed-by (cut bs)
-consumed-of one-tick = 0
-consumed-of (tool slice) = 0
-
--- 2^s for each session that takes an event of that kind, added up; s is the number of the first in the list
-abbrev pub takers : ℕ → ℕ → List Session → ℕ
-takers kind s [] = 0
-takers kind s (x ∷ xs) = cond (takes kind x) (2 ^ s) 0 + takers kind (suc s) xs
-
-abbrev pub taken-by : World → Option Tool → ℕ
-taken-by w none = 0
-taken-by w (some (scanned x)) = takers identifiers 0 (w .sessions)
-taken-by w (some (tightening x t)) = takers tightenings 0 (w .sessions)
-
--- only a tool record reports who took it
-abbrev pub taken-of : World → Call → ℕ
-taken-of w (start slice) = 0
-taken-of w (open-session s) = 0
-taken-of w (hang-up-session s) = 0
-taken-of w (bytes s bs) = 0
-taken-of w one-tick = 0
-taken-of w (tool slice) = taken-by w (read-tool slice)
-
 -- ==== the step, and a run of calls
 
 -- by the refusal's number: a refused call does nothing and reports nothing done
@@ -150,7 +169,7 @@ abbrev pub answered : World → Call → ℕ → World × Answer × List (Tagged
 answered w c zero =
     let es = emitted w (moments w c) in (
       after w (moments w c),
-      record { number = 0; consumed = consumed-of c; written = length (output es); taken = taken-of w c },
+      record { number = 0; consumed = (does w c) .consumed; written = length (output es); taken = (does w c) .taken },
       es,
     )
 answered w c (suc n) = (w, record { number = suc n; consumed = 0; written = 0; taken = 0 }, [])

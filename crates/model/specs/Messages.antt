@@ -1,12 +1,12 @@
 -- 01, "What a message does": the table of messages, and the tests that a message meets. Assumes nothing: these are definitions.
-use Prim.Native.Nat.{ℕ}
+use Prim.Native.Nat.{ℕ, suc}
 use mathlib.Core.Bool.{Bool, true, false, not, cond, _&&_}
-use mathlib.Core.List.{List, [], _∷_}
+use mathlib.Core.List.{List, [], _∷_, _++_}
 use mathlib.Core.Option.{Option, none, some}
 use lib.Dec.{eqb}
 use Rattle.model.specs.Bytes.{within, is-text, all}
 use Rattle.model.specs.Tests.{Test, _gives_, first}
-use Rattle.model.specs.Events.{identifiers, tightenings}
+use Rattle.model.specs.Kinds.{Kind, kinds}
 
 -- ==== the table: each message's lengths, its revisions, its effect and its own error
 
@@ -35,18 +35,23 @@ abbrev pub entry : ℕ → ℕ → ℕ → Revisions → Effect → Entry
 entry mid least greatest rs effect =
     record { mid = mid; least = least; greatest = greatest; revision = rs; effect = effect }
 
+-- the messages of kinds of notice, the first of them having that place
+abbrev pub kind-rows : ℕ → List Kind → List Entry
+kind-rows place [] = []
+kind-rows place (k ∷ ks) =
+    entry (k .subscribe) 20 20 (revisions 1 (k .newest)) (subscribes place (k .already))
+    ∷ entry (k .acknowledge) 20 20 not-read (acknowledges place)
+    ∷ entry (k .unsubscribe) 20 20 not-read (unsubscribes place (k .not-subscribed))
+    ∷ kind-rows (suc place) ks
+
+-- (row by row: proofs/Bounds, the-table)
 abbrev pub table : List Entry
 table =
     entry 0001 20 20 (revisions 1 1) starts
     ∷ entry 0003 20 20 not-read stops
     ∷ entry 0050 21 45 (revisions 1 1) (identifies 08)
-    ∷ entry 0051 20 20 (revisions 1 2) (subscribes identifiers 06)
-    ∷ entry 0053 20 20 not-read (acknowledges identifiers)
-    ∷ entry 0054 20 20 not-read (unsubscribes identifiers 07)
-    ∷ entry 0060 20 20 (revisions 1 1) (subscribes tightenings 09)
-    ∷ entry 0062 20 20 not-read (acknowledges tightenings)
-    ∷ entry 0063 20 20 not-read (unsubscribes tightenings 10)
-    ∷ entry 9999 20 20 not-read mirrors
+    ∷ kind-rows 0 kinds
+    ++ entry 9999 20 20 not-read mirrors
     ∷ []
 
 abbrev pub listed : List Entry → ℕ → Option Entry
@@ -56,6 +61,46 @@ listed (e ∷ es) mid = let r = listed es mid in cond (eqb (e .mid) mid) (some e
 -- the entry of a message number; none where it is not known
 unfoldable pub entry-of : ℕ → Option Entry
 entry-of mid = listed table mid
+
+-- what a message is, by its effect, to the session that sends it and to its notices of each kind: one table, off which a history is read
+pub record Bearing : Type 0 where
+  pub stops : Bool
+  pub identifies : Bool
+  -- of that kind
+  pub subscribes : ℕ → Bool
+  pub unsubscribes : ℕ → Bool
+  pub acknowledges : ℕ → Bool
+
+abbrev pub bears : Bool → Bool → (ℕ → Bool) → (ℕ → Bool) → (ℕ → Bool) → Bearing
+bears stop identifier subscribe unsubscribe acknowledge = record {
+  stops = stop;
+  identifies = identifier;
+  subscribes = subscribe;
+  unsubscribes = unsubscribe;
+  acknowledges = acknowledge;
+}
+
+-- the kind with that place alone, or none
+abbrev pub the-kind : ℕ → ℕ → Bool
+the-kind place kind = eqb kind place
+
+abbrev pub no-kind : ℕ → Bool
+no-kind kind = false
+
+-- it stops, it identifies; the kind that it subscribes to, that it unsubscribes from, that it acknowledges a notice of
+abbrev pub bearing : Effect → Bearing
+bearing starts = bears false false no-kind no-kind no-kind
+bearing stops = bears true false no-kind no-kind no-kind
+bearing (identifies n) = bears false true no-kind no-kind no-kind
+bearing (subscribes kind n) = bears false false (the-kind kind) no-kind no-kind
+bearing (unsubscribes kind n) = bears false false no-kind (the-kind kind) no-kind
+bearing (acknowledges kind) = bears false false no-kind no-kind (the-kind kind)
+bearing mirrors = bears false false no-kind no-kind no-kind
+
+-- of the message with that entry; one that is not known is none of these
+abbrev pub entry-bearing : Option Entry → Bearing
+entry-bearing none = bears false false no-kind no-kind no-kind
+entry-bearing (some e) = bearing (e .effect)
 
 -- whether a message ever gets a reply: an acknowledge does not
 abbrev pub gets-reply : Effect → Bool

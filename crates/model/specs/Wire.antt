@@ -1,7 +1,7 @@
 -- What a line server sees on the wire: where a frame ends, and what a reply answers. Assumes nothing: these are definitions.
 use Prim.Native.Nat.{ℕ, _≤_}
 use mathlib.Core.Path.{_≡_}
-use mathlib.Core.Bool.{Bool, true, _||_}
+use mathlib.Core.Bool.{Bool, true, false, _||_}
 use mathlib.Core.List.{List, [], _∷_}
 use lib.Dec.{eqb}
 use lib.ListN.{length}
@@ -9,6 +9,7 @@ use Rattle.model.specs.Limits.{header-length}
 use Rattle.model.specs.Bytes.{NUL, is-digit, all, places, decimal}
 use Rattle.model.specs.Records.{Settings}
 use Rattle.model.specs.Runs.{Message}
+use Rattle.model.specs.Kinds.{Kind, kinds}
 use Rattle.model.specs.Frames.{frame-0002, frame-0004, frame-0005}
 
 -- each element of a list is so (`watch`, which knows nothing of the model, has the same word)
@@ -37,6 +38,10 @@ pub data Answers (m : Message) : List ℕ → Type 0 where
   accepts : Answers m (frame-0005 (m .mid))
   mirrors : m .mid ≡ 9999 → m .size ≡ header-length → Answers m (m .header)
 
--- 01, "Notices and the clock": the frame of a notice, by its message number
+-- 01, "Notices and the clock": the frame of a notice has the message number of one of their kinds
+abbrev pub has-notice : List Kind → ℕ → Bool
+has-notice [] mid = false
+has-notice (k ∷ ks) mid = eqb mid (k .notice) || has-notice ks mid
+
 abbrev pub is-notice : List ℕ → Bool
-is-notice frame = eqb (decimal (places 5 8 frame)) 0052 || eqb (decimal (places 5 8 frame)) 0061
+is-notice frame = has-notice kinds (decimal (places 5 8 frame))

@@ -13,7 +13,8 @@ use Rattle.model.specs.Records.{Settings}
 use Rattle.model.specs.Frames.{event-frame, frame-record}
 use Rattle.model.specs.Events.{Notice}
 use Rattle.model.specs.Session.{frame-to}
-use Rattle.model.specs.Notices.{Room, the-newest, up-to, room-of, news, act, takes}
+use Rattle.model.specs.Kinds.{Room, the-newest, up-to, kinds, room-of}
+use Rattle.model.specs.Notices.{news, act, takes}
 use Rattle.model.specs.Notices as model
 use Rattle.text.specs.Cells.{cells}
 use Rattle.text.proofs.Cells.{cells-push, cells-prefix}
@@ -130,7 +131,7 @@ waits-held room x i e = by-form (x .form) e
     by-form Acknowledged e = go (eqb (x .held) 0) e
 
 -- each kind holds some
-pub room-some : (kind : ℕ) → kind < 2 → 0 < most-held (room-of kind)
+pub room-some : (kind : ℕ) → kind < length kinds → 0 < most-held (room-of kind)
 room-some zero h = omega arith
 room-some (suc zero) h = omega arith
 room-some (suc (suc kind)) h = absurd (omega arith)

@@ -12,7 +12,8 @@ use borrow.Author.Tests.{eqb-true, eqb-false, ltb-true}
 use Rattle.model.specs.Records.{Settings}
 use Rattle.model.specs.Frames.{event-frame, frame-record}
 use Rattle.model.specs.Events.{Notice}
-use Rattle.model.specs.Notices.{room-of, Deed, act}
+use Rattle.model.specs.Kinds.{room-of}
+use Rattle.model.specs.Notices.{Deed, act}
 use Rattle.model.specs.Notices as model
 use Rattle.session.specs.Meaning.{subscription-as, subscription-in, Holds, Stepped, shifted, sent}
 use Rattle.session.specs.Control.{step, still, holding, next-goes-out, by-beat, beat-at, ticked, acknowledged, ticked-from, acknowledged-from}
@@ -71,7 +72,7 @@ acknowledge-feasible x = by-form (x .form)
 
 -- ==== what is sent
 
-copies-same : (s : ℕ) (st : Settings) (revision : ℕ) (q : model.Queue) (ns : List Notice) → copies s st revision false ns ≡ copies-to s st (model.acked revision q) ns
+copies-same : (s : ℕ) (st : Settings) (revision : ℕ) (q : model.Pending) (ns : List Notice) → copies s st revision false ns ≡ copies-to s st (model.acked revision q) ns
 copies-same s st revision q [] = refl
 copies-same s st revision q (n ∷ ns) = ap (λ (l : List ℕ). frame-record s (event-frame st revision false (n .event)) ++ l) (copies-same s st revision q ns)
 

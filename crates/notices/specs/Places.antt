@@ -8,9 +8,10 @@ use lib.Dec.{eqb}
 use lib.ListN.{length}
 use Rattle.model.specs.Limits.{identifier-length}
 use Rattle.model.specs.Records.{Settings}
-use Rattle.model.specs.Events.{identifiers, Event, identified, tightened, Notice}
+use Rattle.model.specs.Kinds.{identifiers}
+use Rattle.model.specs.Events.{Event, identified, tightened, Notice}
 use Rattle.model.specs.Frames.{event-frame, frame-record}
-use Rattle.model.specs.Notices.{room-of}
+use Rattle.model.specs.Kinds.{room-of}
 use Rattle.model.specs.Notices as model
 use Rattle.model.specs.Session.{frame-to}
 use Rattle.frame.specs.Layout.{result-of}

@@ -7,7 +7,8 @@ ghost use lib.Dec.{eqb};
 ghost use lib.ListN.{length};
 ghost use Rattle.model.specs.Records.{settings-of};
 ghost use Rattle.model.specs.Frames.{event-frame, frame-record};
-ghost use Rattle.model.specs.Notices.{room-of, beats, acks, news, takes};
+ghost use Rattle.model.specs.Kinds.{kinds, kind-at, room-of, copy-most};
+ghost use Rattle.model.specs.Notices.{beats, acks, news, takes};
 ghost use Rattle.text.specs.Put.{Put};
 ghost use Rattle.session.specs.Meaning.{most-held, shifted, sent};
 ghost use Rattle.session.specs.Control.{taken};
@@ -38,8 +39,8 @@ fn put_copy(
     settings: &[u8],
     place: &[u8],
 ) -> usize
-    requires { ⌜ (at + 236 ≤ length (now out)) × (s < 256) × (length (now settings) ≡ 33) × (length (now place) ≡ place-size kind) ⌝ }
-    ensures { λ r. ⌜ (r ≤ at + 236) × Put (now (out .entry)) at (frame-record s (event-frame (settings-of (now (settings .entry))) revision «no_acknowledge» (event-in kind (now (place .entry))))) r (now (out .exit)) ⌝ }
+    requires { ⌜ (at + copy-most (kind-at kind) ≤ length (now out)) × (s < 256) × (length (now settings) ≡ 33) × (length (now place) ≡ place-size kind) × (kind < length kinds) ⌝ }
+    ensures { λ r. ⌜ (r ≤ at + copy-most (kind-at kind)) × Put (now (out .entry)) at (frame-record s (event-frame (settings-of (now (settings .entry))) revision «no_acknowledge» (event-in kind (now (place .entry))))) r (now (out .exit)) ⌝ }
 {
     if kind == message::IDENTIFIERS {
         return frame::put_0052(out, at, s, revision, no_acknowledge, place);
@@ -72,9 +73,9 @@ fn carry(
     step: Step,
     settings: &[u8],
 ) -> usize
-    requires { ⌜ (at + 236 ≤ length (now out)) × (s < 256) × (length (now settings) ≡ 33) ⌝ }
+    requires { ⌜ (at + copy-most (kind-at kind) ≤ length (now out)) × (s < 256) × (length (now settings) ≡ 33) × (kind < length kinds) ⌝ }
     requires { ⌜ (held * place-size kind ≤ length (now places)) × Feasible held step ⌝ }
-    ensures { λ r. ⌜ (notices-in kind (step .next .held) (now (places .exit)) ≡ shifted (step .shift) (notices-in kind held (now (places .entry)))) × (r ≤ at + 236) × Put (now (out .entry)) at (copies s (settings-of (now (settings .entry))) (step .next .revision) false (sent (step .send) (notices-in kind (step .next .held) (now (places .exit))))) r (now (out .exit)) ⌝ }
+    ensures { λ r. ⌜ (notices-in kind (step .next .held) (now (places .exit)) ≡ shifted (step .shift) (notices-in kind held (now (places .entry)))) × (r ≤ at + copy-most (kind-at kind)) × Put (now (out .entry)) at (copies s (settings-of (now (settings .entry))) (step .next .revision) false (sent (step .send) (notices-in kind (step .next .held) (now (places .exit))))) r (now (out .exit)) ⌝ }
 {
     shift_down(places, kind, held, step.shift);
     if !step.send {
@@ -110,8 +111,8 @@ pub fn tick(
     x: Subscription,
     settings: &[u8],
 ) -> Dealt
-    requires { ⌜ (at + 236 ≤ length (now out)) × (s < 256) × (length (now settings) ≡ 33) × Kept kind x (now places) ⌝ }
-    ensures { λ r. ⌜ (r .at ≤ at + 236) × Deals kind beats x (now (places .entry)) (r .next) (now (places .exit)) × Put (now (out .entry)) at (dealt-bytes kind s (settings-of (now (settings .entry))) beats x (now (places .entry))) (r .at) (now (out .exit)) ⌝ }
+    requires { ⌜ (at + copy-most (kind-at kind) ≤ length (now out)) × (s < 256) × (length (now settings) ≡ 33) × Kept kind x (now places) × (kind < length kinds) ⌝ }
+    ensures { λ r. ⌜ (r .at ≤ at + copy-most (kind-at kind)) × Deals kind beats x (now (places .entry)) (r .next) (now (places .exit)) × Put (now (out .entry)) at (dealt-bytes kind s (settings-of (now (settings .entry))) beats x (now (places .entry))) (r .at) (now (out .exit)) ⌝ }
 {
     let step = session::ticked(x);
     let to = carry(places, out, at, s, kind, x.held, step, settings);
@@ -129,8 +130,8 @@ pub fn acknowledge(
     x: Subscription,
     settings: &[u8],
 ) -> Dealt
-    requires { ⌜ (at + 236 ≤ length (now out)) × (s < 256) × (length (now settings) ≡ 33) × Kept kind x (now places) ⌝ }
-    ensures { λ r. ⌜ (r .at ≤ at + 236) × Deals kind acks x (now (places .entry)) (r .next) (now (places .exit)) × Put (now (out .entry)) at (dealt-bytes kind s (settings-of (now (settings .entry))) acks x (now (places .entry))) (r .at) (now (out .exit)) ⌝ }
+    requires { ⌜ (at + copy-most (kind-at kind) ≤ length (now out)) × (s < 256) × (length (now settings) ≡ 33) × Kept kind x (now places) × (kind < length kinds) ⌝ }
+    ensures { λ r. ⌜ (r .at ≤ at + copy-most (kind-at kind)) × Deals kind acks x (now (places .entry)) (r .next) (now (places .exit)) × Put (now (out .entry)) at (dealt-bytes kind s (settings-of (now (settings .entry))) acks x (now (places .entry))) (r .at) (now (out .exit)) ⌝ }
 {
     let step = session::acknowledged(x);
     let to = carry(places, out, at, s, kind, x.held, step, settings);
@@ -149,7 +150,7 @@ fn hold(places: &mut [u8], kind: usize, i: u64, place: &[u8])
 
 // How an event of that kind is taken.
 fn taking(kind: usize, x: Subscription) -> Taken
-    requires { ⌜ kind < 2 ⌝ }
+    requires { ⌜ kind < length kinds ⌝ }
     ensures { λ r. ⌜ r ≡ taken (room-of kind) x ⌝ }
 {
     if kind == message::IDENTIFIERS {
@@ -176,9 +177,9 @@ pub fn take(
     settings: &[u8],
     place: &[u8],
 ) -> Took
-    requires { ⌜ (at + 236 ≤ length (now out)) × (s < 256) × (length (now settings) ≡ 33) × Kept kind x (now places) ⌝ }
-    requires { ⌜ (kind < 2) × (length (now place) ≡ place-size kind) ⌝ }
-    ensures { λ r. ⌜ (r .at ≤ at + 236) × Deals kind (news (notice-in kind (now (place .entry)))) x (now (places .entry)) (r .next) (now (places .exit)) × Put (now (out .entry)) at (dealt-bytes kind s (settings-of (now (settings .entry))) (news (notice-in kind (now (place .entry)))) x (now (places .entry))) (r .at) (now (out .exit)) × (r .taken ≡ takes (room-of kind) (subscription-of kind x (now (places .entry)))) ⌝ }
+    requires { ⌜ (at + copy-most (kind-at kind) ≤ length (now out)) × (s < 256) × (length (now settings) ≡ 33) × Kept kind x (now places) ⌝ }
+    requires { ⌜ (kind < length kinds) × (length (now place) ≡ place-size kind) ⌝ }
+    ensures { λ r. ⌜ (r .at ≤ at + copy-most (kind-at kind)) × Deals kind (news (notice-in kind (now (place .entry)))) x (now (places .entry)) (r .next) (now (places .exit)) × Put (now (out .entry)) at (dealt-bytes kind s (settings-of (now (settings .entry))) (news (notice-in kind (now (place .entry)))) x (now (places .entry))) (r .at) (now (out .exit)) × (r .taken ≡ takes (room-of kind) (subscription-of kind x (now (places .entry)))) ⌝ }
 {
     let t = taking(kind, x);
     let next = t.next;

@@ -14,7 +14,7 @@ use Rattle.model.specs.Tests.{Test, _gives_, first}
 use Rattle.model.specs.Records.{payload, Item, is-record, payload-length, parts, good-parts, good-payload, good-record, settings-of, settings-items, read-settings, read-tool}
 use Rattle.model.specs.Session.{is-closed}
 use Rattle.model.specs.World.{session-at}
-use Rattle.model.specs.Calls.{start, open-session, hang-up-session, bytes, one-tick, tool, lent-tests, refusal, is-none}
+use Rattle.model.specs.Calls.{start, open-session, hang-up-session, bytes, one-tick, tool, asks-both, refusal, is-none}
 use Rattle.model.specs.Calls as model
 use Rattle.table.specs.Table.{decode, table-formed, Table}
 use Rattle.record.specs.declared.Kind.{Kind}
@@ -45,7 +45,7 @@ module _ (t : List ℕ) (n : ℕ) where
   -- and then a call's own tests
   module _ (own : List (Test ℕ)) where
     abbrev pub with-own : ℕ
-    with-own = first 0 (lent-tests (lent t n) ++ own)
+    with-own = first 0 (model.tests (lent t n) (asks-both own))
 
     pub lent-gives : {r : ℕ} → r ≡ number t n one-tick → (r ≡ 0 → ⊥) → r ≡ with-own
     unfolding refusal
@@ -87,7 +87,7 @@ abbrev pub hang-up-own : List ℕ → ℕ → List (Test ℕ)
 hang-up-own t s = leb session-count s gives 4 ∷ is-closed (session-at (decode t) s) gives 5 ∷ []
 
 abbrev pub tool-own : List ℕ → Kind → List (Test ℕ)
-tool-own t kind = is-bad kind gives 7 ∷ cond (is-tightening kind) (eqb (decode t .last) number-greatest) false gives 8 ∷ []
+tool-own t kind = is-bad kind gives 7 ∷ cond (is-tightening kind) (eqb (decode t .shared .last) number-greatest) false gives 8 ∷ []
 
 -- ==== records
 
@@ -117,10 +117,10 @@ module _ (t : List ℕ) {kind : Kind} where
   pub a-scan : kind ≡ Scanned → 0 ≡ first 0 (tool-own t kind)
   a-scan e = ap (λ (k : Kind). first 0 (tool-own t k)) (sym e)
 
-  pub last-one : kind ≡ Tightening → decode t .last ≡ number-greatest → 8 ≡ first 0 (tool-own t kind)
+  pub last-one : kind ≡ Tightening → decode t .shared .last ≡ number-greatest → 8 ≡ first 0 (tool-own t kind)
   last-one e h = ap (λ (b : Bool). cond b 8 0) (sym (eq-eqb _ _ h)) ∙ ap (λ (k : Kind). first 0 (tool-own t k)) (sym e)
 
-  pub one-more : kind ≡ Tightening → (decode t .last ≡ number-greatest → ⊥) → 0 ≡ first 0 (tool-own t kind)
+  pub one-more : kind ≡ Tightening → (decode t .shared .last ≡ number-greatest → ⊥) → 0 ≡ first 0 (tool-own t kind)
   one-more e h = ap (λ (b : Bool). cond b 8 0) (sym (ne-eqb _ _ h)) ∙ ap (λ (k : Kind). first 0 (tool-own t k)) (sym e)
 
 -- received bytes are refused as a hang-up is
@@ -155,7 +155,7 @@ module _ (t : List ℕ) (n s : ℕ) where
 
 -- a tool record that is not bad, and a number for a tightening
 pub tool-passes : (t : List ℕ) (n : ℕ) (kind : Kind) → tool-number t n kind ≡ 0
-    → Ready t n × (kind ≡ Bad → ⊥) × (kind ≡ Tightening → decode t .last ≡ number-greatest → ⊥)
+    → Ready t n × (kind ≡ Bad → ⊥) × (kind ≡ Tightening → decode t .shared .last ≡ number-greatest → ⊥)
 unfolding tool-number
 tool-passes t n kind e =
     let p = none-applies t n (tool-own t kind) e in
@@ -167,7 +167,7 @@ tool-passes t n kind e =
 -- what is lent will do, whatever the record's kind
 pub tool-ready : (t : List ℕ) (n : ℕ) (slice : List ℕ) → number t n (tool slice) ≡ 0 → Ready t n
 unfolding refusal
-tool-ready t n slice e = is-ready t n (none-applies t n (is-none (read-tool slice) gives 7 ∷ cond (model.is-tightening (read-tool slice)) (eqb (decode t .last) number-greatest) false gives 8 ∷ []) e .0)
+tool-ready t n slice e = is-ready t n (none-applies t n (is-none (read-tool slice) gives 7 ∷ cond (model.is-tightening (read-tool slice)) (eqb (decode t .shared .last) number-greatest) false gives 8 ∷ []) e .0)
 
 -- good settings, and a table that is long enough
 pub start-passes : (t slice : List ℕ) → number t 0 (start slice) ≡ 0

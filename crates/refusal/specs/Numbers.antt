@@ -2,12 +2,12 @@
 -- Assumes nothing: these are definitions.
 use Prim.Native.Nat.{ℕ}
 use mathlib.Core.Bool.{Bool, true, false, cond}
-use mathlib.Core.List.{List, [], _∷_, _++_}
+use mathlib.Core.List.{List, [], _∷_}
 use lib.Dec.{eqb}
 use lib.ListN.{length}
 use Rattle.model.specs.Limits.{number-greatest}
 use Rattle.model.specs.Tests.{_gives_, first}
-use Rattle.model.specs.Calls.{Call, Lent, lent-tests, refusal}
+use Rattle.model.specs.Calls.{Call, Lent, asks-both, tests, refusal}
 use Rattle.table.specs.Table.{decode, table-formed}
 use Rattle.record.specs.declared.Kind.{Kind}
 use Rattle.record.specs.declared.Kind.the-variants.{Bad, Tightening, Scanned}
@@ -34,6 +34,6 @@ is-tightening Scanned = false
 unfoldable pub tool-number : List ℕ → ℕ → Kind → ℕ
 tool-number t n kind =
     first 0 (
-    lent-tests (lent t n)
-    ++ is-bad kind gives 7 ∷ cond (is-tightening kind) (eqb (decode t .last) number-greatest) false gives 8 ∷ []
+    tests (lent t n)
+    (asks-both (is-bad kind gives 7 ∷ cond (is-tightening kind) (eqb (decode t .shared .last) number-greatest) false gives 8 ∷ []))
     )

@@ -7,13 +7,10 @@ ghost use Rattle.model.specs.Calls.{
   one-tick,
 };
 ghost use Rattle.refusal.specs.Numbers.{number, tool-number};
+use model::OUTPUT_LEAST;
+use model::SESSION_COUNT;
+use model::TABLE_LEAST;
 use record::Kind;
-
-const TABLE: usize = 16_384;
-
-const OUTPUT: usize = 2_048;
-
-const SESSIONS: u64 = 4;
 
 const NUMBER_GREATEST: u64 = 4_294_967_295;
 
@@ -21,7 +18,7 @@ const NUMBER_GREATEST: u64 = 4_294_967_295;
 pub fn start(table: &[u8], settings: &[u8]) -> u64
     ensures { λ r. ⌜ r ≡ number (now (table .entry)) 0 (start-call (now (settings .entry))) ⌝ }
 {
-    if table.len() < TABLE {
+    if table.len() < TABLE_LEAST {
         return 1;
     }
     if !record::is_settings(settings) {
@@ -34,13 +31,13 @@ pub fn start(table: &[u8], settings: &[u8]) -> u64
 pub fn tick(table: &[u8], output: usize) -> u64
     ensures { λ r. ⌜ r ≡ number (now (table .entry)) «output» one-tick ⌝ }
 {
-    if table.len() < TABLE {
+    if table.len() < TABLE_LEAST {
         return 1;
     }
     if !table::is_formed(table) {
         return 2;
     }
-    if output < OUTPUT {
+    if output < OUTPUT_LEAST {
         return 3;
     }
     0
@@ -53,7 +50,7 @@ pub fn open(table: &[u8], output: usize, session: u64) -> u64
     if n != 0 {
         return n;
     }
-    if session >= SESSIONS {
+    if session >= SESSION_COUNT {
         return 4;
     }
     if !table::is_closed(table, session) {
@@ -70,7 +67,7 @@ pub fn hang_up(table: &[u8], output: usize, session: u64) -> u64
     if n != 0 {
         return n;
     }
-    if session >= SESSIONS {
+    if session >= SESSION_COUNT {
         return 4;
     }
     if table::is_closed(table, session) {

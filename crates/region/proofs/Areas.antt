@@ -11,8 +11,9 @@ use borrow.Rule.Slice.PartMut.{putMid, midOf, mid-len, same-len-mid}
 use Rattle.model.specs.Limits.{idle-limit, given-up-at}
 use Rattle.model.specs.Records.{Settings}
 use Rattle.model.specs.Runs.{Run}
-use Rattle.model.specs.Events.{identifiers, tightenings}
-use Rattle.model.specs.Notices.{Deed, room-of}
+use Rattle.model.specs.Kinds.{identifiers, tightenings}
+use Rattle.model.specs.Notices.{Deed}
+use Rattle.model.specs.Kinds.{room-of}
 use Rattle.text.specs.Put.{Put}
 use Rattle.session.specs.Meaning.{most-held}
 use Rattle.session.specs.declared.Subscription.{Subscription}
@@ -24,7 +25,7 @@ use Rattle.run.specs.Area as run
 use Rattle.head.specs.Head.{head-of, forms-fit, control-formed, head-formed, Storable}
 use Rattle.head.specs.Head as head
 use Rattle.head.proofs.Areas.{fitting}
-use Rattle.region.specs.Region.{head-area, run-area, identifiers-area, tightenings-area, session-of, region-formed, Good, Stands, places-of, Moved}
+use Rattle.region.specs.Region.{region-size, head-area, run-area, identifiers-area, tightenings-area, session-of, region-formed, Good, Stands, places-of, Moved}
 
 -- ==== what is known of each
 
@@ -70,7 +71,7 @@ formed-of r a b = and-eq-true-iff (head-formed (head-area r)) (run-formed (run-a
 -- ==== one of them was replaced
 
 module _ (r ys : List ℕ) (g : Good r) where
-  size-kept : (a e : ℕ) → e ≤ length r → length ys ≡ e - a → length (putMid a (e - a) r ys) ≡ 1024
+  size-kept : (a e : ℕ) → e ≤ length r → length ys ≡ e - a → length (putMid a (e - a) r ys) ≡ region-size
   size-kept a e f len = same-len-mid a (e - a) r ys (len ∙ sym (mid-len a e r f)) ∙ g .size
 
   module _ (x : Session) (len : length ys ≡ 32) (is-x : head-of ys ≡ x) (formed : head-formed ys ≡ true) where

@@ -9,7 +9,8 @@ use Rattle.model.specs.Limits.{idle-limit}
 use Rattle.model.specs.Records.{Settings}
 use Rattle.model.specs.Runs.{Run}
 use Rattle.model.specs.Events.{Notice}
-use Rattle.model.specs.Notices.{room-of, Deed, act}
+use Rattle.model.specs.Kinds.{room-of}
+use Rattle.model.specs.Notices.{Deed, act}
 use Rattle.model.specs.Notices as notice
 use Rattle.model.specs.Session.{started, dealt}
 use Rattle.model.specs.Session as model

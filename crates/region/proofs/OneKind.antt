@@ -3,8 +3,10 @@ use mathlib.Core.Path.{_≡_, refl, sym, ap, subst, _∙_}
 use mathlib.Core.List.{List, append-nil}
 use Prim.Native.Nat.{ℕ, zero, suc, _<_}
 use native.Mathlib.Omega.{arith}
+use lib.ListN.{length}
 use Rattle.model.specs.Records.{Settings}
 use Rattle.model.specs.Runs.{Run}
+use Rattle.model.specs.Kinds.{kinds}
 use Rattle.model.specs.Notices.{Deed}
 use Rattle.model.specs.Session.{dealt, only}
 use Rattle.text.specs.Put.{Put}
@@ -23,14 +25,14 @@ use Rattle.region.specs.Region.{run-area, identifiers-area, tightenings-
 use Rattle.region.proofs.Both.{kept-identifiers, kept-tightenings, storable-kept, both-dealt}
 
 -- the places of each kind hold what the control says
-pub kept-kind : (kind : ℕ) → kind < 2 → (r : List ℕ) (x : Session) → Good r → Storable x → Kept kind (subscription-at x kind) (places-of kind r)
+pub kept-kind : (kind : ℕ) → kind < length kinds → (r : List ℕ) (x : Session) → Good r → Storable x → Kept kind (subscription-at x kind) (places-of kind r)
 kept-kind zero few r x g k = kept-identifiers r x g k
 kept-kind (suc zero) few r x g k = kept-tightenings r x g k
 kept-kind (suc (suc kind)) few r x g k = absurd (omega arith)
 
 module _ (x : Session) (e : x .phase ≡ Started) where
   -- a started session with another subscription of the kind can be stored
-  pub storable-one : (kind : ℕ) → kind < 2 → (r : List ℕ) → Good r → Storable x → (next : Subscription) → Kept kind next (places-of kind r)
+  pub storable-one : (kind : ℕ) → kind < length kinds → (r : List ℕ) → Good r → Storable x → (next : Subscription) → Kept kind next (places-of kind r)
       → Storable (with-subscription x kind next)
   storable-one zero few r g k next kept =
       subst (λ (p : Phase). Storable (session p (x .idle) next (x .tightenings))) (sym e)
@@ -41,7 +43,7 @@ module _ (x : Session) (e : x .phase ≡ Started) where
   storable-one (suc (suc kind)) few r g k next kept = absurd (omega arith)
 
   module _ (s : ℕ) (st : Settings) (deed : Deed) (r r₁ r₂ : List ℕ) (next : Subscription) {o o′ : List ℕ} {at to : ℕ} where
-    one-dealt : (kind : ℕ) → kind < 2 → Moved kind r r₁ → Deals kind deed (subscription-at x kind) (places-of kind r) next (places-of kind r₁)
+    one-dealt : (kind : ℕ) → kind < length kinds → Moved kind r r₁ → Deals kind deed (subscription-at x kind) (places-of kind r) next (places-of kind r₁)
         → Stands r₂ (with-subscription x kind next) (run-of (run-area r₁)) (identifiers-area r₁) (tightenings-area r₁)
         → Put o at (dealt-bytes kind s st deed (subscription-at x kind) (places-of kind r)) to o′
         → Steps s (dealt st (x .idle) (run-of (run-area r)) (only kind deed) (subscriptions-of x r)) r₂ o at to o′
@@ -66,7 +68,7 @@ module _ (x : Session) (e : x .phase ≡ Started) where
     one-dealt (suc (suc kind)) few m d w p = absurd (omega arith)
 
     -- what a started session's deed to one kind leaves, once its control is y, with the new subscription
-    pub one-stored : (kind : ℕ) → kind < 2 → (sub : Subscription) → sub ≡ subscription-at x kind → (y : Session) → y ≡ with-subscription x kind next
+    pub one-stored : (kind : ℕ) → kind < length kinds → (sub : Subscription) → sub ≡ subscription-at x kind → (y : Session) → y ≡ with-subscription x kind next
         → Moved kind r r₁ → Deals kind deed sub (places-of kind r) next (places-of kind r₁)
         → Stands r₂ y (run-of (run-area r₁)) (identifiers-area r₁) (tightenings-area r₁)
         → Put o at (dealt-bytes kind s st deed sub (places-of kind r)) to o′

@@ -6,7 +6,8 @@ use Rattle.model.specs.Records.{Settings}
 use Rattle.model.specs.Runs.{Run}
 use Rattle.model.specs.Events.{Notice}
 use Rattle.model.specs.Frames.{frame-record}
-use Rattle.model.specs.Notices.{room-of, Subscription, Deed, act}
+use Rattle.model.specs.Kinds.{room-of}
+use Rattle.model.specs.Notices.{Subscription, Deed, act}
 use Rattle.model.specs.Session.{Copy, Emission, copy, frame-to, deal, dealt, only}
 use Rattle.model.specs.Session as model
 use Rattle.model.specs.Row.{Tagged, tag, said}

@@ -7,6 +7,7 @@ use Prim.Native.Nat.{ℕ, _+_, _-_, _≤_, _<_, min}
 use native.Mathlib.Nat.{sub-zero}
 use native.Mathlib.Omega.{arith}
 use lib.ListN.{length, take, drop, length-take}
+use Rattle.model.specs.Kinds.{kinds, copies-most}
 use lib.Seq.{take-all}
 use lib.Dec.{ltb}
 use borrow.Author.Tests.{lt-ltb, le-ltb}
@@ -17,7 +18,8 @@ use Rattle.model.specs.Runs.{Run, empty-run, longer, Piece, cut}
 use Rattle.model.specs.Session.{Emission}
 use Rattle.model.specs.Session as model
 use Rattle.model.specs.Events.{Notice}
-use Rattle.model.specs.Steps.{step, receives, announces}
+use Rattle.model.specs.Local.{step, receives, announces}
+use Rattle.model.specs.Sharing.{shared-begun}
 use Rattle.text.specs.Put.{Put}
 use Rattle.text.proofs.Puts.{put-nothing, put-then, put-as}
 use Rattle.frame.specs.Header.{header-of}
@@ -82,24 +84,24 @@ module _ (s : ℕ) (st : Settings) (r : List ℕ) (g : Good r) (x : Session) (ex
           acknowledge-known x (st .granted) (header-of (n .kept) (n .count)) (drop header-length (n .kept)),
         )
 
-    right : step st (receives (ending bs)) (session-of r) ≡ carried-by-value st x is ts (take 20 (n .kept)) d
+    right : step (shared-begun st 0) (receives (ending bs)) (session-of r) ≡ carried-by-value st x is ts (take 20 (n .kept)) d
     right =
-        ap (step st (receives (ending bs))) as-control
+        ap (step (shared-begun st 0) (receives (ending bs))) as-control
         ∙ message-right st (run-of (run-area r)) is ts (ending bs) refl x (sound-control r x g k) .0
         ∙ ap (carried-by-value st x is ts (take 20 (n .kept))) (sym (ruled .decides))
 
     -- the reply, then what the decision does, where the places are as they were in r
     pub ends-so : {r′ o′ : List ℕ} {next : ℕ} (r₁ : List ℕ) → identifiers-area r₁ ≡ identifiers-area r → tightenings-area r₁ ≡ tightenings-area r
-        → next ≤ mid + 236
+        → next ≤ mid + copies-most kinds
         → Steps s (carried-out st x (notices-in 0 (x .identifiers .held) (identifiers-area r₁)) (notices-in 1 (x .tightenings .held) (tightenings-area r₁)) d) r′ o₁ mid next o′
         → Hears s st (ending bs) r o at place next known r′ o′ place′
     ends-so {r′} {o′} {next} r₁ ei et few w =
         let q : carried-out st x (notices-in 0 (x .identifiers .held) (identifiers-area r₁)) (notices-in 1 (x .tightenings .held) (tightenings-area r₁)) d ≡ carried-out st x is ts d =
         ap₂ (λ (a b : List ℕ). carried-out st x (notices-in 0 (x .identifiers .held) a) (notices-in 1 (x .tightenings .held) b) d) ei et in
         let v : Steps s (carried-out st x is ts d) r′ o₁ mid next o′ = subst (λ (z : model.Session × List Emission). Steps s z r′ o₁ mid next o′) q w in
-        let e : announced d (drop 20 (n .kept)) ≡ announces st (ending bs) (session-of r) =
+        let e : announced d (drop 20 (n .kept)) ≡ announces (shared-begun st 0) (ending bs) (session-of r) =
         ap (λ (z : Decision). announced z (drop 20 (n .kept))) (ruled .decides)
-        ∙ sym (ap (announces st (ending bs)) as-control ∙ identify-right st (run-of (run-area r)) is ts (ending bs) refl x) in
+        ∙ sym (ap (announces (shared-begun st 0) (ending bs)) as-control ∙ identify-right st (run-of (run-area r)) is ts (ending bs) refl x) in
         let l = ruled .within in
         record {
           within = omega arith;

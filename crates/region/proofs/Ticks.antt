@@ -15,7 +15,8 @@ use Rattle.model.specs.Frames.{close-record}
 use Rattle.model.specs.Session.{closed, opened, started, is-closed, Emission, close}
 use Rattle.model.specs.Session as model
 use Rattle.model.specs.Notices as notice
-use Rattle.model.specs.Steps.{tick-at, step, tick}
+use Rattle.model.specs.Local.{tick-at, step, tick}
+use Rattle.model.specs.Sharing.{shared-begun}
 use Rattle.text.specs.Put.{Put}
 use Rattle.text.proofs.Puts.{put-nothing, put-as}
 use Rattle.session.specs.Meaning.{session-as, session-in}
@@ -45,7 +46,7 @@ module _ (st : Settings) (run : Run) (is ts : List Notice) (idle : ℕ) (h : idl
       rw (ne-eqb (suc idle) idle-limit (λ q. omega arith)) e
 
   idles : (i t : Subscription) (p : Phase)
-      → let x = session p idle i t in step st tick (session-in x run is ts) ≡ by-idling st run is ts (idled x)
+      → let x = session p idle i t in step (shared-begun st 0) tick (session-in x run is ts) ≡ by-idling st run is ts (idled x)
   unfolding idled
   idles i t Closed = refl
   idles i t Opened = comes-to _ (session Opened (idle + 1) i t) (leb idle-limit (idle + 1)) refl (rw (add-one idle))
@@ -53,7 +54,7 @@ module _ (st : Settings) (run : Run) (is ts : List Notice) (idle : ℕ) (h : idl
 
 -- `session::idled` is what the model's tick does to the idle count
 pub idle-right : (st : Settings) (x : Session) (run : Run) (is ts : List Notice) → x .idle < idle-limit
-    → step st tick (session-in x run is ts) ≡ by-idling st run is ts (idled x)
+    → step (shared-begun st 0) tick (session-in x run is ts) ≡ by-idling st run is ts (idled x)
 idle-right st x run is ts h = idles st run is ts (x .idle) h (x .identifiers) (x .tightenings) (x .phase)
 
 -- ==== what stands in a region is what it means
@@ -148,26 +149,26 @@ module _ (s : ℕ) (st : Settings) (r : List ℕ) (x : Session) (ex : x ≡ head
   run-here = run-of (run-area r)
 
   -- the model's tick to what the region means
-  right : step st tick (session-of r) ≡ by-idling st run-here (notices-i (x .identifiers)) (notices-t (x .tightenings)) (idled x)
+  right : step (shared-begun st 0) tick (session-of r) ≡ by-idling st run-here (notices-i (x .identifiers)) (notices-t (x .tightenings)) (idled x)
   unfolding session-of
   right =
-      ap (λ (z : Session). step st tick (meaning z run-here (identifiers-area r) (tightenings-area r))) (sym ex)
+      ap (λ (z : Session). step (shared-begun st 0) tick (meaning z run-here (identifiers-area r) (tightenings-area r))) (sym ex)
       ∙ idle-right st x run-here (notices-i (x .identifiers)) (notices-t (x .tightenings)) (let i = k .idle in omega arith)
 
   pub tick-stays-so : {r′ o o′ : List ℕ} {at next : ℕ} (y : Session) → idled x ≡ Stays y
       → Steps s (goes-on s st y run-here (identifiers-area r) (tightenings-area r) (y .phase)) r′ o at next o′
-      → Steps s (step st tick (session-of r)) r′ o at next o′
+      → Steps s (step (shared-begun st 0) tick (session-of r)) r′ o at next o′
   tick-stays-so {r′} {o} {o′} {at} {next} y e w =
       let same = stays-storable x y e k .0 in
-      let q : step st tick (session-of r) ≡ goes-on s st y run-here (identifiers-area r) (tightenings-area r) (y .phase) =
+      let q : step (shared-begun st 0) tick (session-of r) ≡ goes-on s st y run-here (identifiers-area r) (tightenings-area r) (y .phase) =
       right ∙ ap (by-idling st run-here (notices-i (x .identifiers)) (notices-t (x .tightenings))) e
       ∙ ap₂ (λ (i t : Subscription). tick-goes-on st run-here (notices-i i) (notices-t t) (y .phase) y) (sym (same .0)) (sym (same .1)) in
       subst (λ (z : model.Session × List Emission). Steps s z r′ o at next o′) (sym q) w
 
   pub times-out : {r′ o o′ : List ℕ} {at next : ℕ} (run : Run) (is ts : List ℕ) → idled x ≡ TimesOut → Stands r′ cleared run is ts
-      → Put o at (close-record s) next o′ → Steps s (step st tick (session-of r)) r′ o at next o′
+      → Put o at (close-record s) next o′ → Steps s (step (shared-begun st 0) tick (session-of r)) r′ o at next o′
   times-out {r′} {o} {o′} {at} {next} run is ts e w p =
-      let q : step st tick (session-of r) ≡ (closed, close ∷ []) =
+      let q : step (shared-begun st 0) tick (session-of r) ≡ (closed, close ∷ []) =
       right ∙ ap (by-idling st run-here (notices-i (x .identifiers)) (notices-t (x .tightenings))) e in
       record {
         good = w .good;

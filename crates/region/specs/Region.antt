@@ -10,10 +10,11 @@ use lib.ListN.{length, take, drop}
 use Rattle.model.specs.Limits.{header-length}
 use Rattle.model.specs.Records.{Settings}
 use Rattle.model.specs.Runs.{Run, Piece}
-use Rattle.model.specs.Events.{identifiers, tightenings, Notice}
+use Rattle.model.specs.Kinds.{identifiers, tightenings, reply-most, session-most}
+use Rattle.model.specs.Events.{Notice}
 use Rattle.model.specs.Session.{closed, opened, dealt, Emission, close}
 use Rattle.model.specs.Session as model
-use Rattle.model.specs.Steps.{step, receives, announces}
+use Rattle.model.specs.Local.{step, receives, announces}
 use Rattle.model.specs.Row.{tag}
 use Rattle.model.specs.Calls.{output}
 use Rattle.session.specs.Meaning.{subscriptions-in, session-in}
@@ -27,6 +28,7 @@ use Rattle.session.specs.declared.Idling.the-variants.{Stays, TimesOut}
 use Rattle.run.specs.Area.{run-of, run-formed}
 use Rattle.head.specs.Head.{head-of, head-formed}
 use Rattle.model.specs.Notices.{Subscription, beats}
+use Rattle.model.specs.Sharing.{shared-begun}
 use Rattle.text.specs.Put.{Put}
 use Rattle.notices.specs.Places.{notices-in, subscription-of}
 
@@ -149,7 +151,7 @@ pub record Ruled
     (known : Bool)
     (o′ place′ : List ℕ) : Type 0 where
   pub decides : d ≡ decision-on st x run
-  pub within : next ≤ at + 62
+  pub within : next ≤ at + reply-most
   pub bytes : Put o at (out-bytes s (replies st (take header-length (run .kept)) d)) next o′
   pub knows : Knows (announced d (drop header-length (run .kept))) place known place′
 
@@ -164,6 +166,6 @@ pub record Hears
     (next : ℕ)
     (known : Bool)
     (r′ o′ place′ : List ℕ) : Type 0 where
-  pub within : next ≤ at + 298
-  pub steps : Steps s (step st (receives piece) (session-of r)) r′ o at next o′
-  pub knows : Knows (announces st piece (session-of r)) place known place′
+  pub within : next ≤ at + session-most
+  pub steps : Steps s (step (shared-begun st 0) (receives piece) (session-of r)) r′ o at next o′
+  pub knows : Knows (announces (shared-begun st 0) piece (session-of r)) place known place′

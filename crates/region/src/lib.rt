@@ -6,17 +6,18 @@ ghost use lib.ListN.{length, take};
 ghost use Rattle.model.specs.Limits.{header-length, run-kept};
 ghost use Rattle.model.specs.Records.{settings-of};
 ghost use Rattle.model.specs.Runs.{empty-run, longer, cut};
-ghost use Rattle.model.specs.Notices.{room-of, beats, acks, news, takes};
+ghost use Rattle.model.specs.Kinds.{kinds, kind-at, room-of, identifiers, tightenings, copy-most, copies-most, reply-most, session-most};
+ghost use Rattle.model.specs.Notices.{beats, acks, news, takes};
 ghost use Rattle.model.specs.Session.{dealt, closed, fresh, is-closed as is-closed-session, only};
-ghost use Rattle.model.specs.Steps.{step, tick as one-tick, event as event-of, takes as takes-event};
-ghost use Rattle.model.specs.Events.{identifiers, tightenings};
+ghost use Rattle.model.specs.Sharing.{shared-begun};
+ghost use Rattle.model.specs.Local.{step, tick as one-tick, event as event-of, takes as takes-event};
 ghost use Rattle.text.specs.Put.{Put};
 ghost use Rattle.session.specs.Decisions.{subscription-of as subscription-at, after as after-so};
 ghost use Rattle.session.specs.Effects.{announced, replies, carried-out, AcknowledgedIn};
 ghost use Rattle.run.specs.Area.{run-of, Ends};
 ghost use Rattle.head.specs.Head.{head-of, Storable};
-ghost use Rattle.notices.specs.Places.{place-size, notice-in, notices-in, subscription-of, Kept, Deals, dealt-bytes};
-ghost use Rattle.region.specs.Region.{head-area, run-area, identifiers-area, tightenings-area, session-of, region-formed, Good, Stands, places-of, Moved, subscriptions-of, out-bytes, Steps, tick-goes-on, ending, Knows, Ruled, Hears};
+ghost use Rattle.notices.specs.Places.{place-size, event-in, notice-in, notices-in, subscription-of, Kept, Deals, dealt-bytes};
+ghost use Rattle.region.specs.Region.{region-size, head-area, run-area, identifiers-area, tightenings-area, session-of, region-formed, Good, Stands, places-of, Moved, subscriptions-of, out-bytes, Steps, tick-goes-on, ending, Knows, Ruled, Hears};
 use notices::Dealt;
 use notices::Took;
 use session::Decision;
@@ -25,10 +26,13 @@ use session::Phase;
 use session::Session;
 use session::Subscription;
 
+// How many bytes it has.
+pub const SIZE: usize = 1024;
+
 // ---- its areas
 
 pub fn is_formed(region: &[u8]) -> bool
-    requires { ⌜ length (now region) ≡ 1024 ⌝ }
+    requires { ⌜ length (now region) ≡ region-size ⌝ }
     ensures { λ r. ⌜ r ≡ region-formed (now (region .entry)) ⌝ }
 {
     if !head::is_formed(&region[0..32]) {
@@ -39,7 +43,7 @@ pub fn is_formed(region: &[u8]) -> bool
 
 // Whatever the bytes were, it is closed.
 pub fn start(region: &mut [u8])
-    requires { ⌜ length (now region) ≡ 1024 ⌝ }
+    requires { ⌜ length (now region) ≡ region-size ⌝ }
     ensures { λ _. ⌜ Good (now (region .exit)) × (session-of (now (region .exit)) ≡ closed) ⌝ }
 {
     head::store(&mut region[0..32], Session::cleared());
@@ -88,9 +92,9 @@ fn tick_kind(
     x: Subscription,
     settings: &[u8],
 ) -> Dealt
-    requires { ⌜ (at + 236 ≤ length (now out)) × (s < 256) × (length (now settings) ≡ 33) × (kind < 2) ⌝ }
+    requires { ⌜ (at + copy-most (kind-at kind) ≤ length (now out)) × (s < 256) × (length (now settings) ≡ 33) × (kind < length kinds) ⌝ }
     requires { ⌜ Good (now region) × Kept kind x (places-of kind (now region)) ⌝ }
-    ensures { λ r. ⌜ (r .at ≤ at + 236) × Moved kind (now (region .entry)) (now (region .exit)) × Deals kind beats x (places-of kind (now (region .entry))) (r .next) (places-of kind (now (region .exit))) × Put (now (out .entry)) at (dealt-bytes kind s (settings-of (now (settings .entry))) beats x (places-of kind (now (region .entry)))) (r .at) (now (out .exit)) ⌝ }
+    ensures { λ r. ⌜ (r .at ≤ at + copy-most (kind-at kind)) × Moved kind (now (region .entry)) (now (region .exit)) × Deals kind beats x (places-of kind (now (region .entry))) (r .next) (places-of kind (now (region .exit))) × Put (now (out .entry)) at (dealt-bytes kind s (settings-of (now (settings .entry))) beats x (places-of kind (now (region .entry)))) (r .at) (now (out .exit)) ⌝ }
 {
     if kind == message::IDENTIFIERS {
         return notices::tick(&mut region[80..130], out, at, s, kind, x, settings);
@@ -108,9 +112,9 @@ fn acknowledge_kind(
     x: Subscription,
     settings: &[u8],
 ) -> Dealt
-    requires { ⌜ (at + 236 ≤ length (now out)) × (s < 256) × (length (now settings) ≡ 33) × (kind < 2) ⌝ }
+    requires { ⌜ (at + copy-most (kind-at kind) ≤ length (now out)) × (s < 256) × (length (now settings) ≡ 33) × (kind < length kinds) ⌝ }
     requires { ⌜ Good (now region) × Kept kind x (places-of kind (now region)) ⌝ }
-    ensures { λ r. ⌜ (r .at ≤ at + 236) × Moved kind (now (region .entry)) (now (region .exit)) × Deals kind acks x (places-of kind (now (region .entry))) (r .next) (places-of kind (now (region .exit))) × Put (now (out .entry)) at (dealt-bytes kind s (settings-of (now (settings .entry))) acks x (places-of kind (now (region .entry)))) (r .at) (now (out .exit)) ⌝ }
+    ensures { λ r. ⌜ (r .at ≤ at + copy-most (kind-at kind)) × Moved kind (now (region .entry)) (now (region .exit)) × Deals kind acks x (places-of kind (now (region .entry))) (r .next) (places-of kind (now (region .exit))) × Put (now (out .entry)) at (dealt-bytes kind s (settings-of (now (settings .entry))) acks x (places-of kind (now (region .entry)))) (r .at) (now (out .exit)) ⌝ }
 {
     if kind == message::IDENTIFIERS {
         return notices::acknowledge(&mut region[80..130], out, at, s, kind, x, settings);
@@ -129,9 +133,9 @@ fn take_kind(
     settings: &[u8],
     place: &[u8],
 ) -> Took
-    requires { ⌜ (at + 236 ≤ length (now out)) × (s < 256) × (length (now settings) ≡ 33) × (kind < 2) ⌝ }
+    requires { ⌜ (at + copy-most (kind-at kind) ≤ length (now out)) × (s < 256) × (length (now settings) ≡ 33) × (kind < length kinds) ⌝ }
     requires { ⌜ Good (now region) × Kept kind x (places-of kind (now region)) × (length (now place) ≡ place-size kind) ⌝ }
-    ensures { λ r. ⌜ (r .at ≤ at + 236) × Moved kind (now (region .entry)) (now (region .exit)) × Deals kind (news (notice-in kind (now (place .entry)))) x (places-of kind (now (region .entry))) (r .next) (places-of kind (now (region .exit))) × Put (now (out .entry)) at (dealt-bytes kind s (settings-of (now (settings .entry))) (news (notice-in kind (now (place .entry)))) x (places-of kind (now (region .entry)))) (r .at) (now (out .exit)) × (r .taken ≡ takes (room-of kind) (subscription-of kind x (places-of kind (now (region .entry))))) ⌝ }
+    ensures { λ r. ⌜ (r .at ≤ at + copy-most (kind-at kind)) × Moved kind (now (region .entry)) (now (region .exit)) × Deals kind (news (notice-in kind (now (place .entry)))) x (places-of kind (now (region .entry))) (r .next) (places-of kind (now (region .exit))) × Put (now (out .entry)) at (dealt-bytes kind s (settings-of (now (settings .entry))) (news (notice-in kind (now (place .entry)))) x (places-of kind (now (region .entry)))) (r .at) (now (out .exit)) × (r .taken ≡ takes (room-of kind) (subscription-of kind x (places-of kind (now (region .entry))))) ⌝ }
 {
     if kind == message::IDENTIFIERS {
         return notices::take(&mut region[80..130], out, at, s, kind, x, settings, place);
@@ -150,8 +154,8 @@ fn tick_kinds(
     settings: &[u8],
     x: Session,
 ) -> usize
-    requires { ⌜ (at + 472 ≤ length (now out)) × (s < 256) × (length (now settings) ≡ 33) × Good (now region) × Storable x ⌝ }
-    ensures { λ r. ⌜ (r ≤ at + 472) × Steps s (dealt (settings-of (now (settings .entry))) (x .idle) (run-of (run-area (now (region .entry)))) (λ kind. beats) (subscriptions-of x (now (region .entry)))) (now (region .exit)) (now (out .entry)) at r (now (out .exit)) ⌝ }
+    requires { ⌜ (at + copies-most kinds ≤ length (now out)) × (s < 256) × (length (now settings) ≡ 33) × Good (now region) × Storable x ⌝ }
+    ensures { λ r. ⌜ (r ≤ at + copies-most kinds) × Steps s (dealt (settings-of (now (settings .entry))) (x .idle) (run-of (run-area (now (region .entry)))) (λ kind. beats) (subscriptions-of x (now (region .entry)))) (now (region .exit)) (now (out .entry)) at r (now (out .exit)) ⌝ }
 {
     let i = x.identifiers;
     let i = tick_kind(region, out, at, s, message::IDENTIFIERS, i, settings);
@@ -180,8 +184,8 @@ fn tick_stays(
     settings: &[u8],
     x: Session,
 ) -> usize
-    requires { ⌜ (at + 472 ≤ length (now out)) × (s < 256) × (length (now settings) ≡ 33) × Good (now region) × Storable x ⌝ }
-    ensures { λ r. ⌜ (r ≤ at + 472) × Steps s (tick-goes-on (settings-of (now (settings .entry))) (run-of (run-area (now (region .entry)))) (notices-in identifiers (x .identifiers .held) (identifiers-area (now (region .entry)))) (notices-in tightenings (x .tightenings .held) (tightenings-area (now (region .entry)))) (x .phase) x) (now (region .exit)) (now (out .entry)) at r (now (out .exit)) ⌝ }
+    requires { ⌜ (at + copies-most kinds ≤ length (now out)) × (s < 256) × (length (now settings) ≡ 33) × Good (now region) × Storable x ⌝ }
+    ensures { λ r. ⌜ (r ≤ at + copies-most kinds) × Steps s (tick-goes-on (settings-of (now (settings .entry))) (run-of (run-area (now (region .entry)))) (notices-in identifiers (x .identifiers .held) (identifiers-area (now (region .entry)))) (notices-in tightenings (x .tightenings .held) (tightenings-area (now (region .entry)))) (x .phase) x) (now (region .exit)) (now (out .entry)) at r (now (out .exit)) ⌝ }
 {
     let phase = x.phase;
     match phase {
@@ -199,8 +203,8 @@ fn tick_stays(
 
 // A tick to session s.
 pub fn tick(region: &mut [u8], out: &mut [u8], at: usize, s: u64, settings: &[u8]) -> usize
-    requires { ⌜ (at + 472 ≤ length (now out)) × (s < 256) × (length (now settings) ≡ 33) × Good (now region) ⌝ }
-    ensures { λ r. ⌜ (r ≤ at + 472) × Steps s (step (settings-of (now (settings .entry))) one-tick (session-of (now (region .entry)))) (now (region .exit)) (now (out .entry)) at r (now (out .exit)) ⌝ }
+    requires { ⌜ (at + copies-most kinds ≤ length (now out)) × (s < 256) × (length (now settings) ≡ 33) × Good (now region) ⌝ }
+    ensures { λ r. ⌜ (r ≤ at + copies-most kinds) × Steps s (step (shared-begun (settings-of (now (settings .entry))) 0) one-tick (session-of (now (region .entry)))) (now (region .exit)) (now (out .entry)) at r (now (out .exit)) ⌝ }
 {
     let x = load(region);
     let idling = session::idled(x);
@@ -264,8 +268,8 @@ fn happened(
     kind: usize,
     place: &[u8],
 ) -> Told
-    requires { ⌜ (at + 236 ≤ length (now out)) × (s < 256) × (length (now settings) ≡ 33) × Good (now region) × Storable x × (x .phase ≡ Phase.Started) × (kind < 2) × (length (now place) ≡ place-size kind) ⌝ }
-    ensures { λ r. ⌜ (r .at ≤ at + 236) × Steps s (dealt (settings-of (now (settings .entry))) (x .idle) (run-of (run-area (now (region .entry)))) (only kind (news (notice-in kind (now (place .entry))))) (subscriptions-of x (now (region .entry)))) (now (region .exit)) (now (out .entry)) at (r .at) (now (out .exit)) × (r .taken ≡ takes (room-of kind) (subscription-of kind (subscription-at x kind) (places-of kind (now (region .entry))))) ⌝ }
+    requires { ⌜ (at + copy-most (kind-at kind) ≤ length (now out)) × (s < 256) × (length (now settings) ≡ 33) × Good (now region) × Storable x × (x .phase ≡ Phase.Started) × (kind < length kinds) × (length (now place) ≡ place-size kind) ⌝ }
+    ensures { λ r. ⌜ (r .at ≤ at + copy-most (kind-at kind)) × Steps s (dealt (settings-of (now (settings .entry))) (x .idle) (run-of (run-area (now (region .entry)))) (only kind (news (notice-in kind (now (place .entry))))) (subscriptions-of x (now (region .entry)))) (now (region .exit)) (now (out .entry)) at (r .at) (now (out .exit)) × (r .taken ≡ takes (room-of kind) (subscription-of kind (subscription-at x kind) (places-of kind (now (region .entry))))) ⌝ }
 {
     let sub = session::subscription_of(x, kind);
     let t = take_kind(region, out, at, s, kind, sub, settings, place);
@@ -287,8 +291,8 @@ pub fn event(
     kind: usize,
     place: &[u8],
 ) -> Told
-    requires { ⌜ (at + 236 ≤ length (now out)) × (s < 256) × (length (now settings) ≡ 33) × Good (now region) × (kind < 2) × (length (now place) ≡ place-size kind) ⌝ }
-    ensures { λ r. ⌜ (r .at ≤ at + 236) × Steps s (step (settings-of (now (settings .entry))) (event-of (notice-in kind (now (place .entry)))) (session-of (now (region .entry)))) (now (region .exit)) (now (out .entry)) at (r .at) (now (out .exit)) × (r .taken ≡ takes-event kind (session-of (now (region .entry)))) ⌝ }
+    requires { ⌜ (at + copy-most (kind-at kind) ≤ length (now out)) × (s < 256) × (length (now settings) ≡ 33) × Good (now region) × (kind < length kinds) × (length (now place) ≡ place-size kind) ⌝ }
+    ensures { λ r. ⌜ (r .at ≤ at + copy-most (kind-at kind)) × Steps s (step (shared-begun (settings-of (now (settings .entry))) 0) (event-of (event-in kind (now (place .entry)))) (session-of (now (region .entry)))) (now (region .exit)) (now (out .entry)) at (r .at) (now (out .exit)) × (r .taken ≡ takes-event kind (session-of (now (region .entry)))) ⌝ }
 {
     let x = load(region);
     let phase = x.phase;
@@ -304,9 +308,9 @@ pub fn event(
 // 01, "What a message does": the reply to session s, if the decision has one. The run is the one that was decided on: the header of a
 // 9999 goes back as it came.
 fn reply(out: &mut [u8], at: usize, s: u64, settings: &[u8], run: &[u8], d: Decision) -> usize
-    requires { ⌜ (at + 62 ≤ length (now out)) × (s < 256) × (length (now settings) ≡ 33)
+    requires { ⌜ (at + reply-most ≤ length (now out)) × (s < 256) × (length (now settings) ≡ 33)
         × (d ≡ Decision.Mirror → header-length ≤ length (now run)) ⌝ }
-    ensures { λ r. ⌜ (r ≤ at + 62) × Put (now (out .entry)) at (out-bytes s (replies (settings-of (now (settings .entry)))
+    ensures { λ r. ⌜ (r ≤ at + reply-most) × Put (now (out .entry)) at (out-bytes s (replies (settings-of (now (settings .entry)))
         (take header-length (now (run .entry))) d)) r (now (out .exit)) ⌝ }
 {
     match d {
@@ -338,8 +342,8 @@ fn acknowledged(
     x: Session,
     kind: usize,
 ) -> usize
-    requires { ⌜ (at + 236 ≤ length (now out)) × (s < 256) × (length (now settings) ≡ 33) × Good (now region) × Storable x × (x .phase ≡ Phase.Started) × (kind < 2) ⌝ }
-    ensures { λ r. ⌜ (r ≤ at + 236) × Steps s (dealt (settings-of (now (settings .entry))) (x .idle) (run-of (run-area (now (region .entry)))) (only kind acks) (subscriptions-of x (now (region .entry)))) (now (region .exit)) (now (out .entry)) at r (now (out .exit)) ⌝ }
+    requires { ⌜ (at + copy-most (kind-at kind) ≤ length (now out)) × (s < 256) × (length (now settings) ≡ 33) × Good (now region) × Storable x × (x .phase ≡ Phase.Started) × (kind < length kinds) ⌝ }
+    ensures { λ r. ⌜ (r ≤ at + copy-most (kind-at kind)) × Steps s (dealt (settings-of (now (settings .entry))) (x .idle) (run-of (run-area (now (region .entry)))) (only kind acks) (subscriptions-of x (now (region .entry)))) (now (region .exit)) (now (out .entry)) at r (now (out .exit)) ⌝ }
 {
     let sub = session::subscription_of(x, kind);
     let t = acknowledge_kind(region, out, at, s, kind, sub, settings);
@@ -358,9 +362,9 @@ fn carry_out(
     x: Session,
     d: Decision,
 ) -> usize
-    requires { ⌜ (at + 236 ≤ length (now out)) × (s < 256) × (length (now settings) ≡ 33) × Good (now region) ⌝ }
+    requires { ⌜ (at + copies-most kinds ≤ length (now out)) × (s < 256) × (length (now settings) ≡ 33) × Good (now region) ⌝ }
     requires { ⌜ Storable x × Storable (after-so x d) × AcknowledgedIn (x .phase) d ⌝ }
-    ensures { λ r. ⌜ (r ≤ at + 236) × Steps s (carried-out (settings-of (now (settings .entry))) x (notices-in identifiers (x .identifiers .held) (identifiers-area (now (region .entry)))) (notices-in tightenings (x .tightenings .held) (tightenings-area (now (region .entry)))) d) (now (region .exit)) (now (out .entry)) at r (now (out .exit)) ⌝ }
+    ensures { λ r. ⌜ (r ≤ at + copies-most kinds) × Steps s (carried-out (settings-of (now (settings .entry))) x (notices-in identifiers (x .identifiers .held) (identifiers-area (now (region .entry)))) (notices-in tightenings (x .tightenings .held) (tightenings-area (now (region .entry)))) d) (now (region .exit)) (now (out .entry)) at r (now (out .exit)) ⌝ }
 {
     clear_run(region);
     let Decision::Acknowledge { kind } = d else {
@@ -409,7 +413,7 @@ fn rule(
     count: usize,
     place: &mut [u8],
 ) -> Ruling
-    requires { ⌜ (at + 62 ≤ length (now out)) × (s < 256) × (length (now settings) ≡ 33) × (length (now run) ≤ run-kept)
+    requires { ⌜ (at + reply-most ≤ length (now out)) × (s < 256) × (length (now settings) ≡ 33) × (length (now run) ≤ run-kept)
         × (length (now place) ≡ 25) ⌝ }
     ensures { λ r. ⌜ Ruled s (settings-of (now (settings .entry))) x (record { kept = now (run .entry); count = count }) (now (out .entry)) at (now (place .entry)) (r .decision) (r .at) (r .identified) (now (out .exit)) (now (place .exit)) ⌝ }
 {
@@ -434,7 +438,7 @@ fn rule_kept(
     x: Session,
     place: &mut [u8],
 ) -> Ruling
-    requires { ⌜ (at + 62 ≤ length (now out)) × (s < 256) × (length (now settings) ≡ 33) × Good (now region) × (length (now place) ≡ 25) ⌝ }
+    requires { ⌜ (at + reply-most ≤ length (now out)) × (s < 256) × (length (now settings) ≡ 33) × Good (now region) × (length (now place) ≡ 25) ⌝ }
     ensures { λ r. ⌜ Ruled s (settings-of (now (settings .entry))) x (run-of (run-area (now (region .entry)))) (now (out .entry)) at (now (place .entry)) (r .decision) (r .at) (r .identified) (now (out .exit)) (now (place .exit)) ⌝ }
 {
     let area = &region[32..80];
@@ -466,7 +470,7 @@ fn end_whole(
     bytes: &[u8],
     place: &mut [u8],
 ) -> Received
-    requires { ⌜ (at + 298 ≤ length (now out)) × (s < 256) × (length (now settings) ≡ 33) × Good (now region) × (length (now place) ≡ 25) × (run-of (run-area (now region)) ≡ empty-run) ⌝ }
+    requires { ⌜ (at + session-most ≤ length (now out)) × (s < 256) × (length (now settings) ≡ 33) × Good (now region) × (length (now place) ≡ 25) × (run-of (run-area (now region)) ≡ empty-run) ⌝ }
     ensures { λ r. ⌜ Hears s (settings-of (now (settings .entry))) (ending (now (bytes .entry))) (now (region .entry)) (now (out .entry)) at (now (place .entry)) (r .at) (r .identified) (now (region .exit)) (now (out .exit)) (now (place .exit)) ⌝ }
 {
     let x = load(region);
@@ -498,7 +502,7 @@ fn end_kept(
     bytes: &[u8],
     place: &mut [u8],
 ) -> Received
-    requires { ⌜ (at + 298 ≤ length (now out)) × (s < 256) × (length (now settings) ≡ 33) × Good (now region) × (length (now place) ≡ 25) ⌝ }
+    requires { ⌜ (at + session-most ≤ length (now out)) × (s < 256) × (length (now settings) ≡ 33) × Good (now region) × (length (now place) ≡ 25) ⌝ }
     ensures { λ r. ⌜ Hears s (settings-of (now (settings .entry))) (ending (now (bytes .entry))) (now (region .entry)) (now (out .entry)) at (now (place .entry)) (r .at) (r .identified) (now (region .exit)) (now (out .exit)) (now (place .exit)) ⌝ }
 {
     lengthen(region, bytes);
@@ -522,7 +526,7 @@ fn end_run(
     bytes: &[u8],
     place: &mut [u8],
 ) -> Received
-    requires { ⌜ (at + 298 ≤ length (now out)) × (s < 256) × (length (now settings) ≡ 33) × Good (now region) × (length (now place) ≡ 25) ⌝ }
+    requires { ⌜ (at + session-most ≤ length (now out)) × (s < 256) × (length (now settings) ≡ 33) × Good (now region) × (length (now place) ≡ 25) ⌝ }
     ensures { λ r. ⌜ Hears s (settings-of (now (settings .entry))) (ending (now (bytes .entry))) (now (region .entry)) (now (out .entry)) at (now (place .entry)) (r .at) (r .identified) (now (region .exit)) (now (out .exit)) (now (place .exit)) ⌝ }
 {
     if run::count(&region[32..80]) == 0 {
@@ -542,7 +546,7 @@ pub fn receive(
     end: usize,
     place: &mut [u8],
 ) -> Received
-    requires { ⌜ (at + 298 ≤ length (now out)) × (s < 256) × (length (now settings) ≡ 33) × Good (now region)
+    requires { ⌜ (at + session-most ≤ length (now out)) × (s < 256) × (length (now settings) ≡ 33) × Good (now region)
         × (length (now place) ≡ 25) × Ends (now bytes) end ⌝ }
     ensures { λ r. ⌜ Hears s (settings-of (now (settings .entry))) (cut (now (bytes .entry))) (now (region .entry)) (now (out .entry)) at (now (place .entry)) (r .at) (r .identified) (now (region .exit)) (now (out .exit)) (now (place .exit)) ⌝ }
 {

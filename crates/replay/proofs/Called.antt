@@ -9,27 +9,29 @@ use mathlib.Core.Option.{Option, none, some}
 use lib.Dec.{leb, ltb, eqb}
 use lib.ListN.{length, take, length-map}
 use borrow.Author.Tests.{eq-eqb, ne-eqb, eqb-true}
-use Rattle.model.specs.Limits.{table-least, output-least}
+use Rattle.model.specs.Limits.{session-count, table-least, output-least}
 use Rattle.model.specs.Records.{Settings, read-settings}
 use Rattle.model.specs.Session.{Session, Emission}
 use Rattle.model.specs.Row.{Tagged}
 use Rattle.model.specs.World.{World, uncounted, emits, begins, after, emitted}
 use Rattle.model.specs.Calls.{Call, start, open-session, hang-up-session, bytes, one-tick, tool}
-use Rattle.model.specs.Calls.{Lent, settled, output, refusal, answered, step}
+use Rattle.model.specs.Calls.{Lent, output, refusal, answered, step}
 use Rattle.model.specs.Calls as model
-use Rattle.model.specs.Program.{State, is-start, lent, called, lines-of, printed}
-use Rattle.model.proofs.Erase.{erase-session, erase-world}
+use Rattle.model.specs.Program.{State, lent, called, lines-of, printed}
+use Rattle.model.proofs.Sessions.{begins-begun}
+use Rattle.model.specs.Erased.{erase-world}
 use Rattle.table.specs.Table.{decode, table-formed, Table}
+use Rattle.table.proofs.Regions.{so-many-sessions}
 use Rattle.refusal.specs.Numbers as numbers
 use Rattle.controller.specs.declared.Answer.{Answer}
 use Rattle.controller.specs.Contract.{Said, said, model-answer, Outcome}
 use Rattle.controller.proofs.Calls.{start-silent}
-use Rattle.controller.proofs.Outputs.{Below, stands, step-below}
+use Rattle.controller.proofs.Outputs.{Below, stands, step-below, step-many}
 use Rattle.controller.proofs.Traces.{table-left}
 use Rattle.controller.proofs.Modelled.{lending, one-call}
 use Rattle.replay.specs.Lines.{text-of}
 use Rattle.replay.specs.States.{Means, Behind, Follows}
-use Rattle.replay.proofs.Told.{four-sessions, told-as}
+use Rattle.replay.proofs.Told.{told-as}
 
 -- ==== before a start: what a table that is not well formed would mean does not matter
 
@@ -40,23 +42,21 @@ with-formed b = record { table = table-least; well-formed = b; output = output-l
 record Regardless (c : Call) (q p : Said) : Type 0 where
   pub answer : q .1 ≡ p .1
   pub silent : (q .2 ≡ []) × (p .2 ≡ [])
-  pub starts : p .1 .number ≡ 0 → is-start c ≡ true
   pub world : p .1 .number ≡ 0 → uncounted (q .0) ≡ erase-world (p .0)
 
 -- the answer of a start that is done and has these go out
 abbrev start-answer : List (Tagged Emission) → model.Answer
 start-answer es = record { number = 0; consumed = 0; written = length (output es); taken = 0 }
 
-module _ (v w : World) where
+module _ (v w : World) (here : length (v .sessions) ≡ session-count) (there : length (w .sessions) ≡ session-count) where
   refused-both : (c : Call) (n : ℕ) → Regardless c (answered v c (suc n)) (answered w c (suc n))
   refused-both c n = record {
     answer = refl;
     silent = (refl, refl);
-    starts = λ k. absurd (omega arith);
     world = λ k. absurd (omega arith);
   }
 
-  begun-silent : (x : World) (st : Settings) → emitted x (settled (some st)) ≡ []
+  begun-silent : (x : World) (st : Settings) → emitted x (begins st ∷ []) ≡ []
   begun-silent x st = ap (λ (es : List (Tagged Emission)). es ++ []) (start-silent x st)
 
   started : (slice : List ℕ) (o : Option Settings) (n : ℕ) → read-settings slice ≡ o → n ≡ cond (model.is-none o) 9 0
@@ -68,8 +68,7 @@ module _ (v w : World) where
       rw e (record {
         answer = ap start-answer (a ∙ sym b);
         silent = (a, b);
-        starts = λ k. refl;
-        world = λ k. refl;
+        world = λ k. ap uncounted (begins-begun v st here) ∙ sym (ap erase-world (begins-begun w st there));
       })
   started slice o (suc n) e z = refused-both (start slice) n
 
@@ -88,53 +87,45 @@ module _ (v w : World) where
 record As (c : Call) (b : Bool) (q : Said) (r : Answer) (t′ o′ : List ℕ) : Type 0 where
   pub answer : model-answer r ≡ q .1
   pub bytes : take (r .written) o′ ≡ output (q .2)
-  pub below : Below 4 (q .2)
-  pub formed : table-formed t′ ≡ (b || (is-start c && eqb (q .1 .number) 0))
-  pub world : (b || (is-start c && eqb (q .1 .number) 0)) ≡ true → decode t′ ≡ erase-world (q .0)
-
-and-false : (a b : Bool) → b ≡ false → (a && b) ≡ false
-and-false true b e = e
-and-false false b e = refl
+  pub below : Below session-count (q .2)
+  pub formed : table-formed t′ ≡ (b || eqb (q .1 .number) 0)
+  pub world : (b || eqb (q .1 .number) 0) ≡ true → decode t′ ≡ erase-world (q .0)
 
 module _ {c : Call} {t o : List ℕ} {r : Answer} {t′ o′ : List ℕ} (out : Outcome c t o r t′ o′)
-    (size : length t ≡ table-least) (room : length o ≡ output-least) (w : World) where
+    (size : length t ≡ table-least) (room : length o ≡ output-least) (w : World) (many : length (w .sessions) ≡ session-count) where
   as-formed : table-formed t ≡ true → decode t ≡ erase-world w → As c true (step (with-formed true) w c) r t′ o′
   as-formed f e =
       let h : Table t = record { size = omega arith; formed = f } in
       let k = one-call w h e out in
       let same : step (lending (length t) (length o)) w c ≡ step (with-formed true) w c =
       ap₂ (λ (m n : ℕ). step (lending m n) w c) size room in
-      let four : length (w .sessions) ≡ 4 =
-      sym (length-map (w .sessions) erase-session) ∙ ap (λ (v : World). length (v .sessions)) (sym e) ∙ four-sessions t in
       record {
         answer = k .answer ∙ ap (λ (x : Said). x .1) same;
         bytes = k .bytes ∙ ap (λ (x : Said). output (x .2)) same;
-        below = step-below (with-formed true) w c four;
+        below = step-below session-count (with-formed true) w c many;
         formed = table-left h out .formed;
         world = λ z. k .world ∙ ap (λ (x : Said). erase-world (x .0)) same;
       }
 
-  formed-after : (k : ℕ) → r .number ≡ k → (k ≡ 0 → is-start c ≡ true) → table-formed t ≡ false → table-formed t′ ≡ (is-start c && eqb k 0)
-  formed-after zero e s f = out .formed e ∙ sym (ap (λ (b : Bool). b && true) (s refl))
-  formed-after (suc k) e s f =
-      ap table-formed (out .kept (λ (z : r .number ≡ 0). omega arith)) ∙ f
-      ∙ sym (and-false (is-start c) (eqb (suc k) 0) (ne-eqb (suc k) 0 (λ (z : suc k ≡ 0). omega arith)))
+  formed-after : (k : ℕ) → r .number ≡ k → table-formed t ≡ false → table-formed t′ ≡ eqb k 0
+  formed-after zero e f = out .formed e
+  formed-after (suc k) e f = ap table-formed (out .kept (λ (z : r .number ≡ 0). omega arith)) ∙ f ∙ sym (ne-eqb (suc k) 0 (λ (z : suc k ≡ 0). omega arith))
 
   as-unformed : table-formed t ≡ false → As c false (step (with-formed false) w c) r t′ o′
   as-unformed f =
       let q = step (with-formed false) w c in
-      let g = regardless (decode t) w c in
+      let g = regardless (decode t) w (so-many-sessions t) many c in
       let lends : numbers.lent t (length o) ≡ with-formed false = λ i. record { table = size i; well-formed = f i; output = room i } in
       let same : said c t o ≡ step (with-formed false) (decode t) c = ap (λ (l : Lent). step l (decode t) c) lends in
       let answer : model-answer r ≡ q .1 = ap model-answer (out .answer) ∙ ap (λ (x : Said). x .1) same ∙ g .answer in
       record {
         answer = answer;
         bytes = stands out .records ∙ ap (λ (x : Said). output (x .2)) same ∙ ap output (g .silent .0 ∙ sym (g .silent .1));
-        below = subst (Below 4) (sym (g .silent .1)) tt;
-        formed = formed-after (q .1 .number) (ap (λ (a : model.Answer). a .number) answer) (g .starts) f;
+        below = subst (Below session-count) (sym (g .silent .1)) tt;
+        formed = formed-after (q .1 .number) (ap (λ (a : model.Answer). a .number) answer) f;
         world = λ z.
             out .meaning ∙ ap (λ (x : Said). uncounted (x .0)) same
-            ∙ g .world (eqb-true _ _ (and-eq-true-iff (is-start c) (eqb (q .1 .number) 0) .0 z .1));
+            ∙ g .world (eqb-true (q .1 .number) 0 z);
       }
 
   as-called : (b : Bool) → table-formed t ≡ b → (b ≡ true → decode t ≡ erase-world w) → As c b (step (with-formed b) w c) r t′ o′
@@ -151,7 +142,7 @@ printed-append (l ∷ a) b =
 module _ {c : Call} {t o : List ℕ} {r : Answer} {t′ o′ : List ℕ} (out : Outcome c t o r t′ o′)
     (size : length t ≡ table-least) (room : length o ≡ output-least) where
   as-state : (x : State) → Means t x → As c (x .formed) (step (lent x) (x .world) c) r t′ o′
-  as-state x m = as-called out size room (x .world) (x .formed) (m .formed) (m .world)
+  as-state x m = as-called out size room (x .world) (m .sessions) (x .formed) (m .formed) (m .world)
 
   pub called-answer : (x : State) → Means t x → model-answer r ≡ (step (lent x) (x .world) c) .1
   called-answer x m = as-state x m .answer
@@ -162,7 +153,9 @@ module _ {c : Call} {t o : List ℕ} {r : Answer} {t′ o′ : List ℕ} (out : 
   called-follows b = record {
     new = text-of r o′;
     leads = record {
-      state = λ x m. let k = as-state x m in record { formed = k .formed; world = k .world };
+      state = λ x m.
+          let k = as-state x m in
+          record { sessions = step-many session-count (lent x) (x .world) c (m .sessions); formed = k .formed; world = k .world };
       lines = λ x m.
           let k = as-state x m in
           let q = step (lent x) (x .world) c in

@@ -9,7 +9,7 @@ use lib.Dec.{leb}
 use lib.ListN.{length, take, drop, replicate, length-append, length-drop}
 use lib.Seq.{sets, length-take-le, take-add, take-take, take-append-le, drop-append-le, drop-drop}
 use borrow.Author.Tests.{leb-true}
-use Rattle.model.specs.Limits.{payload-longest}
+use Rattle.model.specs.Limits.{table-least, payload-longest}
 use Rattle.model.specs.Bytes.{little, places}
 use Rattle.model.specs.Program.{State, zeros, given, all-given, program, printed}
 use Rattle.text.proofs.Lists.{take-sets, drop-take}
@@ -199,10 +199,10 @@ turned-cut {w = w} p = ap whole-size (p .left) ∙ split (w ++ p .read) [] .cut
 -- ==== the whole program
 
 -- a table of zeros is not well formed
-zeros-mean : Means (replicate 16_384 0) zeros
+zeros-mean : Means (replicate table-least 0) zeros
 unfolding table-formed shared-formed
-zeros-mean = record { formed = refl; world = λ (e : false ≡ true). absurd (let z : _≡_ {A = ℕ} 0 1 = cc in omega arith) }
+zeros-mean = record { sessions = refl; formed = refl; world = λ (e : false ≡ true). absurd (let z : _≡_ {A = ℕ} 0 1 = cc in omega arith) }
 
 -- THE PROGRAM: what a run that begins with zeros writes out is what the model's program prints of what the run read
-pub program-printed : {t′ : List ℕ} (r : Ran (replicate 16_384 0) t′) → r .turned .written ≡ printed (program (r .turned .read))
+pub program-printed : {t′ : List ℕ} (r : Ran (replicate table-least 0) t′) → r .turned .written ≡ printed (program (r .turned .read))
 program-printed r = sym (r .turned .leads .lines zeros zeros-mean)

@@ -10,7 +10,7 @@ use lib.Seq.{length-take-le, drop-drop}
 use borrow.Author.Tests.{ne-eqb, lt-leb}
 use Rattle.model.specs.Bytes.{within, little, places}
 use Rattle.model.specs.Calls.{Call, start, open-session, hang-up-session, bytes, one-tick, tool}
-use Rattle.model.specs.Program.{State, called, fed, call-of, made, given, all-given}
+use Rattle.model.specs.Program.{State, called, fed, call-of, given, all-given}
 use Rattle.replay.specs.Whole.{whole-size, records, waits}
 use Rattle.replay.specs.States.{Follows}
 use Rattle.replay.proofs.Sizes.{slices-first, slices-none}
@@ -19,39 +19,20 @@ use Rattle.replay.proofs.Turns.{at-least}
 
 -- ==== one record
 
-above : (least greatest n : ℕ) → greatest < n → within least greatest n ≡ false
-above least greatest n h = go (leb least n) (lt-leb n greatest h)
-  where
-    go : (b : Bool) → leb n greatest ≡ false → (b && leb n greatest) ≡ false
-    go true e = e
-    go false e = refl
-
 module _ (x : State) (slice : List ℕ) (kind : ℕ) (k : kind ≡ little (places 3 4 slice)) where
+  -- a record of that kind: received bytes, or another call
+  abbrev by-kind : Bool → ℕ → State
+  by-kind b n =
+      elim b [ true ↦ fed (suc (length (drop 4 slice))) x (n - 48) (drop 4 slice) | false ↦ called x (call-of n slice) ]
+
+  as-given : (b : Bool) → within 48 63 kind ≡ b → by-kind b kind ≡ given x slice
+  as-given b e = ap (λ (c : Bool). by-kind c kind) (sym e) ∙ ap (λ (n : ℕ). by-kind (within 48 63 n) n) k
+
   pub given-bytes : (bs : List ℕ) → within 48 63 kind ≡ true → bs ≡ drop 4 slice → fed (suc (length bs)) x (kind - 48) bs ≡ given x slice
-  given-bytes bs e d =
-      let h = at-least 48 63 kind e in
-      let c : bytes (kind - 48) (drop 4 slice) ≡ call-of kind slice =
-      rw (ne-eqb kind 3 (λ (z : kind ≡ 3). omega arith), above 16 31 kind (omega arith), above 32 47 kind (omega arith), e) in
-      ap (λ (l : List ℕ). made x (bytes (kind - 48) l)) d ∙ ap (made x) c ∙ ap (λ (n : ℕ). made x (call-of n slice)) k
+  given-bytes bs e d = ap (λ (l : List ℕ). fed (suc (length l)) x (kind - 48) l) d ∙ as-given true e
 
   pub given-call : within 48 63 kind ≡ false → called x (call-of kind slice) ≡ given x slice
-  given-call e =
-      go (eqb kind 3) (within 16 31 kind) (within 32 47 kind) (within 48 63 kind) (eqb kind 64) e
-      ∙ ap (λ (n : ℕ). made x (call-of n slice)) k
-    where
-      a-call : Bool → Bool → Bool → Bool → Bool → Call
-      a-call a b c d f =
-          cond a (start slice)
-          (cond b (open-session (kind - 16))
-          (cond c (hang-up-session (kind - 32)) (cond d (bytes (kind - 48) (drop 4 slice)) (cond f one-tick (tool slice)))))
-
-      go : (a b c d f : Bool) → d ≡ false → called x (a-call a b c d f) ≡ made x (a-call a b c d f)
-      go true b c d f z = refl
-      go false true c d f z = refl
-      go false false true d f z = refl
-      go false false false false true z = refl
-      go false false false false false z = refl
-      go false false false true f z = absurd (let q : _≡_ {A = ℕ} 0 1 = cc in omega arith)
+  given-call e = as-given false e
 
 -- ==== the records of an input
 

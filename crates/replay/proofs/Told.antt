@@ -8,6 +8,7 @@ use lib.Dec.{eqb}
 use lib.ListN.{length, take, drop, length-append, length-take}
 use lib.Seq.{take-at, drop-at}
 use borrow.Author.Tests.{ne-eqb}
+use Rattle.model.specs.Limits.{session-count, output-least}
 use Rattle.model.specs.Bytes.{NUL, space, digits, in-bytes, little, places}
 use Rattle.model.specs.Frames.{frame-record, close-record}
 use Rattle.model.specs.Records.{house-record}
@@ -16,8 +17,8 @@ use Rattle.model.specs.Calls.{Call, output-record, output, step}
 use Rattle.model.specs.Calls as model
 use Rattle.model.specs.Row.{Tagged, said}
 use Rattle.model.specs.Program.{shown, line-of, lines-of, slices, printed}
-use Rattle.text.proofs.Cells.{length-cells}
 use Rattle.table.specs.Table.{decode}
+use Rattle.table.proofs.Regions.{so-many-sessions}
 use Rattle.refusal.specs.Numbers.{number}
 use Rattle.controller.specs.declared.Answer.{Answer}
 use Rattle.controller.specs.Contract.{Said, model-answer, Outcome}
@@ -27,21 +28,17 @@ use Rattle.replay.specs.Lines.{line-in, lines-in, text-of}
 use Rattle.replay.specs.Whole.{whole-size}
 use Rattle.replay.proofs.Sizes.{size-whole, slices-first}
 
-pub four-sessions : (t : List ℕ) → length ((decode t) .sessions) ≡ 4
-unfolding decode
-four-sessions t = length-cells _ 1_024 4 (drop 1_024 t)
-
 -- ==== a record, and more behind it
 
 record-length : (kind : ℕ) (payload : List ℕ) → length (house-record kind payload) ≡ 4 + length payload
 unfolding in-bytes
 record-length kind payload = omega arith
 
-announced : (kind : ℕ) (payload more : List ℕ) → length payload ≤ 2_048 → little (places 1 2 (house-record kind payload ++ more)) ≡ length payload
+announced : (kind : ℕ) (payload more : List ℕ) → length payload ≤ output-least → little (places 1 2 (house-record kind payload ++ more)) ≡ length payload
 unfolding in-bytes
 announced kind payload more few = omega arith
 
-record-size : (kind : ℕ) (payload more : List ℕ) → length (house-record kind payload) ≤ 2_048 → length (house-record kind payload) ≡ whole-size (house-record kind payload ++ more)
+record-size : (kind : ℕ) (payload more : List ℕ) → length (house-record kind payload) ≤ output-least → length (house-record kind payload) ≡ whole-size (house-record kind payload ++ more)
 record-size kind payload more few =
     let b = record-length kind payload in
     let n = announced kind payload more (omega arith) in
@@ -65,11 +62,11 @@ frame-body : (s : ℕ) (frame : List ℕ) → take (length (frame-record s frame
 unfolding frame-record in-bytes
 frame-body s frame = let n = frame-length s frame in take-at frame (NUL ∷ []) (length (frame-record s frame) - 5) (omega arith)
 
-frame-session : (s : ℕ) (frame : List ℕ) → s < 4 → digits 1 (little (places 3 3 (frame-record s frame))) ≡ digits 1 s
+frame-session : (s : ℕ) (frame : List ℕ) → s < session-count → digits 1 (little (places 3 3 (frame-record s frame))) ≡ digits 1 s
 unfolding frame-record
 frame-session s frame h = session-in s (256 + s) (frame ++ NUL ∷ []) (omega arith)
 
-frame-line : (s : ℕ) (frame : List ℕ) → s < 4 → line-in (frame-record s frame) ≡ digits 1 s ++ (space ∷ 0x53 ∷ space ∷ []) ++ shown frame
+frame-line : (s : ℕ) (frame : List ℕ) → s < session-count → line-in (frame-record s frame) ≡ digits 1 s ++ (space ∷ 0x53 ∷ space ∷ []) ++ shown frame
 unfolding line-in digits
 frame-line s frame h =
     let r = frame-record s frame in
@@ -81,7 +78,7 @@ frame-line s frame h =
     ∙ ap (λ (l : List ℕ). d ++ sending ++ shown l) (frame-body s frame)
     ∙ ap (λ (x : List ℕ). x ++ sending ++ shown frame) (frame-session s frame h)
 
-close-line : (s : ℕ) → s < 4 → line-in (close-record s) ≡ digits 1 s ++ space ∷ 0x43 ∷ []
+close-line : (s : ℕ) → s < session-count → line-in (close-record s) ≡ digits 1 s ++ space ∷ 0x43 ∷ []
 unfolding line-in close-record in-bytes
 close-line s h = ap (λ (d : List ℕ). d ++ space ∷ 0x43 ∷ []) (session-in s (512 + s) [] (omega arith))
 
@@ -89,12 +86,12 @@ module _ (s : ℕ) where
   abbrev to-session : Emission → Tagged Emission
   to-session e = record { who = s; what = e }
 
-  record-line : (e : Emission) → s < 4 → line-in (output-record (to-session e)) ≡ line-of (to-session e)
+  record-line : (e : Emission) → s < session-count → line-in (output-record (to-session e)) ≡ line-of (to-session e)
   record-line (reply frame) h = frame-line s frame h
   record-line (copy c) h = frame-line s (c .what .frame) h
   record-line close h = close-line s h
 
-  record-first : (e : Emission) (more : List ℕ) → length (output-record (to-session e)) ≤ 2_048
+  record-first : (e : Emission) (more : List ℕ) → length (output-record (to-session e)) ≤ output-least
       → length (output-record (to-session e)) ≡ whole-size (output-record (to-session e) ++ more)
   unfolding frame-record close-record
   record-first (reply frame) more h = record-size (256 + s) (frame ++ NUL ∷ []) more h
@@ -109,7 +106,7 @@ module _ (s : ℕ) where
 
 -- ==== all of them
 
-lines-in-output : (es : List (Tagged Emission)) → Below 4 es → length (output es) ≤ 2_048 → lines-in (output es) ≡ map line-of es
+lines-in-output : (es : List (Tagged Emission)) → Below session-count es → length (output es) ≤ output-least → lines-in (output es) ≡ map line-of es
 unfolding lines-in
 lines-in-output [] p h = refl
 lines-in-output (x ∷ xs) p h =
@@ -125,7 +122,7 @@ lines-in-output (x ∷ xs) p h =
 
 -- what is printed for a call that answers and writes as the model says
 pub told-as : (q : Said) (r : Answer) (o′ : List ℕ)
-    → model-answer r ≡ q .1 → take (r .written) o′ ≡ output (q .2) → r .written ≤ 2_048 → Below 4 (q .2)
+    → model-answer r ≡ q .1 → take (r .written) o′ ≡ output (q .2) → r .written ≤ output-least → Below session-count (q .2)
     → text-of r o′ ≡ printed (lines-of (q .1) (q .2))
 unfolding text-of
 told-as q r o′ answer bytes fits below =
@@ -139,5 +136,5 @@ pub told : {c : Call} {t o : List ℕ} {r : Answer} {t′ o′ : List ℕ} → O
 unfolding step
 told {c = c} {t = t} {o = o} {r = r} {t′ = t′} {o′ = o′} out =
     told-as (contract.said c t o) r o′ (ap model-answer (out .answer)) (stands out .records) (out .fits)
-    (answered-below (decode t) c (number t (length o) c) (four-sessions t))
+    (answered-below session-count (decode t) c (number t (length o) c) (so-many-sessions t))
     ∙ ap (λ (a : Answer). printed (lines-of (model-answer a) ((contract.said c t o) .2))) (sym (out .answer))

@@ -8,10 +8,11 @@ use lib.Dec.{leb, ltb, eqb}
 use lib.ListN.{length, drop, length-drop}
 use lib.Seq.{sets, length-sets}
 use borrow.Author.Tests.{eq-eqb, ne-eqb, leb-true, ltb-true}
+use Rattle.model.specs.Limits.{output-least}
 use Rattle.model.specs.Bytes.{within}
 use Rattle.model.specs.Runs.{cut, consumed-by}
 use Rattle.model.specs.World.{World}
-use Rattle.model.specs.Calls.{Call, start, open-session, hang-up-session, bytes, one-tick, tool, consumed-of, answered, output, refusal, step}
+use Rattle.model.specs.Calls.{Call, start, open-session, hang-up-session, bytes, one-tick, tool, does, answered, output, refusal, step}
 use Rattle.model.specs.Program.{call-of}
 use Rattle.model.proofs.Cuts.{consumes}
 use Rattle.table.specs.Table.{decode}
@@ -68,7 +69,7 @@ started {t = t} {o = o} {r = r} kind slice e out =
 
 -- ==== received bytes are used up
 
-consumed-where-done : (w : World) (c : Call) (n : ℕ) → (answered w c n) .1 .number ≡ 0 → (answered w c n) .1 .consumed ≡ consumed-of c
+consumed-where-done : (w : World) (c : Call) (n : ℕ) → (answered w c n) .1 .number ≡ 0 → (answered w c n) .1 .consumed ≡ (does w c) .consumed
 consumed-where-done w c zero e = refl
 consumed-where-done w c (suc n) e = absurd (omega arith)
 
@@ -88,7 +89,7 @@ used-up {s = s} {t = t} {o = o} {r = r} (b ∷ bs) out e h =
 pub same-output : {c : Call} {t o : List ℕ} {r : Answer} {t′ o′ : List ℕ} → Outcome c t o r t′ o′ → length o′ ≡ length o
 same-output {c = c} {t = t} {o = o} out = ap length (out .output) ∙ length-sets o 0 (output ((said c t o) .2))
 
-pub fits-in : {c : Call} {t o : List ℕ} {r : Answer} {t′ o′ : List ℕ} → Outcome c t o r t′ o′ → (r .written ≤ length o′) × (r .written ≤ 2_048)
+pub fits-in : {c : Call} {t o : List ℕ} {r : Answer} {t′ o′ : List ℕ} → Outcome c t o r t′ o′ → (r .written ≤ length o′) × (r .written ≤ output-least)
 fits-in out =
     let h = stands out .within in
     let e = same-output out in

@@ -14,7 +14,7 @@ use Rattle.model.specs.Runs.{cut, consumed-by}
 use Rattle.model.specs.Session.{Emission}
 use Rattle.model.specs.World.{World}
 use Rattle.model.specs.Calls.{bytes, Lent, Answer, refusal, answered, step}
-use Rattle.model.specs.Reading.{Read, and-then, read-within, read-all}
+use Rattle.model.specs.Slices.{Upshot, and-then, read-within, read-all}
 use Rattle.model.specs.Program.{State, line-of, lines-of, lent, called, fed}
 use Rattle.model.proofs.Cuts.{consumes, read-on}
 use Rattle.controller.specs.Contract.{Said}
@@ -56,12 +56,8 @@ module _ (l : Lent) (w : World) (s : ℕ) where
   unfolding read-within
   read-none = refl
 
-or-false : (b : Bool) → (b || false) ≡ b
-or-false true = refl
-or-false false = refl
-
 module _ (x : State) (s b : ℕ) (bs : List ℕ) where
-  abbrev read-whole : Read
+  abbrev read-whole : Upshot
   read-whole = read-all (lent x) (x .world) s (b ∷ bs)
 
   abbrev the-step : Said
@@ -81,16 +77,25 @@ module _ (x : State) (s b : ℕ) (bs : List ℕ) where
       fed-next m s x (b ∷ bs) (b ∷ bs) (refused-answer (suc n)) false (ap (λ (r : Said). r .1) q) refl stop in
       record {
         number = suc n;
-        world = ap (λ (y : State). y .world) ends ∙ ap (λ (r : Said). r .0) q ∙ sym (ap (λ (r : Read). r .world) none);
+        world = ap (λ (y : State). y .world) ends ∙ ap (λ (r : Said). r .0) q ∙ sym (ap (λ (r : Upshot). r .world) none);
         lines =
             ap (λ (y : State). y .lines) ends ∙ ap (λ (r : Said). x .lines ++ lines-of (r .1) (r .2)) q
-            ∙ sym (ap (λ (r : Read). x .lines ++ (map line-of (r .emissions) ++ refusal-line (suc n))) none);
+            ∙ sym (ap (λ (r : Upshot). x .lines ++ (map line-of (r .emissions) ++ refusal-line (suc n))) none);
       }
 
   -- what a call that is done leaves is read on
   module _ (m : ℕ) (e : number-of (lent x) (x .world) s ≡ 0) where
-    abbrev later : List ℕ → Read
+    abbrev later : List ℕ → Upshot
     later rest = read-all (lent x) (the-step .0) s rest
+
+    -- it is done only where the table is well formed
+    was-formed : x .formed ≡ true
+    unfolding refusal
+    was-formed = go (x .formed) e
+      where
+        go : (t : Bool) → number-of (record { table = table-least; well-formed = t; output = output-least }) (x .world) s ≡ 0 → t ≡ true
+        go true z = refl
+        go false z = absurd (omega arith)
 
     is-done : the-step .1 .number ≡ 0
     is-done = ap (λ (r : Said). r .1 .number) (one-step (lent x) (x .world) s 0 (b ∷ bs) e)
@@ -121,11 +126,11 @@ module _ (x : State) (s b : ℕ) (bs : List ℕ) where
         ∙ ap (λ (l : List (Tagged Emission)). record { world = the-step .0; emissions = l }) (append-nil es) in
         record {
           number = 0;
-          world = ap (λ (y : State). y .world) ends ∙ sym (ap (λ (r : Read). r .world) all);
+          world = ap (λ (y : State). y .world) ends ∙ sym (ap (λ (r : Upshot). r .world) all);
           lines =
               ap (λ (y : State). y .lines) ends ∙ first-lines ∙ ap (λ (ls : List (List ℕ)). x .lines ++ ls) (sym (append-nil
               (map line-of es)))
-              ∙ sym (ap (λ (r : Read). x .lines ++ (map line-of (r .emissions) ++ [])) all);
+              ∙ sym (ap (λ (r : Upshot). x .lines ++ (map line-of (r .emissions) ++ [])) all);
         }
 
     uncut-on : (z : ℕ) (zs : List ℕ) → z ∷ zs ≡ drop (the-step .1 .consumed) (b ∷ bs)
@@ -136,21 +141,22 @@ module _ (x : State) (s b : ℕ) (bs : List ℕ) where
         let rest = z ∷ zs in
         let on = goes-on rest true d (rw (ne-eqb (length rest) 0 (λ (k : length rest ≡ 0). omega arith))) in
         let same : lent next-state ≡ lent x =
-        ap (λ (t : Bool). record { table = table-least; well-formed = t; output = output-least }) (or-false (x .formed)) in
+        ap (λ (t : Bool). record { table = table-least; well-formed = t; output = output-least })
+        (ap (λ (t : Bool). t || eqb (the-step .1 .number) 0) was-formed ∙ sym was-formed) in
         let read : read-all (lent next-state) (the-step .0) s rest ≡ later rest = ap (λ (l : Lent). read-all l (the-step .0) s rest) same in
         let all = read-later rest d in
         let more = map line-of ((later rest) .emissions) in
         record {
           number = ih .number;
-          world = ap (λ (y : State). y .world) on ∙ ih .world ∙ ap (λ (r : Read). r .world) read ∙ sym (ap (λ (r : Read). r .world) all);
+          world = ap (λ (y : State). y .world) on ∙ ih .world ∙ ap (λ (r : Upshot). r .world) read ∙ sym (ap (λ (r : Upshot). r .world) all);
           lines =
               ap (λ (y : State). y .lines) on ∙ ih .lines
-              ∙ ap₂ (λ (ls : List (List ℕ)) (r : Read). ls ++ (map line-of (r .emissions) ++ refusal-line (ih .number))) first-lines read
+              ∙ ap₂ (λ (ls : List (List ℕ)) (r : Upshot). ls ++ (map line-of (r .emissions) ++ refusal-line (ih .number))) first-lines read
               ∙ append-assoc (x .lines) (map line-of es) (more ++ refusal-line (ih .number))
               ∙ ap (λ (ls : List (List ℕ)). x .lines ++ ls) (sym (append-assoc (map line-of es) more (refusal-line (ih .number))))
               ∙ ap (λ (ls : List (List ℕ)). x .lines ++ (ls ++ refusal-line (ih .number))) (sym (map-append line-of es
               ((later rest) .emissions)))
-              ∙ sym (ap (λ (r : Read). x .lines ++ (map line-of (r .emissions) ++ refusal-line (ih .number))) all);
+              ∙ sym (ap (λ (r : Upshot). x .lines ++ (map line-of (r .emissions) ++ refusal-line (ih .number))) all);
         }
 
 -- UNCUT: what the model's program does with received bytes is to read them uncut

@@ -6,9 +6,9 @@ use mathlib.Core.Bool.{true, cond}
 use mathlib.Core.List.{List, [], _++_}
 use lib.Dec.{leb}
 use lib.ListN.{length}
-use Rattle.model.specs.Limits.{table-least, output-least}
+use Rattle.model.specs.Limits.{session-count, table-least, output-least}
 use Rattle.model.specs.Program.{State, all-given, printed}
-use Rattle.model.proofs.Erase.{erase-world}
+use Rattle.model.specs.Erased.{erase-world}
 use Rattle.table.specs.Table.{decode, table-formed}
 use Rattle.replay.specs.Whole.{records, waits}
 
@@ -18,9 +18,10 @@ pub record Lends (t o l : List ℕ) : Type 0 where
   pub output : length o ≡ output-least
   pub room : output-least ≤ length l
 
--- a table means a state: it is well formed where the state is, and has then the state's world, but for the numbers of events, of which
--- it keeps none
+-- a table means a state: it has as many sessions, is well formed where the state is, and has then the state's world, but for the numbers
+-- of events, of which it keeps none
 pub record Means (t : List ℕ) (x : State) : Type 0 where
+  pub sessions : length (x .world .sessions) ≡ session-count
   pub formed : table-formed t ≡ x .formed
   pub world : x .formed ≡ true → decode t ≡ erase-world (x .world)
 

@@ -5,6 +5,7 @@ ghost use lib.Dec.{eqb};
 ghost use mathlib.Core.List.{[], _∷_, _++_};
 ghost use Prim.Native.Nat.{suc, _+_, _≤_, _<_};
 ghost use lib.ListN.{length, take};
+ghost use Rattle.model.specs.Limits.{output-least};
 ghost use Rattle.model.specs.Bytes.{space, within};
 ghost use Rattle.model.specs.Program.{shown as shown-bytes, call-of, printed, fed, given as given-state, all-given};
 ghost use Rattle.text.specs.Put.{Put};
@@ -13,11 +14,10 @@ ghost use Rattle.replay.specs.Lines.{line-in, lines-in, text-of};
 ghost use Rattle.replay.specs.Whole.{whole-size, too-long, records, waits};
 ghost use Rattle.replay.specs.States.{Lends, free-from, Behind, Follows, Turned, Ran};
 use controller::Answer;
+use model::OUTPUT_LEAST;
+use model::TABLE_LEAST;
 
 const PAYLOAD_LONGEST: u64 = 8192;
-
-// What one call can write at most, and so what its lines take.
-const OUTPUT_SIZE: usize = 2048;
 
 // ---- what it prints
 
@@ -94,8 +94,8 @@ fn show(output: &[u8], lines: &mut [u8], at: usize) -> usize
 
 // What a call's answer and its output have it print.
 fn tell(answer: Answer, output: &[u8], lines: &mut [u8], at: usize) -> usize
-    requires { ⌜ (answer .written ≤ length (now output)) × (answer .written ≤ 2_048) × (at + 2_048 ≤ length (now lines)) ⌝ }
-    ensures { λ r. ⌜ Put (now (lines .entry)) at (text-of answer (now (output .entry))) r (now (lines .exit)) × (r ≤ at + 2_048) ⌝ }
+    requires { ⌜ (answer .written ≤ length (now output)) × (answer .written ≤ output-least) × (at + output-least ≤ length (now lines)) ⌝ }
+    ensures { λ r. ⌜ Put (now (lines .entry)) at (text-of answer (now (output .entry))) r (now (lines .exit)) × (r ≤ at + output-least) ⌝ }
 {
     if answer.number != 0 {
         let a = text::copy(b"R ", lines, at);
@@ -115,10 +115,10 @@ fn flush(lines: &[u8], at: usize)
 
 // Room for the lines of one more call: those that wait are written out where there is none.
 fn room(lines: &[u8], at: usize) -> usize
-    requires { ⌜ (at ≤ length (now lines)) × (2_048 ≤ length (now lines)) ⌝ }
-    ensures { λ r. ⌜ (r ≡ free-from (length (now (lines .entry))) at) × (r + 2_048 ≤ length (now (lines .entry))) ⌝ }
+    requires { ⌜ (at ≤ length (now lines)) × (output-least ≤ length (now lines)) ⌝ }
+    ensures { λ r. ⌜ (r ≡ free-from (length (now (lines .entry))) at) × (r + output-least ≤ length (now (lines .entry))) ⌝ }
 {
-    if lines.len() - at >= OUTPUT_SIZE {
+    if lines.len() - at >= OUTPUT_LEAST {
         return at;
     }
     flush(lines, at);
@@ -127,7 +127,7 @@ fn room(lines: &[u8], at: usize) -> usize
 
 // The lines of a call, behind those that wait.
 fn print(answer: Answer, output: &[u8], lines: &mut [u8], at: usize) -> usize
-    requires { ⌜ (answer .written ≤ length (now output)) × (answer .written ≤ 2_048) × (at ≤ length (now lines)) × (2_048 ≤ length (now lines)) ⌝ }
+    requires { ⌜ (answer .written ≤ length (now output)) × (answer .written ≤ output-least) × (at ≤ length (now lines)) × (output-least ≤ length (now lines)) ⌝ }
     ensures behind { λ r. ⌜ Behind (length (now (lines .entry))) (take at (now (lines .entry)))
         (text-of answer (now (output .entry))) (take r (now (lines .exit))) ⌝ }
     ensures within { λ r. ⌜ r ≤ length (now (lines .entry)) ⌝ }
@@ -337,8 +337,8 @@ fn run(table: &mut [u8], output: &mut [u8], lines: &mut [u8], input: &mut [u8])
 
 // The table begins as zeros, which are not well formed.
 fn main() {
-    let mut table = [0u8; 16384];
-    let mut output = [0u8; OUTPUT_SIZE];
+    let mut table = [0u8; TABLE_LEAST];
+    let mut output = [0u8; OUTPUT_LEAST];
     let mut lines = io::large_buffer();
     let mut input = io::large_buffer();
     run(&mut table, &mut output, &mut lines, &mut input);

@@ -7,7 +7,7 @@ use Prim.Native.Nat.{ℕ, _<_}
 use native.Mathlib.Omega.{arith}
 use lib.Dec.{eqb}
 use lib.ListN.{length}
-use Rattle.model.specs.Notices.{rooms}
+use Rattle.model.specs.Kinds.{kinds}
 use Rattle.model.specs.Messages as model
 use Rattle.model.specs.Messages.{Entry, table, listed, entry-of, starts, stops, identifies, subscribes, unsubscribes, acknowledges, mirrors, error-of}
 use Rattle.message.specs.Meaning.{standing-of, effect-listed, answered, error-number}
@@ -30,7 +30,7 @@ Known (some stops) = Unit {0}
 Known (some (identifies n)) = Unit {0}
 Known (some (subscribes kind n)) = Unit {0}
 Known (some (unsubscribes kind n)) = Unit {0}
-Known (some (acknowledges kind)) = kind < length rooms
+Known (some (acknowledges kind)) = kind < length kinds
 Known (some mirrors) = Unit {0}
 
 abbrev AllKnown : List Entry → Type 0

@@ -10,15 +10,18 @@ use lib.ListN.{getD, take, drop}
 use Rattle.model.specs.Limits.{header-length}
 use Rattle.model.specs.Records.{Settings}
 use Rattle.model.specs.Runs.{Run, empty-run, longer, Piece}
-use Rattle.model.specs.Events.{Notice, identifiers, tightenings}
+use Rattle.model.specs.Events.{Notice}
+use Rattle.model.specs.Kinds.{identifiers, tightenings}
 use Rattle.model.specs.Messages as messages
 use Rattle.model.specs.Messages.{error-of}
 use Rattle.model.specs.Frames.{frame-0005}
-use Rattle.model.specs.Notices.{Room, room-of, Deed, asks, drops, acks, act}
+use Rattle.model.specs.Kinds.{Room, room-of}
+use Rattle.model.specs.Notices.{Deed, asks, drops, acks, act}
 use Rattle.model.specs.Session as model
 use Rattle.model.specs.Session.{Emission, only}
 use Rattle.message.specs.Meaning.{standing-of, error-number}
-use Rattle.model.specs.Steps.{receives, step}
+use Rattle.model.specs.Local.{receives, step}
+use Rattle.model.specs.Sharing.{shared-begun}
 use Rattle.frame.specs.Header.{header-of}
 use Rattle.frame.specs.declared.Header.{Header}
 use Rattle.frame.specs.declared.Header.the-variants.{Dropped, Message}
@@ -240,7 +243,7 @@ module _ (st : Settings) (run : Run) (is ts : List Notice) (piece : Piece) (ends
   pub message-right :
       let r = longer run (piece .bytes) in
       let d = decision-on st x r in
-      (step st (receives piece) (session-in x run is ts) ≡ carried-by-value st x is ts (take header-length (r .kept)) d) × SoundAfter x is ts d
+      (step (shared-begun st 0) (receives piece) (session-in x run is ts) ≡ carried-by-value st x is ts (take header-length (r .kept)) d) × SoundAfter x is ts d
   message-right =
       let r = longer run (piece .bytes) in
       let d = decision-on st x r in (

@@ -6,8 +6,10 @@ use lib.Dec.{eqb·zero-suc, eqb·suc-suc}
 use lib.ListN.{getD}
 use Rattle.model.specs.Records.{Settings}
 use Rattle.model.specs.Runs.{Run}
-use Rattle.model.specs.Events.{Notice, identifiers, tightenings}
-use Rattle.model.specs.Notices.{room-of, Deed, act}
+use Rattle.model.specs.Events.{Notice}
+use Rattle.model.specs.Kinds.{identifiers, tightenings}
+use Rattle.model.specs.Kinds.{room-of}
+use Rattle.model.specs.Notices.{Deed, act}
 use Rattle.model.specs.Notices as model
 use Rattle.model.specs.Session.{started, Emission, frame-to, copies-to, dealt, only}
 use Rattle.session.specs.Meaning.{subscription-as, subscription-in, subscriptions-in, copies}

@@ -13,7 +13,8 @@ use Rattle.model.specs.Limits.{header-length}
 use Rattle.model.specs.Records.{Settings}
 use Rattle.model.specs.Runs.{Run, empty-run, longer, Piece, message-of, is-message, read-run}
 use Rattle.model.specs.Runs as runs
-use Rattle.model.specs.Events.{Notice, identifiers, tightenings}
+use Rattle.model.specs.Events.{Notice}
+use Rattle.model.specs.Kinds.{identifiers, tightenings}
 use Rattle.model.specs.Messages as model
 use Rattle.model.specs.Messages.{Entry, entry-of, starts, stops, identifies, subscribes, unsubscribes, acknowledges, mirrors, gets-reply, code, error-of}
 use Rattle.model.specs.Frames.{frame-0004}
@@ -21,7 +22,8 @@ use Rattle.model.specs.Notices as notices
 use Rattle.model.specs.Session as sessions
 use Rattle.model.specs.Session.{closed, opened, started, subscribed-to, Emission, reply}
 use Rattle.model.specs.Hearing.{started-standing, opened-standing, message-error, carry-out, judged, begin, hear-opened, identifier-told, identifier-judged}
-use Rattle.model.specs.Steps.{end-run, end-run-opened, receives, step, identifier-run, announces}
+use Rattle.model.specs.Local.{end-run, end-run-opened, receives, step, identifier-run, announces}
+use Rattle.model.specs.Sharing.{shared-begun}
 use Rattle.message.specs.Meaning.{standing-of, effect-listed, error-number}
 use Rattle.message.specs.declared.Standing.{Standing}
 use Rattle.frame.specs.Header.{shown, header-of}
@@ -74,7 +76,7 @@ module _ (x : Session) (is ts : List Notice) where
 
   same-standing : (st : Settings)
       → standing-of (standing (session Started (x .idle) (x .identifiers) (x .tightenings)) (st .granted))
-      ≡ started-standing st (subscriptions-in x is ts)
+      ≡ started-standing (shared-begun st 0) (subscriptions-in x is ts)
   same-standing st = λ i. record { started = true; granted = st .granted; subscribed = λ kind. same-subscribed kind i }
 
 -- ==== to one that is started
@@ -83,7 +85,7 @@ module _ (st : Settings) (m : runs.Message) (idle : ℕ) (run : Run) (subs : Lis
   abbrev carried-out : Decision → sessions.Session × List Emission
   carried-out d = carried st (started idle run subs) (m .header) d
 
-  by-effect : (e : model.Effect) → carry-out st subs m e ≡ carried-out (accepted (m .mid) (m .revision) (m .no-acknowledge) (some e))
+  by-effect : (e : model.Effect) → carry-out (shared-begun st 0) subs m e ≡ carried-out (accepted (m .mid) (m .revision) (m .no-acknowledge) (some e))
   by-effect starts = refl
   by-effect stops = refl
   by-effect (identifies n) = refl
@@ -98,7 +100,7 @@ module _ (st : Settings) (m : runs.Message) (idle : ℕ) (run : Run) (subs : Lis
   by-answer n false = refl
 
   by-error : (entry : Option Entry) (error : Option model.Error)
-      → judged st subs m entry error ≡ carried-out (decided-started (m .mid) (m .revision) (m .no-acknowledge) (effect-listed entry) error)
+      → judged (shared-begun st 0) subs m entry error ≡ carried-out (decided-started (m .mid) (m .revision) (m .no-acknowledge) (effect-listed entry) error)
   by-error none none = refl
   by-error none (some error) = refl
   by-error (some e) none = by-effect (e .effect)
@@ -137,7 +139,7 @@ same-error s s′ mid size revision bs p q e = rw (e, p, q)
 
 module _ (st : Settings) (m : runs.Message) (idle : ℕ) (run : Run) where
   begins : (error : Option model.Error)
-      → begin st idle m error ≡ carried st (opened idle run) (m .header) (cond (no-error error) Start (Error (m .mid) (error-number error)))
+      → begin (shared-begun st 0) idle m error ≡ carried st (opened idle run) (m .header) (cond (no-error error) Start (Error (m .mid) (error-number error)))
   begins none = refl
   begins (some error) = refl
 
@@ -146,14 +148,14 @@ module _ (st : Settings) (m : runs.Message) (idle : ℕ) (run : Run) where
     found = error-of s (m .mid) (m .size) (m .revision) (m .data-field)
 
     by-mid : (b : Bool) → eqb (m .mid) 1 ≡ b
-        → cond b (begin st idle m (message-error (opened-standing st) m)) (opened idle empty-run, [])
+        → cond b (begin (shared-begun st 0) idle m (message-error (opened-standing (shared-begun st 0)) m)) (opened idle empty-run, [])
         ≡ carried st (opened idle run) (m .header) (cond b (cond (no-error found) Start (Error (m .mid) (error-number found))) Nothing)
     by-mid false e = refl
     by-mid true e =
-        ap (begin st idle m) (same-error (opened-standing st) s (m .mid) (m .size) (m .revision) (m .data-field) refl unstarted (eqb-true (m .mid) 1 e))
+        ap (begin (shared-begun st 0) idle m) (same-error (opened-standing (shared-begun st 0)) s (m .mid) (m .size) (m .revision) (m .data-field) refl unstarted (eqb-true (m .mid) 1 e))
         ∙ begins found
 
-    hears-opened : hear-opened st idle m ≡ carried st (opened idle run) (m .header) (decided-opened (m .mid) found)
+    hears-opened : hear-opened (shared-begun st 0) idle m ≡ carried st (opened idle run) (m .header) (decided-opened (m .mid) found)
     hears-opened = by-mid (eqb (m .mid) 1) refl
 
 opened-tells : (mid : ℕ) (error : Option model.Error) (bs : List ℕ) → none ≡ announced (decided-opened mid error) bs
@@ -181,21 +183,21 @@ module _ (st : Settings) (run : Run) (is ts : List Notice) (r : Run) where
     subs = subscriptions-in (session Started idle i t) is ts
 
     abbrev error : Option model.Error
-    error = message-error (started-standing st subs) (message-of r)
+    error = message-error (started-standing (shared-begun st 0) subs) (message-of r)
 
-    started-run : (b : Bool) → end-run st idle subs (read-if b) ≡ carried-if (session Started idle i t) b
+    started-run : (b : Bool) → end-run (shared-begun st 0) idle subs (read-if b) ≡ carried-if (session Started idle i t) b
     unfolding decision
     started-run false = refl
     started-run true =
         rw (same-standing (session Started idle i t) is ts st) (by-error st (message-of r) idle run subs (entry-of (message-of r .mid)) error)
 
-    started-told : (b : Bool) → identifier-run st subs (read-if b) ≡ announced (decided-if (session Started idle i t) b) (drop 20 (r .kept))
+    started-told : (b : Bool) → identifier-run (shared-begun st 0) subs (read-if b) ≡ announced (decided-if (session Started idle i t) b) (drop 20 (r .kept))
     unfolding decision
     started-told false = refl
     started-told true =
         rw (same-standing (session Started idle i t) is ts st) (told-by-error (message-of r) (entry-of (message-of r .mid)) error)
 
-    opened-run : (b : Bool) → end-run-opened st idle (read-if b) ≡ carried-if (session Opened idle i t) b
+    opened-run : (b : Bool) → end-run-opened (shared-begun st 0) idle (read-if b) ≡ carried-if (session Opened idle i t) b
     unfolding decision
     opened-run false = refl
     opened-run true = hears-opened st (message-of r) idle run (standing-of (standing (session Opened idle i t) (st .granted))) refl
@@ -224,7 +226,7 @@ module _ (st : Settings) (run : Run) (is ts : List Notice) (piece : Piece) (ends
 
   hears : (p : Phase) (idle : ℕ) (i t : Subscription)
       → let x = session p idle i t in
-      step st (receives piece) (session-in x run is ts)
+      step (shared-begun st 0) (receives piece) (session-in x run is ts)
       ≡ carried st (session-in x run is ts) (take header-length (whole .kept)) (decision-on st x whole)
   unfolding header-of read-run
   hears Closed idle i t = closed-run st run is ts whole idle i t (is-message whole)
@@ -233,7 +235,7 @@ module _ (st : Settings) (run : Run) (is ts : List Notice) (piece : Piece) (ends
 
   tells : (p : Phase) (idle : ℕ) (i t : Subscription)
       → let x = session p idle i t in
-      announces st piece (session-in x run is ts) ≡ announced (decision-on st x whole) (drop header-length (whole .kept))
+      announces (shared-begun st 0) piece (session-in x run is ts) ≡ announced (decision-on st x whole) (drop header-length (whole .kept))
   unfolding header-of read-run
   tells Closed idle i t = closed-told st run is ts whole idle i t (is-message whole)
   tells Opened idle i t = opened-told st run is ts whole idle i t (is-message whole)
@@ -241,28 +243,28 @@ module _ (st : Settings) (run : Run) (is ts : List Notice) (piece : Piece) (ends
 
   -- bytes that end a run do what `session::decide` decides on it
   pub decide-right : (x : Session)
-      → step st (receives piece) (session-in x run is ts)
+      → step (shared-begun st 0) (receives piece) (session-in x run is ts)
       ≡ carried st (session-in x run is ts) (take header-length (whole .kept)) (decision-on st x whole)
   decide-right x = hears (x .phase) (x .idle) (x .identifiers) (x .tightenings)
 
   -- and they make the data field known as an identifier where it decides so
   pub identify-right : (x : Session)
-      → announces st piece (session-in x run is ts) ≡ announced (decision-on st x whole) (drop header-length (whole .kept))
+      → announces (shared-begun st 0) piece (session-in x run is ts) ≡ announced (decision-on st x whole) (drop header-length (whole .kept))
   identify-right x = tells (x .phase) (x .idle) (x .identifiers) (x .tightenings)
 
 -- bytes that end no run change only the run
 module _ (st : Settings) (run : Run) (is ts : List Notice) (piece : Piece) (more : piece .ends ≡ false) where
   goes-on : (p : Phase) (idle : ℕ) (i t : Subscription)
       → let x = session p idle i t in
-      (step st (receives piece) (session-in x run is ts) ≡ (session-in x (longer run (piece .bytes)) is ts, []))
-      × (announces st piece (session-in x run is ts) ≡ none)
+      (step (shared-begun st 0) (receives piece) (session-in x run is ts) ≡ (session-in x (longer run (piece .bytes)) is ts, []))
+      × (announces (shared-begun st 0) piece (session-in x run is ts) ≡ none)
   goes-on Closed idle i t = (refl, refl)
   goes-on Opened idle i t = (rw more, refl)
   goes-on Started idle i t = (rw more, rw more)
 
   pub run-goes-on : (x : Session)
-      → (step st (receives piece) (session-in x run is ts) ≡ (session-in x (longer run (piece .bytes)) is ts, []))
-      × (announces st piece (session-in x run is ts) ≡ none)
+      → (step (shared-begun st 0) (receives piece) (session-in x run is ts) ≡ (session-in x (longer run (piece .bytes)) is ts, []))
+      × (announces (shared-begun st 0) piece (session-in x run is ts) ≡ none)
   run-goes-on x = goes-on (x .phase) (x .idle) (x .identifiers) (x .tightenings)
 
 -- ==== what does something is a message, whose header is kept whole

@@ -11,7 +11,8 @@ use lib.Seq.{take-length}
 use borrow.Author.Tests.{leb-true, leb-false, eq-eqb, ne-eqb, lt-ltb, le-ltb}
 use Rattle.model.specs.Limits.{copy-every, given-up-at}
 use Rattle.model.specs.Events.{Notice}
-use Rattle.model.specs.Notices.{Room, the-newest, up-to, acked, busy, beats, news, asks, drops, acks, next-one, clock-at, has-room, takes, act}
+use Rattle.model.specs.Kinds.{Room, the-newest, up-to}
+use Rattle.model.specs.Notices.{acked, busy, beats, news, asks, drops, acks, next-one, clock-at, has-room, takes, act}
 use Rattle.model.specs.Notices as model
 use Rattle.session.specs.Meaning.{subscription-in, most-held, Holds, Stepped, Took, Becomes, held-asked}
 use Rattle.session.specs.Control.{subscription, unsubscribed, subscribed, beat-at, next-goes-out, by-beat, ticked, acknowledged, taken-busy, taken}

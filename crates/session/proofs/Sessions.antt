@@ -10,11 +10,14 @@ use borrow.Author.Tests.{leb-true, leb-false, eq-eqb, ne-eqb}
 use Rattle.model.specs.Limits.{idle-limit}
 use Rattle.model.specs.Records.{Settings}
 use Rattle.model.specs.Runs.{Run, empty-run}
-use Rattle.model.specs.Events.{Notice, kind-of, identifiers, tightenings}
-use Rattle.model.specs.Notices.{Room, room-of, beats, news}
+use Rattle.model.specs.Events.{Notice, kind-of}
+use Rattle.model.specs.Kinds.{identifiers, tightenings}
+use Rattle.model.specs.Kinds.{Room, room-of}
+use Rattle.model.specs.Notices.{beats, news}
 use Rattle.model.specs.Session as model
 use Rattle.model.specs.Session.{closed, Emission, only}
-use Rattle.model.specs.Steps.{opening, hang-up, tick, tick-at, step}
+use Rattle.model.specs.Local.{opening, hang-up, tick, tick-at, step}
+use Rattle.model.specs.Sharing.{shared-begun}
 use Rattle.session.specs.Meaning.{Holds, session-in, SubscribedIn, Sound}
 use Rattle.session.specs.Control.{unsubscribed, session, fresh, cleared, still, ticked, takes, taken, with-idle, idled}
 use Rattle.session.specs.Effects.{ticked-so, SoundTicked, IdentifierHappens, TighteningHappens}
@@ -43,7 +46,7 @@ nothing-held p =
     by-phase Started = tt
 
 -- `Session::fresh` is how the model has an opening begin
-pub open-right : (st : Settings) → (step st opening closed ≡ (session-in fresh empty-run [] [], [])) × Sound fresh [] []
+pub open-right : (st : Settings) → (step (shared-begun st 0) opening closed ≡ (session-in fresh empty-run [] [], [])) × Sound fresh [] []
 open-right st = (refl, nothing-held Opened)
 
 -- `Session::cleared` is closed, as the model's hang-up leaves it
@@ -51,10 +54,10 @@ pub cleared-right : (run : Run) → (session-in cleared run [] [] ≡ closed) ×
 cleared-right run = (refl, nothing-held Closed)
 
 pub hang-up-right : (st : Settings) (x : Session) (run : Run) (is ts : List Notice)
-    → step st hang-up (session-in x run is ts) ≡ (session-in cleared empty-run [] [], [])
+    → step (shared-begun st 0) hang-up (session-in x run is ts) ≡ (session-in cleared empty-run [] [], [])
 hang-up-right st x run is ts = by-phase (x .phase)
   where
-    by-phase : (p : Phase) → step st hang-up (session-in (session p (x .idle) (x .identifiers) (x .tightenings)) run is ts) ≡ (closed, [])
+    by-phase : (p : Phase) → step (shared-begun st 0) hang-up (session-in (session p (x .idle) (x .identifiers) (x .tightenings)) run is ts) ≡ (closed, [])
     by-phase Closed = refl
     by-phase Opened = refl
     by-phase Started = refl
@@ -78,7 +81,7 @@ module _ (st : Settings) (run : Run) (is ts : List Notice) where
       rw (ne-eqb (suc idle) idle-limit (λ q. omega arith)) e
 
   ticks : (p : Phase) (idle : ℕ) (i t : Subscription) (h : Sound (session p idle i t) is ts)
-      → let x = session p idle i t in step st tick (session-in x run is ts) ≡ ticked-so st run is ts (idled x)
+      → let x = session p idle i t in step (shared-begun st 0) tick (session-in x run is ts) ≡ ticked-so st run is ts (idled x)
   unfolding idled
   ticks Closed idle i t h = rw (not-ticked i (h .subscribed .0), not-ticked t (h .subscribed .1))
   ticks Opened idle i t h =
@@ -91,7 +94,7 @@ module _ (st : Settings) (run : Run) (is ts : List Notice) where
       (tick-right (room-of identifiers) i is (h .of-identifiers) .acts) (tick-right (room-of tightenings) t ts (h .of-tightenings) .acts)))
 
   -- a tick to a session is `session::idled`, and then `session::ticked` for each kind
-  pub tick-session-right : (x : Session) → Sound x is ts → step st tick (session-in x run is ts) ≡ ticked-so st run is ts (idled x)
+  pub tick-session-right : (x : Session) → Sound x is ts → step (shared-begun st 0) tick (session-in x run is ts) ≡ ticked-so st run is ts (idled x)
   tick-session-right x h = ticks (x .phase) (x .idle) (x .identifiers) (x .tightenings) h
 
 -- the forms stay

@@ -4,7 +4,7 @@ use Prim.Native.Nat.{ℕ, _+_, _-_, _%_}
 use mathlib.Core.Bool.{Bool, true, false, cond}
 use lib.Dec.{ltb, leb, eqb}
 use Rattle.model.specs.Limits.{idle-limit, copy-every, given-up-at}
-use Rattle.model.specs.Notices.{Room, the-newest, up-to}
+use Rattle.model.specs.Kinds.{Room, the-newest, up-to}
 use Rattle.session.specs.Meaning.{most-held}
 use Rattle.session.specs.declared.Form.{Form}
 use Rattle.session.specs.declared.Form.the-variants as form

@@ -6,7 +6,7 @@ use mathlib.Core.List.{List, [], _∷_}
 use mathlib.Core.Option.{Option, none, some}
 use lib.Dec.{eqb}
 use lib.ListN.{getD}
-use Rattle.model.specs.Events.{identifiers, tightenings}
+use Rattle.model.specs.Kinds.{identifiers, tightenings}
 use Rattle.model.specs.Messages as model
 use Rattle.model.specs.Messages.{starts, stops, identifies, subscribes, unsubscribes, acknowledges, mirrors, entry-of, error-of}
 use Rattle.message.specs.Meaning.{effect-listed, answered, standing-of, error-number}

@@ -9,12 +9,15 @@ use Rattle.model.specs.Limits.{header-length, identifier-length}
 use Rattle.model.specs.Bytes.{padded}
 use Rattle.model.specs.Records.{Settings}
 use Rattle.model.specs.Runs.{Run, empty-run}
-use Rattle.model.specs.Events.{Notice, kind-of, identifiers, tightenings}
+use Rattle.model.specs.Events.{Notice, kind-of}
+use Rattle.model.specs.Kinds.{identifiers, tightenings}
 use Rattle.model.specs.Frames.{frame-0002, frame-0004, frame-0005}
-use Rattle.model.specs.Notices.{rooms, Deed, asks, drops, acks}
+use Rattle.model.specs.Kinds.{kinds}
+use Rattle.model.specs.Notices.{Deed, asks, drops, acks}
 use Rattle.model.specs.Session as model
 use Rattle.model.specs.Session.{closed, opened, started, no-subscriptions, Emission, reply, close, dealt, only}
-use Rattle.model.specs.Steps.{event, step, takes}
+use Rattle.model.specs.Local.{event, step, takes}
+use Rattle.model.specs.Sharing.{shared-begun}
 use Rattle.frame.specs.Header.{header-of}
 use Rattle.session.specs.Meaning.{session-in, Sound, shifted, sent, kept, told, is-taken, held-asked, copies}
 use Rattle.session.specs.Control.{session, ticked, acknowledged}
@@ -68,7 +71,7 @@ pub record Happens
     (is′ ts′ : List Notice)
     (is-taken : Bool)
     (out : List Emission) : Type 0 where
-  pub steps : step st (event n) (session-in x run is ts) ≡ (session-in y run is′ ts′, out)
+  pub steps : step (shared-begun st (n .id)) (event (n .event)) (session-in x run is ts) ≡ (session-in y run is′ ts′, out)
   pub takes-it : takes (kind-of (n .event)) (session-in x run is ts) ≡ is-taken
   pub sound : Sound y is′ ts′
 
@@ -210,5 +213,5 @@ AcknowledgedIn p (Stop mid) = Unit {0}
 AcknowledgedIn p (Identify mid) = Unit {0}
 AcknowledgedIn p (Subscribe kind mid revision no-acknowledge) = Unit {0}
 AcknowledgedIn p (Unsubscribe kind mid) = Unit {0}
-AcknowledgedIn p (Acknowledge kind) = (p ≡ Started) × (kind < length rooms)
+AcknowledgedIn p (Acknowledge kind) = (p ≡ Started) × (kind < length kinds)
 AcknowledgedIn p Mirror = Unit {0}

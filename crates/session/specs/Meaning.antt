@@ -8,8 +8,10 @@ use lib.ListN.{length, take}
 use Rattle.model.specs.Limits.{idle-limit, given-up-at}
 use Rattle.model.specs.Records.{Settings}
 use Rattle.model.specs.Runs.{Run}
-use Rattle.model.specs.Events.{Notice, identifiers, tightenings}
-use Rattle.model.specs.Notices.{Room, the-newest, up-to, room-of, Queue, empty, busy, unsubscribed, plain, acked}
+use Rattle.model.specs.Events.{Notice}
+use Rattle.model.specs.Kinds.{identifiers, tightenings}
+use Rattle.model.specs.Kinds.{Room, the-newest, up-to, room-of}
+use Rattle.model.specs.Notices.{Pending, empty, busy, unsubscribed, plain, acked}
 use Rattle.model.specs.Notices as model
 use Rattle.model.specs.Session.{closed, opened, started, Emission, copy, copies-to}
 use Rattle.model.specs.Row.{tag}
@@ -28,7 +30,7 @@ use Rattle.session.specs.declared.Taken.{Taken}
 -- ==== 01, "Notices and the clock": a subscription, and what it holds
 
 -- the first notice is open, and the clock is its
-abbrev pub queue-in : ℕ → List Notice → Queue
+abbrev pub queue-in : ℕ → List Notice → Pending
 queue-in clock [] = empty
 queue-in clock (n ∷ ns) = busy n clock ns
 

@@ -5,8 +5,7 @@ ghost use mathlib.Core.Bool.{cond};
 ghost use lib.ListN.{drop};
 ghost use Rattle.model.specs.Limits.{header-length};
 ghost use Rattle.model.specs.Messages.{entry-of};
-ghost use Rattle.model.specs.Notices.{room-of};
-ghost use Rattle.model.specs.Events.{identifiers, tightenings};
+ghost use Rattle.model.specs.Kinds.{room-of, identifiers, tightenings};
 ghost use Rattle.frame.specs.Header.{header-of};
 ghost use Rattle.message.specs.Meaning.{effect-in, effect-listed, error-in};
 ghost use Rattle.session.specs.Control.{

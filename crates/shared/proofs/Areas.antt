@@ -11,7 +11,7 @@ use Rattle.model.specs.Bytes.{little, in-bytes, spaces}
 use Rattle.model.specs.Records.{settings-of}
 use Rattle.text.proofs.Numbers.{in-bytes-length}
 use Rattle.text.proofs.Cells.{stored-same, stored-before, stored-after}
-use Rattle.shared.specs.Shared.{settings-part, in-force-of, last-of, mark, shared-formed, Area, Holds}
+use Rattle.shared.specs.Shared.{shared-size, settings-part, in-force-of, last-of, mark, shared-formed, Area, Holds}
 
 -- ==== numbers, written and read
 
@@ -38,7 +38,7 @@ unfolding shared-formed
 marked a e = ap (λ (n : ℕ). eqb n (little mark)) e
 
 -- a write behind the mark
-area-still : (a : List ℕ) (at k : ℕ) (ys : List ℕ) → Area a → length ys ≡ k → at + k ≤ 1_024 → 8 ≤ at → Area (sets a at ys)
+area-still : (a : List ℕ) (at k : ℕ) (ys : List ℕ) → Area a → length ys ≡ k → at + k ≤ shared-size → 8 ≤ at → Area (sets a at ys)
 unfolding shared-formed
 area-still a at k ys h e f g =
     let s = h .size in
@@ -80,7 +80,7 @@ last-put a n h f =
 -- ==== a start
 
 -- the mark, written
-mark-put : (a : List ℕ) → length a ≡ 1_024 → Area (sets a 0 marks)
+mark-put : (a : List ℕ) → length a ≡ shared-size → Area (sets a 0 marks)
 mark-put a s = record {
   size = length-sets a 0 marks ∙ s;
   formed = marked (sets a 0 marks) (ap little (stored-same 0 8 a marks (in-bytes-length 8 mark-number) (omega arith)) ∙ eight);
@@ -99,7 +99,7 @@ settings-put a p h e =
       last = ap little (stored-before 16 33 a p e r 8 4 (lit≤ tt));
     }
 
-pub started : (a p : List ℕ) (n : ℕ) → length a ≡ 1_024 → length p ≡ 33 → n ≡ little (take 4 (drop 29 p)) → n < 4_294_967_296
+pub started : (a p : List ℕ) (n : ℕ) → length a ≡ shared-size → length p ≡ 33 → n ≡ little (take 4 (drop 29 p)) → n < 4_294_967_296
     → Holds p (spaces 25) (settings-of p .last) (sets (sets (sets (sets a 0 marks) 8 (in-bytes 4 n)) 16 p) 56 (replicate 25 0x20))
 unfolding settings-of
 started a p n s e en f =
@@ -118,6 +118,6 @@ started a p n s e en f =
 
 -- ==== a table of zeros is none that a start has made
 
-pub zeros-not-formed : shared-formed (replicate 1_024 0) ≡ false
+pub zeros-not-formed : shared-formed (replicate shared-size 0) ≡ false
 unfolding shared-formed
 zeros-not-formed = refl

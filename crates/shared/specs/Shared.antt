@@ -1,4 +1,4 @@
--- What all sessions share, as the first 1,024 bytes of the table hold it: the settings, the identifier in force and the last
+-- What all sessions share, as the first bytes of the table hold it: the settings, the identifier in force and the last
 -- tightening number. 01, "What the product holds". Assumes nothing: these are definitions.
 use mathlib.Core.Path.{_≡_}
 use Prim.Native.Nat.{ℕ}
@@ -9,6 +9,10 @@ use lib.ListN.{length, take, drop}
 use Rattle.model.specs.Limits.{identifier-length}
 use Rattle.model.specs.Bytes.{little}
 use Rattle.model.specs.Records.{payload-length, settings-items}
+
+-- so many bytes
+abbrev pub shared-size : ℕ
+shared-size = 1_024
 
 -- 01, "House records": the settings, as the payload of the record that a start was given
 unfoldable pub settings-part : List ℕ → List ℕ
@@ -34,7 +38,7 @@ shared-formed a = eqb (little (take 8 a)) (little mark)
 
 -- 01, "What the product holds": all of it, well formed
 pub record Area (a : List ℕ) : Type 0 where
-  pub size : length a ≡ 1_024
+  pub size : length a ≡ shared-size
   pub formed : shared-formed a ≡ true
 
 -- 01, "What the product holds": well formed, with these settings, this identifier in force and this last number

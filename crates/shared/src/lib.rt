@@ -4,7 +4,10 @@ ghost use Prim.Native.Nat.{_<_};
 ghost use lib.ListN.{length};
 ghost use Rattle.model.specs.Bytes.{spaces};
 ghost use Rattle.model.specs.Records.{settings-of};
-ghost use Rattle.shared.specs.Shared.{settings-part, in-force-of, last-of, shared-formed, Area, Holds};
+ghost use Rattle.shared.specs.Shared.{shared-size, settings-part, in-force-of, last-of, shared-formed, Area, Holds};
+
+// How many bytes it has.
+pub const SIZE: usize = 1024;
 
 // SERIFLAD, as the number of its bytes.
 const MARK: u64 = 0x44414C4649524553;
@@ -20,7 +23,7 @@ const IN_FORCE_AT: usize = 56;
 // ---- reading
 
 pub fn is_formed(area: &[u8]) -> bool
-    requires { ⌜ length (now area) ≡ 1_024 ⌝ }
+    requires { ⌜ length (now area) ≡ shared-size ⌝ }
     ensures { λ r. ⌜ r ≡ shared-formed (now (area .entry)) ⌝ }
 {
     text::little(area, MARK_AT, 8) == MARK
@@ -28,7 +31,7 @@ pub fn is_formed(area: &[u8]) -> bool
 
 // The settings' payload, as it stands.
 pub fn settings(area: &[u8]) -> &[u8]
-    requires { ⌜ length (now area) ≡ 1_024 ⌝ }
+    requires { ⌜ length (now area) ≡ shared-size ⌝ }
     ensures { λ r. ⌜ now r ≡ settings-part (now (area .entry)) ⌝ }
 {
     &area[SETTINGS_AT..SETTINGS_AT + 33]
@@ -36,7 +39,7 @@ pub fn settings(area: &[u8]) -> &[u8]
 
 // The identifier in force, as it stands.
 pub fn in_force(area: &[u8]) -> &[u8]
-    requires { ⌜ length (now area) ≡ 1_024 ⌝ }
+    requires { ⌜ length (now area) ≡ shared-size ⌝ }
     ensures { λ r. ⌜ now r ≡ in-force-of (now (area .entry)) ⌝ }
 {
     &area[IN_FORCE_AT..IN_FORCE_AT + 25]
@@ -44,7 +47,7 @@ pub fn in_force(area: &[u8]) -> &[u8]
 
 // The last tightening number.
 pub fn last(area: &[u8]) -> u64
-    requires { ⌜ length (now area) ≡ 1_024 ⌝ }
+    requires { ⌜ length (now area) ≡ shared-size ⌝ }
     ensures { λ r. ⌜ (r ≡ last-of (now (area .entry))) × (r < 4_294_967_296) ⌝ }
 {
     text::little(area, LAST_AT, 4)
@@ -54,7 +57,7 @@ pub fn last(area: &[u8]) -> u64
 
 // A start with these settings: no identifier is in force, and the last number is the settings'.
 pub fn start(area: &mut [u8], payload: &[u8])
-    requires { ⌜ (length (now area) ≡ 1_024) × (length (now payload) ≡ 33) ⌝ }
+    requires { ⌜ (length (now area) ≡ shared-size) × (length (now payload) ≡ 33) ⌝ }
     ensures { λ _. ⌜ Holds (now (payload .entry)) (spaces 25) (settings-of (now (payload .entry)) .last) (now (area .exit)) ⌝ }
 {
     let last = text::little(payload, 29, 4);

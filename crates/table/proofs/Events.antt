@@ -1,24 +1,38 @@
 -- An event: who takes it, and what it leaves to all sessions. Assumes nothing.
 use mathlib.Core.Path.{_≡_, sym, ap, subst, _∙_}
 use Prim.Native.Nat.{ℕ, suc, _+_, _*_, _^_, _≤_, _<_}
-use native.Mathlib.Nat.{add-zero, add-suc, suc-add, pow-suc}
+use native.Mathlib.Nat.{add-zero, add-suc, suc-add, suc-mul, mul-le-mul-right, pow-suc, pow-le-pow-right}
+use native.Mathlib.Numerals.{add-one}
+use lib.Dec.{lit≤}
 use native.Mathlib.Omega.{arith}
 use mathlib.Core.Bool.{Bool, true, false, cond}
 use mathlib.Core.List.{List, [], _∷_}
 use lib.ListN.{length, take, drop, drop-of-length-le}
+use Rattle.model.specs.Limits.{session-count}
 use Rattle.model.specs.Bytes.{little}
-use Rattle.model.specs.Records.{Settings, settings-of}
+use Rattle.model.specs.Records.{settings-of}
 use Rattle.model.specs.Session.{Session, closed}
-use Rattle.model.specs.Steps.{event, step, takes}
-use Rattle.model.specs.World.{World, happens, each}
+use Rattle.model.specs.Local.{takes}
+use Rattle.model.specs.World.{World}
 use Rattle.model.specs.Calls.{takers}
 use Rattle.frame.specs.Layout.{result-of}
-use Rattle.notices.specs.Places.{notice-in, event-in}
+use Rattle.notices.specs.Places.{event-in}
 use Rattle.shared.specs.Shared.{settings-part, in-force-of, last-of, Holds}
-use Rattle.region.specs.Region.{session-of, Good, Steps}
+use Rattle.region.specs.Region.{session-of, Good}
 use Rattle.table.specs.Table.{shared-area, regions, decode, Table, Becomes, noted}
 use Rattle.table.proofs.Regions.{part, put, region-at, length-regions, put-regions, front, front-size, front-past, front-shared, front-regions, front-table, table-means}
-use Rattle.table.proofs.Walks.{takers-next, steps-with}
+use Rattle.table.proofs.Walks.{takers-next}
+
+-- ==== the room for so many bytes a session
+
+pub room-left : (most s : ℕ) → s < session-count → s * most + most ≤ session-count * most
+room-left most s h = let n : suc s ≤ session-count = h in omega (arith, suc-mul s most, mul-le-mul-right most n)
+
+pub room-all : (most at to s : ℕ) → s ≤ session-count → to ≤ at + s * most → to ≤ at + session-count * most
+room-all most at to s h k = omega (arith, mul-le-mul-right most h)
+
+pub room-next : (most at to next s : ℕ) → to ≤ at + s * most → next ≤ to + most → next ≤ at + (s + 1) * most
+room-next most at to next s h k = omega (arith, suc-mul s most, ap (λ (n : ℕ). n * most) (add-one s))
 
 -- ==== who takes it
 
@@ -35,15 +49,41 @@ takers-few kind s (x ∷ xs) =
     let far : 2 ^ (s + suc (length xs)) ≡ 2 ^ (suc s + length xs) = ap (λ (n : ℕ). 2 ^ n) (add-suc s (length xs) ∙ sym (suc-add s (length xs))) in
     omega arith
 
-pub takers-below : (kind : ℕ) (t : List ℕ) → takers kind 0 (decode t .sessions) < 16
+pub takers-below : (kind : ℕ) (t : List ℕ) → takers kind 0 (decode t .sessions) < 2 ^ session-count
 unfolding decode
 takers-below kind t =
     let f = takers-few kind 0 (regions session-of t) in
-    let e : 2 ^ (0 + length (regions session-of t)) ≡ 16 = ap (λ (n : ℕ). 2 ^ (0 + n)) (length-regions session-of t) in
+    let e : 2 ^ (0 + length (regions session-of t)) ≡ 2 ^ session-count = ap (λ (n : ℕ). 2 ^ (0 + n)) (length-regions session-of t) in
     omega arith
 
+-- the bit of each session is twice the last one's, and both it and the sum are small
+pub sum-fits : 2 ^ session-count ≤ 65_536
+sum-fits = lit≤ tt
+
+pub bit-next : (bit s : ℕ) → bit ≡ 2 ^ s → bit * 2 ≡ 2 ^ (s + 1)
+bit-next bit s e = ap (λ (n : ℕ). n * 2) e ∙ sym (pow-suc 2 s) ∙ ap (λ (n : ℕ). 2 ^ n) (sym (add-one s))
+
+bit-fits : (bit s : ℕ) → bit ≡ 2 ^ s → s < session-count → bit ≤ 65_536
+bit-fits bit s e h =
+    let n : s ≤ session-count = omega arith in
+    let two : 0 < 2 = omega arith in
+    omega (arith, e, pow-le-pow-right two n, sum-fits)
+
+share-fits : (b : Bool) (bit : ℕ) → bit ≤ 65_536 → cond b bit 0 ≤ 65_536
+share-fits true bit h = h
+share-fits false bit h = omega arith
+
+pub doubles : (bit s : ℕ) → bit ≡ 2 ^ s → s < session-count → bit * 2 ≤ 131_072
+doubles bit s e h = omega (arith, bit-fits bit s e h)
+
+pub adds : (kind : ℕ) (t₀ : List ℕ) (taken rest share bit s : ℕ) (b : Bool) → taken + rest ≡ takers kind 0 (regions session-of t₀)
+    → share ≡ cond b bit 0 → bit ≡ 2 ^ s → s < session-count → taken + share ≤ 131_072
+unfolding decode
+adds kind t₀ taken rest share bit s b e es eb h =
+    omega (arith, e, es, takers-below kind t₀, sum-fits, share-fits b bit (bit-fits bit s eb h))
+
 -- a walk that adds them up: what is left to add is all of it
-pub taken-next : (kind : ℕ) (t r : List ℕ) (s taken share sum : ℕ) (b : Bool) → Table t → s < 4 → Good r → b ≡ takes kind (session-of (part t s))
+pub taken-next : (kind : ℕ) (t r : List ℕ) (s taken share sum : ℕ) (b : Bool) → Table t → s < session-count → Good r → b ≡ takes kind (session-of (part t s))
     → share ≡ cond b (2 ^ s) 0 → taken + takers kind s (drop s (regions session-of t)) ≡ sum
     → taken + share + takers kind (s + 1) (drop (s + 1) (regions session-of (put t s r))) ≡ sum
 taken-next kind t r s taken share sum b h few g eb es e =
@@ -53,22 +93,16 @@ taken-next kind t r s taken share sum b h few g eb es e =
     let mine : share ≡ cond (takes kind (session-of (part t s))) (2 ^ s) 0 = es ∙ ap (λ (z : Bool). cond z (2 ^ s) 0) eb in
     omega (arith, next, new, mine, e)
 
-pub taken-all : (kind : ℕ) (t : List ℕ) (s taken sum : ℕ) → 4 ≤ s → taken + takers kind s (drop s (regions session-of t)) ≡ sum → taken ≡ sum
+pub taken-all : (kind : ℕ) (t : List ℕ) (s taken sum : ℕ) → session-count ≤ s → taken + takers kind s (drop s (regions session-of t)) ≡ sum → taken ≡ sum
 taken-all kind t s taken sum h e =
     let n = length-regions session-of t in
     sym (add-zero taken) ∙ ap (λ (l : List Session). taken + takers kind s l) (sym (drop-of-length-le (regions session-of t) {i = s} (omega arith))) ∙ e
 
--- ==== a session's step
-
-pub event-steps : {r o o′ : List ℕ} {at to : ℕ} {st : Settings} (t₀ : List ℕ) (s kind : ℕ) (place : List ℕ) (x : Session) → st ≡ decode t₀ .settings
-    → Steps s (step st (event (notice-in kind place)) x) r o at to o′ → Steps s (each (decode t₀) (happens (event-in kind place)) s x) r o at to o′
-unfolding decode
-event-steps t₀ s kind place x e w = steps-with s (event (notice-in kind place)) x e w
-
 -- ==== what is left to all sessions
 
 front-means : (t a payload x : List ℕ) (n : ℕ) → Table t → Holds payload x n a
-    → Becomes t (record { settings = settings-of payload; in-force = x; last = n; sessions = decode t .sessions; events = 0 }) (front t a)
+    → Becomes t (record { shared = record { settings = settings-of payload; in-force = x; last = n; events = 0 }; sessions = decode t .sessions })
+    (front t a)
 unfolding decode
 front-means t a payload x n h k =
     let l = h .size in

@@ -10,14 +10,13 @@ use lib.ListN.{length, take, drop}
 use lib.Seq.{take-take, take-append-le, take-length}
 use Rattle.model.specs.Limits.{session-count}
 use Rattle.model.specs.Bytes.{all}
-use Rattle.model.specs.Records.{settings-of}
 use Rattle.model.specs.Session.{Session}
 use Rattle.text.proofs.Lists.{drop-take}
 use Rattle.text.specs.Cells.{cells}
 use Rattle.text.proofs.Cells.{cells-take}
-use Rattle.shared.specs.Shared.{settings-part, in-force-of, last-of, shared-formed}
+use Rattle.shared.specs.Shared.{shared-size, shared-formed}
 use Rattle.region.specs.Region.{region-size, session-of, region-formed}
-use Rattle.table.specs.Table.{shared-size, shared-area, regions, table-used, decode, table-formed}
+use Rattle.table.specs.Table.{shared-area, regions, table-used, shared-of, decode, table-formed}
 
 module _ (m : ℕ) (t : List ℕ) (h : table-used ≤ m) where
   area : shared-area (take m t) ≡ shared-area t
@@ -30,16 +29,7 @@ module _ (m : ℕ) (t : List ℕ) (h : table-used ≤ m) where
 
   pub decode-take : decode (take m t) ≡ decode t
   unfolding decode
-  decode-take =
-      ap₂
-      (λ (a : List ℕ) (xs : List Session). record {
-        settings = settings-of (settings-part a);
-        in-force = in-force-of a;
-        last = last-of a;
-        sessions = xs;
-        events = 0;
-      })
-      area (parts session-of)
+  decode-take = ap₂ (λ (a : List ℕ) (xs : List Session). record { shared = shared-of a; sessions = xs }) area (parts session-of)
 
   pub formed-take : table-formed (take m t) ≡ table-formed t
   unfolding table-formed

@@ -9,7 +9,7 @@ use lib.Dec.{lit≤}
 use lib.ListN.{length, getD, set, drop, replicate, length-drop, drop-of-length-le}
 use lib.Seq.{drop-drop, length-take-le}
 use borrow.Rule.Slice.PartMut.{putMid, midOf, mid-len, same-len-mid}
-use Rattle.model.specs.Limits.{table-least}
+use Rattle.model.specs.Limits.{session-count, table-least}
 use Rattle.model.specs.Bytes.{all}
 use Rattle.model.specs.Records.{settings-of}
 use Rattle.model.specs.Session.{Session, closed}
@@ -17,30 +17,39 @@ use Rattle.model.specs.World.{World, session-at}
 use Rattle.text.specs.Cells.{cells}
 use Rattle.text.proofs.Lists.{drop-next, all-at, drop-after}
 use Rattle.text.proofs.Cells.{area-same, area-before, part-put, part-at, length-cells}
-use Rattle.shared.specs.Shared.{settings-part, in-force-of, last-of, shared-formed, Area, Holds}
-use Rattle.region.specs.Region.{session-of, region-formed, Good}
+use Rattle.shared.specs.Shared.{shared-size, settings-part, in-force-of, last-of, shared-formed, Area, Holds}
+use Rattle.region.specs.Region.{region-size, session-of, region-formed, Good}
 use Rattle.table.specs.Table.{shared-area, table-used, regions, decode, table-formed, Table, Becomes}
 
--- the region of session s, and the table with ys for it, as lending `&mut table[a..a + 1024]` has them
+-- where the region of session s begins
+abbrev at-region : ℕ → ℕ
+at-region s = shared-size + s * region-size
+
+-- that region, and the table with ys for it, as lending `&mut table[a..a + SIZE]` has them
 abbrev pub part : List ℕ → ℕ → List ℕ
-part t s = midOf (1_024 + s * 1_024) (1_024 + s * 1_024 + 1_024 - (1_024 + s * 1_024)) t
+part t s = midOf (at-region s) (at-region s + region-size - at-region s) t
 
 abbrev pub put : List ℕ → ℕ → List ℕ → List ℕ
-put t s ys = putMid (1_024 + s * 1_024) (1_024 + s * 1_024 + 1_024 - (1_024 + s * 1_024)) t ys
+put t s ys = putMid (at-region s) (at-region s + region-size - at-region s) t ys
 
-part-size : (s : ℕ) → 1_024 + s * 1_024 + 1_024 - (1_024 + s * 1_024) ≡ 1_024
-part-size s = add-sub-cancel-left (1_024 + s * 1_024) 1_024
+part-size : (s : ℕ) → at-region s + region-size - at-region s ≡ region-size
+part-size s = add-sub-cancel-left (at-region s) region-size
 
 -- ==== what is known of each
 
-pub length-regions : {A : Type 0} (f : List ℕ → A) (t : List ℕ) → length (regions f t) ≡ 4
-length-regions f t = length-cells f 1_024 4 (drop 1_024 t)
+pub length-regions : {A : Type 0} (f : List ℕ → A) (t : List ℕ) → length (regions f t) ≡ session-count
+length-regions f t = length-cells f region-size session-count (drop shared-size t)
 
-pub region-at : {A : Type 0} (f : List ℕ → A) (t : List ℕ) (s : ℕ) (d : A) → s < 4 → getD (regions f t) s d ≡ f (part t s)
-region-at f t s d h = part-at f 1_024 1_024 4 s t d h
+pub region-at : {A : Type 0} (f : List ℕ → A) (t : List ℕ) (s : ℕ) (d : A) → s < session-count → getD (regions f t) s d ≡ f (part t s)
+region-at f t s d h = part-at f shared-size region-size session-count s t d h
+
+-- there are as many sessions, whatever the bytes
+pub so-many-sessions : (t : List ℕ) → length (decode t .sessions) ≡ session-count
+unfolding decode
+so-many-sessions t = length-regions session-of t
 
 -- the session that a region means
-pub part-is : (t : List ℕ) (s : ℕ) → s < 4 → session-at (decode t) s ≡ session-of (part t s)
+pub part-is : (t : List ℕ) (s : ℕ) → s < session-count → session-at (decode t) s ≡ session-of (part t s)
 unfolding decode
 part-is t s h = region-at session-of t s closed h
 
@@ -48,27 +57,27 @@ formed-parts : (t : List ℕ) → Table t → (shared-formed (shared-area t) ≡
 unfolding table-formed
 formed-parts t h = and-eq-true-iff (shared-formed (shared-area t)) (all (λ (b : Bool). b) (regions region-formed t)) .0 (h .formed)
 
-pub length-shared : (t : List ℕ) → table-least ≤ length t → length (shared-area t) ≡ 1_024
-length-shared t h = mid-len 0 1_024 t (omega arith)
+pub length-shared : (t : List ℕ) → table-least ≤ length t → length (shared-area t) ≡ shared-size
+length-shared t h = mid-len 0 shared-size t (omega arith)
 
-pub length-part : (t : List ℕ) (s : ℕ) → table-least ≤ length t → s < 4 → length (part t s) ≡ 1_024
-length-part t s h b = mid-len (1_024 + s * 1_024) (1_024 + s * 1_024 + 1_024) t (omega arith) ∙ part-size s
+pub length-part : (t : List ℕ) (s : ℕ) → table-least ≤ length t → s < session-count → length (part t s) ≡ region-size
+length-part t s h b = mid-len (at-region s) (at-region s + region-size) t (omega arith) ∙ part-size s
 
 pub shared-good : (t : List ℕ) → Table t → Area (shared-area t)
 shared-good t h = record { size = length-shared t (h .size); formed = formed-parts t h .0 }
 
-pub part-good : (t : List ℕ) (s : ℕ) → Table t → s < 4 → Good (part t s)
+pub part-good : (t : List ℕ) (s : ℕ) → Table t → s < session-count → Good (part t s)
 part-good t s h b = record {
   size = length-part t s (h .size) b;
   formed = sym (region-at region-formed t s true b) ∙ all-at (λ (b : Bool). b) (regions region-formed t) s true (formed-parts t h .1) (rw (length-regions region-formed t) b);
 }
 
 -- the parts of what is shared are as long as they are to be
-pub length-settings : (a : List ℕ) → length a ≡ 1_024 → length (settings-part a) ≡ 33
+pub length-settings : (a : List ℕ) → length a ≡ shared-size → length (settings-part a) ≡ 33
 unfolding settings-part
 length-settings a e = length-take-le 33 (drop 16 a) (simp length-drop (omega arith))
 
-pub length-in-force : (a : List ℕ) → length a ≡ 1_024 → length (in-force-of a) ≡ 25
+pub length-in-force : (a : List ℕ) → length a ≡ shared-size → length (in-force-of a) ≡ 25
 unfolding in-force-of
 length-in-force a e = length-take-le 25 (drop 56 a) (simp length-drop (omega arith))
 
@@ -78,19 +87,19 @@ module _ (t : List ℕ) where
   abbrev pub formed-from : ℕ → Bool
   formed-from s = all (λ (b : Bool). b) (drop s (regions region-formed t))
 
-  formed-next : (s : ℕ) → s < 4 → formed-from s ≡ region-formed (part t s) && formed-from (s + 1)
+  formed-next : (s : ℕ) → s < session-count → formed-from s ≡ region-formed (part t s) && formed-from (s + 1)
   formed-next s h =
       ap (all (λ (b : Bool). b)) (drop-next (regions region-formed t) s true (rw (length-regions region-formed t) h))
       ∙ ap (λ (b : Bool). b && formed-from (s + 1)) (region-at region-formed t s true h)
 
   -- a loop that tests a region a turn: what is left of the test is all of it
-  pub formed-goes-on : (s : ℕ) → s < 4 → region-formed (part t s) ≡ true → formed-from s ≡ formed-from 0 → formed-from (s + 1) ≡ formed-from 0
+  pub formed-goes-on : (s : ℕ) → s < session-count → region-formed (part t s) ≡ true → formed-from s ≡ formed-from 0 → formed-from (s + 1) ≡ formed-from 0
   formed-goes-on s h e i = ap (λ (b : Bool). b && formed-from (s + 1)) (sym e) ∙ sym (formed-next s h) ∙ i
 
-  pub formed-stops : (s : ℕ) → s < 4 → region-formed (part t s) ≡ false → formed-from s ≡ formed-from 0 → false ≡ formed-from 0
+  pub formed-stops : (s : ℕ) → s < session-count → region-formed (part t s) ≡ false → formed-from s ≡ formed-from 0 → false ≡ formed-from 0
   formed-stops s h e i = ap (λ (b : Bool). b && formed-from (s + 1)) (sym e) ∙ sym (formed-next s h) ∙ i
 
-  pub formed-ends : (s : ℕ) → 4 ≤ s → formed-from s ≡ formed-from 0 → true ≡ formed-from 0
+  pub formed-ends : (s : ℕ) → session-count ≤ s → formed-from s ≡ formed-from 0 → true ≡ formed-from 0
   formed-ends s h i =
       ap (all (λ (b : Bool). b)) (sym (drop-of-length-le (regions region-formed t) {i = s} (rw (length-regions region-formed t) h))) ∙ i
 
@@ -101,14 +110,11 @@ unfolding table-formed
 table-of t h a b = record { size = h; formed = and-eq-true-iff (shared-formed (shared-area t)) (all (λ (b : Bool). b) (regions region-formed t)) .1 (a, b) }
 
 pub table-means : (t payload x : List ℕ) (n : ℕ) (ss : List Session) → Holds payload x n (shared-area t) → regions session-of t ≡ ss
-    → decode t ≡ record { settings = settings-of payload; in-force = x; last = n; sessions = ss; events = 0 }
+    → decode t ≡ record { shared = record { settings = settings-of payload; in-force = x; last = n; events = 0 }; sessions = ss }
 unfolding decode
 table-means t payload x n ss h e = λ i. record {
-  settings = settings-of (h .settings i);
-  in-force = h .in-force i;
-  last = h .last i;
+  shared = record { settings = settings-of (h .settings i); in-force = h .in-force i; last = h .last i; events = 0 };
   sessions = e i;
-  events = 0;
 }
 
 -- what is shared, as the table means it
@@ -122,48 +128,48 @@ holds-as-before t t′ h e = record {
 
 -- ==== a region was replaced
 
-module _ (t : List ℕ) (s : ℕ) (ys : List ℕ) (long : table-least ≤ length t) (h : s < 4) (len : length ys ≡ 1_024) where
+module _ (t : List ℕ) (s : ℕ) (ys : List ℕ) (long : table-least ≤ length t) (h : s < session-count) (len : length ys ≡ region-size) where
   abbrev at : ℕ
-  at = 1_024 + s * 1_024
+  at = at-region s
 
-  fits : at + (at + 1_024 - at) ≤ length t
+  fits : at + (at + region-size - at) ≤ length t
   fits = omega (arith, part-size s)
 
-  len-part : length ys ≡ at + 1_024 - at
+  len-part : length ys ≡ at + region-size - at
   len-part = len ∙ sym (part-size s)
 
   pub put-size : length (put t s ys) ≡ length t
-  put-size = same-len-mid at (at + 1_024 - at) t ys (len ∙ sym (length-part t s long h))
+  put-size = same-len-mid at (at + region-size - at) t ys (len ∙ sym (length-part t s long h))
 
   pub put-past : drop table-used (put t s ys) ≡ drop table-used t
-  put-past = drop-after t ys at (at + 1_024 - at) table-used len-part fits (omega (arith, part-size s))
+  put-past = drop-after t ys at (at + region-size - at) table-used len-part fits (omega (arith, part-size s))
 
   pub put-shared : shared-area (put t s ys) ≡ shared-area t
-  put-shared = area-before at (at + 1_024 - at) t ys len-part fits 0 1_024 (omega arith)
+  put-shared = area-before at (at + region-size - at) t ys len-part fits 0 shared-size (omega arith)
 
   pub put-regions : {A : Type 0} (f : List ℕ → A) → regions f (put t s ys) ≡ set (regions f t) s (f ys)
-  put-regions f = part-put f 1_024 1_024 4 s t ys len (omega arith)
+  put-regions f = part-put f shared-size region-size session-count s t ys len (omega arith)
 
 -- ==== what is shared was replaced
 
 abbrev pub front : List ℕ → List ℕ → List ℕ
-front t ys = putMid 0 1_024 t ys
+front t ys = putMid 0 shared-size t ys
 
-module _ (t ys : List ℕ) (long : table-least ≤ length t) (len : length ys ≡ 1_024) where
-  front-fits : 0 + 1_024 ≤ length t
+module _ (t ys : List ℕ) (long : table-least ≤ length t) (len : length ys ≡ shared-size) where
+  front-fits : 0 + shared-size ≤ length t
   front-fits = omega arith
 
   pub front-size : length (front t ys) ≡ length t
-  front-size = same-len-mid 0 1_024 t ys (len ∙ sym (length-shared t long))
+  front-size = same-len-mid 0 shared-size t ys (len ∙ sym (length-shared t long))
 
   pub front-past : drop table-used (front t ys) ≡ drop table-used t
-  front-past = drop-after t ys 0 1_024 table-used len front-fits (lit≤ tt)
+  front-past = drop-after t ys 0 shared-size table-used len front-fits (lit≤ tt)
 
   pub front-shared : shared-area (front t ys) ≡ ys
-  front-shared = area-same 0 1_024 t ys len front-fits
+  front-shared = area-same 0 shared-size t ys len front-fits
 
   pub front-regions : {A : Type 0} (f : List ℕ → A) → regions f (front t ys) ≡ regions f t
-  front-regions f = ap (cells f 1_024 4) (drop-after t ys 0 1_024 1_024 len front-fits (lit≤ tt))
+  front-regions f = ap (cells f region-size session-count) (drop-after t ys 0 shared-size shared-size len front-fits (lit≤ tt))
 
 -- ==== a table whose region or shared area was replaced by a good one is a table
 
@@ -174,7 +180,7 @@ all-set (x ∷ l) (suc s) e =
     let p = and-eq-true-iff x (all (λ (b : Bool). b) l) .0 e in
     and-eq-true-iff x (all (λ (b : Bool). b) (set l s true)) .1 (p .0, all-set l s (p .1))
 
-pub put-table : (t : List ℕ) (s : ℕ) (r : List ℕ) → Table t → s < 4 → Good r → Table (put t s r)
+pub put-table : (t : List ℕ) (s : ℕ) (r : List ℕ) → Table t → s < session-count → Good r → Table (put t s r)
 put-table t s r h b g =
     let l = h .size in
     let n = g .size in
@@ -190,8 +196,8 @@ front-table t a h g =
     (ap (all (λ (b : Bool). b)) (front-regions t a l n region-formed) ∙ formed-parts t h .1)
 
 -- session s becomes what r means, and nothing else changes
-pub put-means : (t : List ℕ) (s : ℕ) (r : List ℕ) (ss : List Session) → Table t → s < 4 → Good r → set (regions session-of t) s (session-of r) ≡ ss
-    → Becomes t (record { settings = decode t .settings; in-force = decode t .in-force; last = decode t .last; sessions = ss; events = 0 }) (put t s r)
+pub put-means : (t : List ℕ) (s : ℕ) (r : List ℕ) (ss : List Session) → Table t → s < session-count → Good r → set (regions session-of t) s (session-of r) ≡ ss
+    → Becomes t (record { shared = decode t .shared; sessions = ss }) (put t s r)
 unfolding decode
 put-means t s r ss h b g e =
     let l = h .size in
@@ -204,13 +210,15 @@ put-means t s r ss h b g e =
           (holds-as-before t (put t s r) h (put-shared t s r l b n)) (put-regions t s r l b n session-of ∙ e);
     }
 
--- ==== what is past 16,384 bytes is past those that are used
+-- ==== what is past the bytes that have to be lent is past those that are used
 
-pub past-least : {t t′ : List ℕ} {w : World} → Becomes t w t′ → drop table-least t′ ≡ drop table-least t
-past-least {t} {t′} b = sym (drop-drop 11_264 table-used t′) ∙ ap (drop 11_264) (b .past) ∙ drop-drop 11_264 table-used t
+pub past-least : (t t′ : List ℕ) → drop table-used t′ ≡ drop table-used t → drop table-least t′ ≡ drop table-least t
+past-least t t′ e =
+    let more = table-least - table-used in
+    sym (drop-drop more table-used t′) ∙ ap (drop more) e ∙ drop-drop more table-used t
 
 -- ==== a table of zeros is none that a start has made
 
-pub zeros-not-formed : table-formed (replicate 16_384 0) ≡ false
+pub zeros-not-formed : table-formed (replicate table-least 0) ≡ false
 unfolding table-formed shared-formed
 zeros-not-formed = refl

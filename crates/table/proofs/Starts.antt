@@ -7,7 +7,7 @@ use mathlib.Core.Bool.{Bool, true}
 use mathlib.Core.List.{List, [], _∷_, _++_}
 use lib.ListN.{length, set, take, drop, replicate, replicate-append-replicate}
 use lib.Seq.{take-all, take-suc-set}
-use Rattle.model.specs.Limits.{table-least}
+use Rattle.model.specs.Limits.{table-least, session-count}
 use Rattle.model.specs.Bytes.{all, spaces}
 use Rattle.model.specs.Records.{settings-of}
 use Rattle.model.specs.Session.{closed}
@@ -28,7 +28,7 @@ module _ {A : Type 0} (x : A) where
 
 -- the first s sessions are closed
 pub record Closed (t₀ t : List ℕ) (s : ℕ) : Type 0 where
-  pub within : s ≤ 4
+  pub within : s ≤ session-count
   pub size : length t ≡ length t₀
   pub past : drop table-used t ≡ drop table-used t₀
   pub sessions : take s (regions session-of t) ≡ replicate s closed
@@ -41,7 +41,7 @@ module _ (t₀ : List ℕ) (long : table-least ≤ length t₀) (t : List ℕ) (
   still-long : table-least ≤ length t
   still-long = omega (arith, w .size)
 
-  pub closed-next : (r : List ℕ) → s < 4 → Good r → session-of r ≡ closed → Closed t₀ (put t s r) (s + 1)
+  pub closed-next : (r : List ℕ) → s < session-count → Good r → session-of r ≡ closed → Closed t₀ (put t s r) (s + 1)
   closed-next r h g e =
       let l = still-long in
       let n = g .size in
@@ -58,21 +58,21 @@ module _ (t₀ : List ℕ) (long : table-least ≤ length t₀) (t : List ℕ) (
       }
 
   -- all of them are, and a is what they share
-  pub closed-all : (payload a : List ℕ) → 4 ≤ s → Holds payload (spaces 25) (settings-of payload .last) a → Becomes t₀ (begun (settings-of payload) 0) (front t a)
+  pub closed-all : (payload a : List ℕ) → session-count ≤ s → Holds payload (spaces 25) (settings-of payload .last) a → Becomes t₀ (begun (settings-of payload) 0) (front t a)
   closed-all payload a h k =
       let l = still-long in
       let n = k .area .size in
       let few = w .within in
-      let e : s ≡ 4 = omega arith in
-      let sessions : regions session-of (front t a) ≡ replicate 4 closed =
-      front-regions t a l n session-of ∙ same-all closed (regions session-of t) 4 (length-regions session-of t) (rw e at (w .sessions)) in
-      let formed : regions region-formed (front t a) ≡ replicate 4 true =
-      front-regions t a l n region-formed ∙ same-all true (regions region-formed t) 4 (length-regions region-formed t) (rw e at (w .formed)) in
+      let e : s ≡ session-count = omega arith in
+      let sessions : regions session-of (front t a) ≡ replicate session-count closed =
+      front-regions t a l n session-of ∙ same-all closed (regions session-of t) session-count (length-regions session-of t) (rw e at (w .sessions)) in
+      let formed : regions region-formed (front t a) ≡ replicate session-count true =
+      front-regions t a l n region-formed ∙ same-all true (regions region-formed t) session-count (length-regions region-formed t) (rw e at (w .formed)) in
       let holds = subst (Holds payload (spaces 25) (settings-of payload .last)) (sym (front-shared t a l n)) k in
       let size = front-size t a l n in
       record {
         table = table-of (front t a) (omega (arith, size)) (holds .area .formed) (ap (all (λ (b : Bool). b)) formed);
         size = size ∙ w .size;
         past = front-past t a l n ∙ w .past;
-        meaning = table-means (front t a) payload (spaces 25) (settings-of payload .last) (replicate 4 closed) holds sessions;
+        meaning = table-means (front t a) payload (spaces 25) (settings-of payload .last) (replicate session-count closed) holds sessions;
       }

@@ -7,16 +7,19 @@ use mathlib.Core.Bool.{cond}
 use mathlib.Core.List.{List, [], _∷_, _++_, append-assoc, append-nil}
 use lib.ListN.{length, getD, set, take, drop, drop-of-length-le}
 use lib.Seq.{take-all, take-suc-set, drop-cons, drop-set-lt}
+use Rattle.model.specs.Limits.{session-count}
 use Rattle.model.specs.Records.{Settings}
+use Rattle.model.specs.Sharing.{shared-begun}
 use Rattle.model.specs.Session.{Session, closed, Emission}
-use Rattle.model.specs.Steps.{Local, step, takes}
+use Rattle.model.specs.Local.{Local, step, takes}
 use Rattle.model.specs.Row.{tag, row, said}
-use Rattle.model.specs.World.{uncounted, Moment, each, moved, emits}
+use Rattle.model.specs.World.{Moment, each, sessions-after, emits}
 use Rattle.model.specs.Calls.{output, takers}
 use Rattle.text.specs.Put.{Put}
 use Rattle.text.proofs.Puts.{Left, left-all, left-put, left-none, left-as}
 use Rattle.region.specs.Region.{session-of, out-bytes, Steps}
 use Rattle.model.proofs.Erase.{output-append}
+use Rattle.model.proofs.BySettings.{step-bare}
 use Rattle.shared.specs.Shared.{settings-part, in-force-of, last-of}
 use Rattle.table.specs.Table.{shared-area, table-used, regions, decode, Table, Becomes}
 use Rattle.table.proofs.Regions.{part, put, region-at, length-regions, put-size, put-past, put-shared, put-regions, put-table, table-means, holds-as-before}
@@ -50,7 +53,7 @@ module _ (l : List Session) (s : ℕ) (x y : Session) (h : s < length l) (at-s :
 
 module _ (act : ℕ → Session → Session × List Emission) where
   pub record Walk (t₀ o₀ : List ℕ) (at₀ : ℕ) (t o : List ℕ) (at s : ℕ) : Type 0 where
-    pub within : s ≤ 4
+    pub within : s ≤ session-count
     pub table : Table t
     pub size : length t ≡ length t₀
     pub past : drop table-used t ≡ drop table-used t₀
@@ -62,7 +65,7 @@ module _ (act : ℕ → Session → Session × List Emission) where
   walk-none t o at h = record { within = omega arith; table = h; size = refl; past = refl; shared = refl; sessions = refl; bytes = left-all o at _ }
 
   module _ (t₀ o₀ : List ℕ) (at₀ : ℕ) (t o : List ℕ) (at s : ℕ) (w : Walk t₀ o₀ at₀ t o at s) where
-    pub walk-next : (r : List ℕ) (to : ℕ) (o′ : List ℕ) → s < 4 → Steps s (act s (session-of (part t s))) r o at to o′ → Walk t₀ o₀ at₀ (put t s r) o′ to (s + 1)
+    pub walk-next : (r : List ℕ) (to : ℕ) (o′ : List ℕ) → s < session-count → Steps s (act s (session-of (part t s))) r o at to o′ → Walk t₀ o₀ at₀ (put t s r) o′ to (s + 1)
     walk-next r to o′ h g =
         let k = w .table .size in
         let n = g .good .size in
@@ -85,22 +88,23 @@ module _ (act : ℕ → Session → Session × List Emission) where
         }
 
     -- nothing is left
-    no-more : 4 ≤ s → (take s (regions session-of t) ≡ regions session-of t) × (drop s (regions session-of t) ≡ [])
+    no-more : session-count ≤ s → (take s (regions session-of t) ≡ regions session-of t) × (drop s (regions session-of t) ≡ [])
     no-more h =
         let e = length-regions session-of t in
         (take-all s (regions session-of t) (omega arith), drop-of-length-le (regions session-of t) {i = s} (omega arith))
 
-    pub walked-sessions : 4 ≤ s → regions session-of t ≡ row act 0 (regions session-of t₀)
+    pub walked-sessions : session-count ≤ s → regions session-of t ≡ row act 0 (regions session-of t₀)
     walked-sessions h =
         let e = no-more h in
         sym (append-nil (regions session-of t)) ∙ ap₂ (λ (a b : List Session). a ++ row act s b) (sym (e .0)) (sym (e .1)) ∙ w .sessions
 
-    pub walked-bytes : 4 ≤ s → Put o₀ at₀ (output (said act 0 (regions session-of t₀))) at o
+    pub walked-bytes : session-count ≤ s → Put o₀ at₀ (output (said act 0 (regions session-of t₀))) at o
     walked-bytes h = left-none (left-as (ap (λ (l : List Session). output (said act s l)) (no-more h .1)) (w .bytes))
 
 -- a walk with a moment is what the moment does to the sessions
-module _ (m : Moment) (t₀ o₀ : List ℕ) (at₀ : ℕ) (t o : List ℕ) (at s : ℕ) (start : Table t₀) (w : Walk (each (decode t₀) m) t₀ o₀ at₀ t o at s) (h : 4 ≤ s) where
-  pub walked : Becomes t₀ (uncounted (moved (decode t₀) m)) t × Put o₀ at₀ (output (emits (decode t₀) m)) at o
+module _ (m : Moment) (t₀ o₀ : List ℕ) (at₀ : ℕ) (t o : List ℕ) (at s : ℕ) (start : Table t₀) (w : Walk (each (decode t₀) m) t₀ o₀ at₀ t o at s) (h : session-count ≤ s) where
+  pub walked : Becomes t₀ (record { shared = decode t₀ .shared; sessions = sessions-after (decode t₀) m }) t
+      × Put o₀ at₀ (output (emits (decode t₀) m)) at o
   unfolding decode
   walked = (
     record {
@@ -113,7 +117,10 @@ module _ (m : Moment) (t₀ o₀ : List ℕ) (at₀ : ℕ) (t o : List ℕ) (at 
     walked-bytes (each (decode t₀) m) t₀ o₀ at₀ t o at s w h,
   )
 
--- the settings by another name
-pub steps-with : {r o o′ : List ℕ} {at to : ℕ} {st st′ : Settings} (s : ℕ) (l : Local) (x : Session) → st ≡ st′ → Steps s (step st l x) r o at to o′
-    → Steps s (step st′ l x) r o at to o′
-steps-with {r} {o} {o′} {at} {to} s l x e w = subst (λ (z : Settings). Steps s (step z l x) r o at to o′) e w
+-- a region's step, which is told the settings alone, is the session's
+pub steps-with : {r o o′ : List ℕ} {at to : ℕ} {st : Settings} (t : List ℕ) (s : ℕ) (l : Local) (x : Session) → st ≡ decode t .shared .settings
+    → Steps s (step (shared-begun st 0) l x) r o at to o′ → Steps s (step (decode t .shared) l x) r o at to o′
+unfolding decode
+steps-with {r} {o} {o′} {at} {to} t s l x e w =
+    subst (λ (z : Session × List Emission). Steps s z r o at to o′)
+    (ap (λ (z : Settings). step (shared-begun z 0) l x) e ∙ sym (step-bare (decode t .shared) l x)) w

@@ -9,17 +9,15 @@ use Rattle.model.specs.Limits.{session-count, table-least}
 use Rattle.model.specs.Bytes.{all}
 use Rattle.model.specs.Records.{settings-of}
 use Rattle.model.specs.Events.{Event}
-use Rattle.model.specs.World.{World, uncounted, Moment, in-force-after, last-after, after, emitted}
+use Rattle.model.specs.World.{World, uncounted, Moment, after, emitted}
+use Rattle.model.specs.Sharing.{Shared, shared-after, unnumbered}
 use Rattle.model.specs.Calls.{output}
 use Rattle.text.specs.Put.{Put}
 use Rattle.text.specs.Cells.{cells}
-use Rattle.shared.specs.Shared.{settings-part, in-force-of, last-of, shared-formed}
+use Rattle.shared.specs.Shared.{shared-size, settings-part, in-force-of, last-of, shared-formed}
 use Rattle.region.specs.Region.{region-size, session-of, region-formed}
 
 -- ==== its areas
-
-abbrev pub shared-size : ℕ
-shared-size = 1_024
 
 abbrev pub shared-area : List ℕ → List ℕ
 shared-area t = take shared-size (drop 0 t)
@@ -34,14 +32,11 @@ table-used = shared-size + session-count * region-size
 
 -- ==== its meaning (it keeps no count of events)
 
+abbrev pub shared-of : List ℕ → Shared
+shared-of a = record { settings = settings-of (settings-part a); in-force = in-force-of a; last = last-of a; events = 0 }
+
 unfoldable pub decode : List ℕ → World
-decode t = record {
-  settings = settings-of (settings-part (shared-area t));
-  in-force = in-force-of (shared-area t);
-  last = last-of (shared-area t);
-  sessions = regions session-of t;
-  events = 0;
-}
+decode t = record { shared = shared-of (shared-area t); sessions = regions session-of t }
 
 -- 01, "What the product holds", number 2: what is shared is well formed, and every region is
 unfoldable pub table-formed : List ℕ → Bool
@@ -63,13 +58,7 @@ pub record Becomes (t : List ℕ) (w : World) (t′ : List ℕ) : Type 0 where
 
 -- 01, "Frames we write" and "House records": what an event leaves to all sessions, besides its notices
 abbrev pub noted : World → Event → World
-noted w e = record {
-  settings = w .settings;
-  in-force = in-force-after (w .in-force) e;
-  last = last-after (w .last) e;
-  sessions = w .sessions;
-  events = w .events;
-}
+noted w e = record { shared = unnumbered (shared-after (w .shared) e); sessions = w .sessions }
 
 -- the moments have passed, and what they emit was written from `at` on
 pub record Went (t o : List ℕ) (at : ℕ) (ms : List Moment) (next : ℕ) (t′ o′ : List ℕ) : Type 0 where

@@ -4,11 +4,13 @@ ghost use mathlib.Core.Bool.{true, cond};
 ghost use mathlib.Core.List.{[], _∷_};
 ghost use Prim.Native.Nat.{_+_, _^_, _≤_, _<_};
 ghost use lib.ListN.{length};
+ghost use Rattle.model.specs.Limits.{session-count, table-least};
 ghost use Rattle.model.specs.Records.{settings-of};
+ghost use Rattle.model.specs.Kinds.{kinds, session-most, event-most, receive-most, tick-most};
 ghost use Rattle.model.specs.Runs.{cut};
 ghost use Rattle.model.specs.Session.{is-closed as is-closed-session};
-ghost use Rattle.model.specs.Steps.{announces};
-ghost use Rattle.model.specs.World.{session-at, begun, uncounted, opens, hangs-up, hears, ticks, happens as happens-event, moved, next, emits};
+ghost use Rattle.model.specs.Local.{announces, event};
+ghost use Rattle.model.specs.World.{session-at, begun, uncounted, opens, hangs-up, hears, to-all, ticks, happens as happens-event, next, emits};
 ghost use Rattle.model.specs.Calls.{bytes as call-bytes, moments, output, takers};
 ghost use Rattle.text.specs.Put.{Put};
 ghost use Rattle.run.specs.Area.{Ends};
@@ -16,21 +18,27 @@ ghost use Rattle.notices.specs.Places.{place-size, event-in};
 ghost use Rattle.region.specs.Region.{Knows};
 ghost use Rattle.shared.specs.Shared.{settings-part};
 ghost use Rattle.table.specs.Table.{shared-area, decode, table-formed, Table, Becomes, noted, Went};
+use model::SESSION_COUNT;
 use region::Received;
+
+// Where the regions begin, and the size of each.
+const SHARED: usize = shared::SIZE;
+
+const SIZE: usize = region::SIZE;
 
 // ---- reading
 
 pub fn is_formed(table: &[u8]) -> bool
-    requires { ⌜ 16_384 ≤ length (now table) ⌝ }
+    requires { ⌜ table-least ≤ length (now table) ⌝ }
     ensures { λ r. ⌜ r ≡ table-formed (now (table .entry)) ⌝ }
 {
-    if !shared::is_formed(&table[0..1024]) {
+    if !shared::is_formed(&table[0..SHARED]) {
         return false;
     }
-    let mut s = 0;
-    while s < 4 {
-        let a = 1024 + s * 1024;
-        if !region::is_formed(&table[a..a + 1024]) {
+    let mut s: u64 = 0;
+    while s < SESSION_COUNT {
+        let a = SHARED + s as usize * SIZE;
+        if !region::is_formed(&table[a..a + SIZE]) {
             return false;
         }
         s += 1;
@@ -40,27 +48,27 @@ pub fn is_formed(table: &[u8]) -> bool
 
 // Whether session s is closed.
 pub fn is_closed(table: &[u8], s: u64) -> bool
-    requires { ⌜ Table (now table) × (s < 4) ⌝ }
+    requires { ⌜ Table (now table) × (s < session-count) ⌝ }
     ensures { λ r. ⌜ r ≡ is-closed-session (session-at (decode (now (table .entry))) s) ⌝ }
 {
-    let a = 1024 + s as usize * 1024;
-    region::is_closed(&table[a..a + 1024])
+    let a = SHARED + s as usize * SIZE;
+    region::is_closed(&table[a..a + SIZE])
 }
 
 // The last tightening number.
 pub fn last(table: &[u8]) -> u64
     requires { ⌜ Table (now table) ⌝ }
-    ensures { λ r. ⌜ (r ≡ decode (now (table .entry)) .last) × (r < 4_294_967_296) ⌝ }
+    ensures { λ r. ⌜ (r ≡ decode (now (table .entry)) .shared .last) × (r < 4_294_967_296) ⌝ }
 {
-    shared::last(&table[0..1024])
+    shared::last(&table[0..SHARED])
 }
 
 // The identifier in force, as it stands.
 pub fn in_force(table: &[u8]) -> &[u8]
     requires { ⌜ Table (now table) ⌝ }
-    ensures { λ r. ⌜ (now r ≡ decode (now (table .entry)) .in-force) × (length (now r) ≡ 25) ⌝ }
+    ensures { λ r. ⌜ (now r ≡ decode (now (table .entry)) .shared .in-force) × (length (now r) ≡ 25) ⌝ }
 {
-    shared::in_force(&table[0..1024])
+    shared::in_force(&table[0..SHARED])
 }
 
 // The settings' payload, as it stands.
@@ -68,43 +76,43 @@ pub fn settings(table: &[u8]) -> &[u8]
     requires { ⌜ Table (now table) ⌝ }
     ensures { λ r. ⌜ (now r ≡ settings-part (shared-area (now (table .entry)))) × (length (now r) ≡ 33) ⌝ }
 {
-    shared::settings(&table[0..1024])
+    shared::settings(&table[0..SHARED])
 }
 
 // ---- a start
 
 // A start with these settings: it becomes a table, whatever the bytes were.
 pub fn start(table: &mut [u8], payload: &[u8])
-    requires { ⌜ (16_384 ≤ length (now table)) × (length (now payload) ≡ 33) ⌝ }
+    requires { ⌜ (table-least ≤ length (now table)) × (length (now payload) ≡ 33) ⌝ }
     ensures { λ _. ⌜ Becomes (now (table .entry)) (begun (settings-of (now (payload .entry))) 0) (now (table .exit)) ⌝ }
 {
-    let mut s = 0;
-    while s < 4 {
-        let a = 1024 + s * 1024;
-        region::start(&mut table[a..a + 1024]);
+    let mut s: u64 = 0;
+    while s < SESSION_COUNT {
+        let a = SHARED + s as usize * SIZE;
+        region::start(&mut table[a..a + SIZE]);
         s += 1;
     }
-    shared::start(&mut table[0..1024], payload);
+    shared::start(&mut table[0..SHARED], payload);
 }
 
 // ---- an opening, a hang-up
 
 // Session s, which is closed, is opened.
 pub fn open(table: &mut [u8], s: u64)
-    requires { ⌜ Table (now table) × (s < 4) × (is-closed-session (session-at (decode (now table)) s) ≡ true) ⌝ }
+    requires { ⌜ Table (now table) × (s < session-count) × (is-closed-session (session-at (decode (now table)) s) ≡ true) ⌝ }
     ensures { λ _. ⌜ Becomes (now (table .entry)) (uncounted (next (decode (now (table .entry))) (opens s))) (now (table .exit)) ⌝ }
 {
-    let a = 1024 + s as usize * 1024;
-    region::open(&mut table[a..a + 1024]);
+    let a = SHARED + s as usize * SIZE;
+    region::open(&mut table[a..a + SIZE]);
 }
 
 // Session s is hung up.
 pub fn hang_up(table: &mut [u8], s: u64)
-    requires { ⌜ Table (now table) × (s < 4) ⌝ }
+    requires { ⌜ Table (now table) × (s < session-count) ⌝ }
     ensures { λ _. ⌜ Becomes (now (table .entry)) (uncounted (next (decode (now (table .entry))) (hangs-up s))) (now (table .exit)) ⌝ }
 {
-    let a = 1024 + s as usize * 1024;
-    region::hang_up(&mut table[a..a + 1024]);
+    let a = SHARED + s as usize * SIZE;
+    region::hang_up(&mut table[a..a + SIZE]);
 }
 
 // ---- what comes over all sessions
@@ -112,7 +120,7 @@ pub fn hang_up(table: &mut [u8], s: u64)
 // The settings' payload, apart from the table: a region of that is lent on together with them.
 fn settings_apart(table: &[u8]) -> [u8; 33]
     requires { ⌜ Table (now table) ⌝ }
-    ensures { λ r. ⌜ settings-of r ≡ decode (now (table .entry)) .settings ⌝ }
+    ensures { λ r. ⌜ settings-of r ≡ decode (now (table .entry)) .shared .settings ⌝ }
 {
     let mut bytes = [0; 33];
     text::copy(settings(table), &mut bytes, 0);
@@ -121,15 +129,15 @@ fn settings_apart(table: &[u8]) -> [u8; 33]
 
 // A tick.
 pub fn tick(table: &mut [u8], out: &mut [u8], at: usize) -> usize
-    requires { ⌜ Table (now table) × (at + 1_888 ≤ length (now out)) ⌝ }
-    ensures { λ r. ⌜ (r ≤ at + 1_888) × Went (now (table .entry)) (now (out .entry)) at (ticks ∷ []) r (now (table .exit)) (now (out .exit)) ⌝ }
+    requires { ⌜ Table (now table) × (at + tick-most ≤ length (now out)) ⌝ }
+    ensures { λ r. ⌜ (r ≤ at + tick-most) × Went (now (table .entry)) (now (out .entry)) at (ticks ∷ []) r (now (table .exit)) (now (out .exit)) ⌝ }
 {
     let settings = settings_apart(table);
     let mut to = at;
     let mut s: u64 = 0;
-    while s < 4 {
-        let a = 1024 + s as usize * 1024;
-        to = region::tick(&mut table[a..a + 1024], out, to, s, &settings);
+    while s < SESSION_COUNT {
+        let a = SHARED + s as usize * SIZE;
+        to = region::tick(&mut table[a..a + SIZE], out, to, s, &settings);
         s += 1;
     }
     to
@@ -141,36 +149,29 @@ pub struct Told {
     pub taken: u64,
 }
 
-// What session s adds to that sum.
-fn share(taken: bool, s: u64) -> u64
-    requires { ⌜ s < 4 ⌝ }
-    ensures { λ r. ⌜ (r ≡ cond taken (2 ^ s) 0) × (r ≤ 8) ⌝ }
+// What a session adds to that sum, whose 2^s is `bit`.
+fn share(taken: bool, bit: u64) -> u64
+    ensures { λ r. ⌜ r ≡ cond taken bit 0 ⌝ }
 {
-    if !taken {
-        return 0;
-    }
-    match s {
-        0 => 1,
-        1 => 2,
-        2 => 4,
-        _ => 8,
-    }
+    if taken { bit } else { 0 }
 }
 
 // An event of that kind, whose notice is in `place`, to every session.
 fn tell(table: &mut [u8], out: &mut [u8], at: usize, kind: usize, place: &[u8]) -> Told
-    requires { ⌜ Table (now table) × (at + 944 ≤ length (now out)) × (kind < 2) × (length (now place) ≡ place-size kind) ⌝ }
-    ensures { λ r. ⌜ (r .at ≤ at + 944) × (r .taken ≡ takers kind 0 (decode (now (table .entry)) .sessions)) × Becomes (now (table .entry)) (uncounted (moved (decode (now (table .entry))) (happens-event (event-in kind (now (place .entry)))))) (now (table .exit)) × Put (now (out .entry)) at (output (emits (decode (now (table .entry))) (happens-event (event-in kind (now (place .entry)))))) (r .at) (now (out .exit)) ⌝ }
+    requires { ⌜ Table (now table) × (at + event-most kind ≤ length (now out)) × (kind < length kinds) × (length (now place) ≡ place-size kind) ⌝ }
+    ensures { λ r. ⌜ (r .at ≤ at + event-most kind) × (r .taken ≡ takers kind 0 (decode (now (table .entry)) .sessions)) × Becomes (now (table .entry)) (next (decode (now (table .entry))) (to-all (event (event-in kind (now (place .entry)))))) (now (table .exit)) × Put (now (out .entry)) at (output (emits (decode (now (table .entry))) (to-all (event (event-in kind (now (place .entry))))))) (r .at) (now (out .exit)) ⌝ }
 {
     let settings = settings_apart(table);
     let mut to = at;
     let mut taken: u64 = 0;
+    let mut bit: u64 = 1;
     let mut s: u64 = 0;
-    while s < 4 {
-        let a = 1024 + s as usize * 1024;
-        let told = region::event(&mut table[a..a + 1024], out, to, s, &settings, kind, place);
+    while s < SESSION_COUNT {
+        let a = SHARED + s as usize * SIZE;
+        let told = region::event(&mut table[a..a + SIZE], out, to, s, &settings, kind, place);
         to = told.at;
-        taken += share(told.taken, s);
+        taken += share(told.taken, bit);
+        bit *= 2;
         s += 1;
     }
     Told { at: to, taken }
@@ -178,21 +179,21 @@ fn tell(table: &mut [u8], out: &mut [u8], at: usize, kind: usize, place: &[u8]) 
 
 // What the event leaves to all sessions: the identifier in force, or the last number.
 fn note(table: &mut [u8], kind: usize, place: &[u8])
-    requires { ⌜ Table (now table) × (kind < 2) × (length (now place) ≡ place-size kind) ⌝ }
+    requires { ⌜ Table (now table) × (kind < length kinds) × (length (now place) ≡ place-size kind) ⌝ }
     ensures { λ _. ⌜ Becomes (now (table .entry)) (noted (decode (now (table .entry))) (event-in kind (now (place .entry)))) (now (table .exit)) ⌝ }
 {
     if kind == message::IDENTIFIERS {
-        shared::put_in_force(&mut table[0..1024], place);
+        shared::put_in_force(&mut table[0..SHARED], place);
         return;
     }
     let number = text::little(place, 106, 4);
-    shared::put_last(&mut table[0..1024], number);
+    shared::put_last(&mut table[0..SHARED], number);
 }
 
 // An event of that kind, whose notice is in `place`.
 pub fn happens(table: &mut [u8], out: &mut [u8], at: usize, kind: usize, place: &[u8]) -> Told
-    requires { ⌜ Table (now table) × (at + 944 ≤ length (now out)) × (kind < 2) × (length (now place) ≡ place-size kind) ⌝ }
-    ensures { λ r. ⌜ (r .at ≤ at + 944) × Went (now (table .entry)) (now (out .entry)) at (happens-event (event-in kind (now (place .entry))) ∷ []) (r .at) (now (table .exit)) (now (out .exit)) × (r .taken ≡ takers kind 0 (decode (now (table .entry)) .sessions)) × (r .taken < 16) ⌝ }
+    requires { ⌜ Table (now table) × (at + event-most kind ≤ length (now out)) × (kind < length kinds) × (length (now place) ≡ place-size kind) ⌝ }
+    ensures { λ r. ⌜ (r .at ≤ at + event-most kind) × Went (now (table .entry)) (now (out .entry)) at (happens-event (event-in kind (now (place .entry))) ∷ []) (r .at) (now (table .exit)) (now (out .exit)) × (r .taken ≡ takers kind 0 (decode (now (table .entry)) .sessions)) × (r .taken < 2 ^ session-count) ⌝ }
 {
     let told = tell(table, out, at, kind, place);
     note(table, kind, place);
@@ -211,13 +212,13 @@ fn hear(
     end: usize,
     place: &mut [u8],
 ) -> Received
-    requires { ⌜ Table (now table) × (s < 4) × (at + 298 ≤ length (now out)) × (length (now place) ≡ 25) × Ends (now bytes) end ⌝ }
-    ensures { λ r. ⌜ (r .at ≤ at + 298) × Went (now (table .entry)) (now (out .entry)) at (hears s (cut (now (bytes .entry))) ∷ []) (r .at) (now (table .exit)) (now (out .exit)) × Knows (announces (decode (now (table .entry)) .settings) (cut (now (bytes .entry))) (session-at (decode (now (table .entry))) s)) (now (place .entry)) (r .identified) (now (place .exit)) ⌝ }
+    requires { ⌜ Table (now table) × (s < session-count) × (at + session-most ≤ length (now out)) × (length (now place) ≡ 25) × Ends (now bytes) end ⌝ }
+    ensures { λ r. ⌜ (r .at ≤ at + session-most) × Went (now (table .entry)) (now (out .entry)) at (hears s (cut (now (bytes .entry))) ∷ []) (r .at) (now (table .exit)) (now (out .exit)) × Knows (announces (decode (now (table .entry)) .shared) (cut (now (bytes .entry))) (session-at (decode (now (table .entry))) s)) (now (place .entry)) (r .identified) (now (place .exit)) ⌝ }
 {
     let settings = settings_apart(table);
-    let a = 1024 + s as usize * 1024;
+    let a = SHARED + s as usize * SIZE;
     region::receive(
-        &mut table[a..a + 1024],
+        &mut table[a..a + SIZE],
         out,
         at,
         s,
@@ -237,8 +238,8 @@ pub fn receive(
     bytes: &[u8],
     end: usize,
 ) -> usize
-    requires { ⌜ Table (now table) × (s < 4) × (at + 1_242 ≤ length (now out)) × Ends (now bytes) end ⌝ }
-    ensures { λ r. ⌜ (r ≤ at + 1_242) × Went (now (table .entry)) (now (out .entry)) at (moments (decode (now (table .entry))) (call-bytes s (now (bytes .entry)))) r (now (table .exit)) (now (out .exit)) ⌝ }
+    requires { ⌜ Table (now table) × (s < session-count) × (at + receive-most ≤ length (now out)) × Ends (now bytes) end ⌝ }
+    ensures { λ r. ⌜ (r ≤ at + receive-most) × Went (now (table .entry)) (now (out .entry)) at (moments (decode (now (table .entry))) (call-bytes s (now (bytes .entry)))) r (now (table .exit)) (now (out .exit)) ⌝ }
 {
     let mut place = [0; 25];
     let heard = hear(table, out, at, s, bytes, end, &mut place);

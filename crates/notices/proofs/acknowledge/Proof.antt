@@ -3,7 +3,8 @@ use borrow.Author.Needs.{needs}
 use mathlib.Core.Path.{_≡_}
 use mathlib.Core.Bool.{false}
 use Rattle.model.specs.Records.{settings-of}
-use Rattle.model.specs.Notices.{room-of, acks, act}
+use Rattle.model.specs.Kinds.{room-of}
+use Rattle.model.specs.Notices.{acks, act}
 use Rattle.text.proofs.Puts.{put-as}
 use Rattle.session.proofs.Notices.{acknowledge-right}
 use Rattle.notices.specs.Places.{notices-in, copies, copies-to, subscription-of}
@@ -17,7 +18,7 @@ carry-requires : tie.Need-carry-requires
 carry-requires c κs =
     let t = c .before .before in
     let s = t .before .before .before .before in
-    ((s .pre .0, s .pre .1, s .pre .2), (kept-fits (s .args .kind) (s .args .x) (s .args .places .now) (s .pre .3), rw (t .acknowledged .ensures) (acknowledge-feasible (s .args .x))))
+    ((s .pre .0, s .pre .1, s .pre .2, s .pre .4), (kept-fits (s .args .kind) (s .args .x) (s .args .places .now) (s .pre .3), rw (t .acknowledged .ensures) (acknowledge-feasible (s .args .x))))
 
 returns : tie.Need-returns
 returns c =

@@ -4,7 +4,7 @@ use mathlib.Core.Path.{_≡_, refl, sym, ap, _∙_}
 use Prim.Native.Nat.{ℕ, _<_}
 use native.Mathlib.Omega.{arith}
 use Rattle.model.specs.Records.{settings-of}
-use Rattle.model.specs.Notices.{room-of}
+use Rattle.model.specs.Kinds.{room-of}
 use Rattle.session.specs.Meaning.{most-held}
 use Rattle.text.proofs.Puts.{put-nothing, put-as}
 use Rattle.notices.proofs.Events.{room-some, place-held, not-taken, sent-once, opened, waits}

@@ -3,7 +3,7 @@ use borrow.Author.Needs.{needs}
 use mathlib.Core.Path.{_≡_, ap, sym, _∙_}
 use Prim.Native.Nat.{ℕ}
 use native.Mathlib.Omega.{arith}
-use Rattle.model.specs.Notices.{room-of}
+use Rattle.model.specs.Kinds.{room-of}
 use Rattle.session.specs.Control.{taken}
 use Rattle.notices.proofs.taking.Statement.{statement}
 use Rattle.notices.proofs.taking.Tie as tie

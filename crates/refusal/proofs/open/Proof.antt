@@ -3,6 +3,7 @@ use borrow.Author.Needs.{needs}
 use borrow.Author.Tests.{le-leb, lt-leb, not-true, not-false}
 use mathlib.Core.Path.{sym, _∙_}
 use native.Mathlib.Omega.{arith}
+use Rattle.model.specs.Limits.{session-count}
 use Rattle.model.specs.Calls.{refusal}
 use Rattle.refusal.proofs.Numbers.{is-ready, lent-gives, own-gives, open-own}
 use Rattle.refusal.proofs.open.Statement.{statement}
@@ -19,7 +20,7 @@ unfolding refusal
 returns-2 c =
     let a = c .before .before .before .before .args in
     own-gives (a .table .now) (a .output) (open-own (a .table .now) (a .session)) (c .before .before .tick .ensures) (c .before .if1 .left)
-    (rw (le-leb 4 (a .session) (c .if2 .taken)))
+    (rw (le-leb session-count (a .session) (c .if2 .taken)))
 
 is-closed-requires : tie.Need-is-closed-requires
 is-closed-requires c κs = (is-ready _ _ (sym (c .before .before .tick .ensures) ∙ c .before .if1 .left) .table, omega arith)
@@ -30,7 +31,7 @@ returns-3 c =
     let r = c .before .before .before in
     let a = r .before .before .before .args in
     own-gives (a .table .now) (a .output) (open-own (a .table .now) (a .session)) (r .before .tick .ensures) (r .if1 .left)
-    (rw (lt-leb 4 (a .session) (c .before .before .if2 .left), sym (c .before .is-closed .ensures) ∙ not-true _ (c .if3 .taken)))
+    (rw (lt-leb session-count (a .session) (c .before .before .if2 .left), sym (c .before .is-closed .ensures) ∙ not-true _ (c .if3 .taken)))
 
 returns-4 : tie.Need-returns-4
 unfolding refusal
@@ -38,7 +39,7 @@ returns-4 c =
     let r = c .before .before .before in
     let a = r .before .before .before .args in
     own-gives (a .table .now) (a .output) (open-own (a .table .now) (a .session)) (r .before .tick .ensures) (r .if1 .left)
-    (rw (lt-leb 4 (a .session) (c .before .before .if2 .left), sym (c .before .is-closed .ensures) ∙ not-false _ (c .if3 .left)))
+    (rw (lt-leb session-count (a .session) (c .before .before .if2 .left), sym (c .before .is-closed .ensures) ∙ not-false _ (c .if3 .left)))
 
 pub open-spec : {M : Type 1} → statement M
 open-spec = tie.close (tie.spec (λ c κs. search needs) returns returns-2 is-closed-requires returns-3 returns-4)

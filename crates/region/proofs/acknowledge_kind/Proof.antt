@@ -6,7 +6,8 @@ use mathlib.Core.List.{List}
 use Prim.Native.Nat.{ℕ}
 use native.Mathlib.Omega.{arith}
 use Rattle.model.specs.Records.{settings-of}
-use Rattle.model.specs.Notices.{room-of, beats, acks, news, takes}
+use Rattle.model.specs.Kinds.{room-of}
+use Rattle.model.specs.Notices.{beats, acks, news, takes}
 use Rattle.notices.specs.Places.{notice-in, subscription-of, Kept}
 use Rattle.region.proofs.Areas.{identifiers-replaced, tightenings-replaced, places-of-identifiers, places-of-tightenings, moved-0, moved-1, dealt-there, put-there, size-0, size-1}
 use Rattle.region.proofs.acknowledge_kind.Statement.{statement}
@@ -17,7 +18,7 @@ acknowledge-requires c κs =
     let i = c .before .before in
     let s = i .before .before .before .before in
     let a = s .args in
-    (s .pre .0 .0, s .pre .0 .1, s .pre .0 .2, subst (λ (z : List ℕ). Kept (a .kind) (a .x) z) (sym (places-of-identifiers (a .kind) (a .region .now) (i .if1 .taken))) (s .pre .1 .1))
+    (s .pre .0 .0, s .pre .0 .1, s .pre .0 .2, subst (λ (z : List ℕ). Kept (a .kind) (a .x) z) (sym (places-of-identifiers (a .kind) (a .region .now) (i .if1 .taken))) (s .pre .1 .1), s .pre .0 .3)
 
 returns : tie.Need-returns
 returns c =
@@ -42,7 +43,7 @@ acknowledge-requires-2 c κs =
     let i = c .before .before in
     let s = i .before .before .before .before in
     let a = s .args in
-    (s .pre .0 .0, s .pre .0 .1, s .pre .0 .2, subst (λ (z : List ℕ). Kept (a .kind) (a .x) z) (sym (places-of-tightenings (a .kind) (a .region .now) (i .if1 .left))) (s .pre .1 .1))
+    (s .pre .0 .0, s .pre .0 .1, s .pre .0 .2, subst (λ (z : List ℕ). Kept (a .kind) (a .x) z) (sym (places-of-tightenings (a .kind) (a .region .now) (i .if1 .left))) (s .pre .1 .1), s .pre .0 .3)
 
 returns-2 : tie.Need-returns-2
 returns-2 c =

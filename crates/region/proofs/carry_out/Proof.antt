@@ -3,6 +3,7 @@ use borrow.Author.Needs.{needs}
 use mathlib.Core.Path.{_≡_, sym, subst}
 use native.Mathlib.Omega.{arith}
 use Rattle.model.specs.Records.{settings-of}
+use Rattle.model.proofs.Bounds.{copy-within}
 use Rattle.session.specs.Effects.{AcknowledgedIn}
 use Rattle.session.specs.declared.Decision.{Decision}
 use Rattle.head.specs.Head.{Storable}
@@ -36,7 +37,7 @@ acknowledged-requires c κs =
     let p = s .pre in
     let known = subst (AcknowledgedIn (a .x .phase)) (d .d .given .1) (p .1 .2) in
     let h = heard-storable (a .s) (settings-of (a .settings .now)) (a .region .now) (l .clear-run .last .0) (a .x) (p .0 .3) (p .1 .0) (l .clear-run .ensures) (known .0) (c .heard .result) (c .heard .ensures) in
-    (p .0 .0, p .0 .1, p .0 .2, l .clear-run .ensures .good, h .0, h .1, known .1)
+    (omega (arith, p .0 .0, copy-within _ (known .1)), p .0 .1, p .0 .2, l .clear-run .ensures .good, h .0, h .1, known .1)
 
 returns-2 : tie.Need-returns-2
 returns-2 c =
@@ -48,7 +49,7 @@ returns-2 c =
     let a = s .args in
     let p = s .pre in
     let known = subst (AcknowledgedIn (a .x .phase)) (d .d .given .1) (p .1 .2) in (
-      k .acknowledged .ensures .0,
+      omega (arith, k .acknowledged .ensures .0, copy-within _ (known .1)),
       acknowledged-so (a .s) (settings-of (a .settings .now)) (a .region .now) (l .clear-run .last .0) (a .x) (p .0 .3) (p .1 .0) (l .clear-run .ensures)
           (known .0) _ (a .d) (h .heard .result) (h .heard .ensures) (d .d .given .1) (k .acknowledged .ensures .1),
     )

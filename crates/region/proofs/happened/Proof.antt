@@ -2,7 +2,8 @@
 use borrow.Author.Needs.{needs}
 use mathlib.Core.Path.{_≡_, sym, ap, subst, _∙_}
 use Rattle.model.specs.Records.{settings-of}
-use Rattle.model.specs.Notices.{room-of, news, takes}
+use Rattle.model.specs.Kinds.{room-of}
+use Rattle.model.specs.Notices.{news, takes}
 use Rattle.session.specs.declared.Session.{Session}
 use Rattle.session.specs.declared.Subscription.{Subscription}
 use Rattle.head.specs.Head.{Storable}

@@ -16,19 +16,19 @@ use Rattle.head.specs.Head.{head-of, head-formed}
 use Rattle.head.specs.Head as head
 use Rattle.run.specs.Area.{run-of, run-formed}
 use Rattle.run.specs.Area as run
-use Rattle.region.specs.Region.{head-area, run-area, identifiers-area, tightenings-area, meaning, session-of, region-formed, Good}
+use Rattle.region.specs.Region.{region-size, head-area, run-area, identifiers-area, tightenings-area, meaning, session-of, region-formed, Good}
 use Rattle.region.proofs.Both.{cleared-storable}
 use Rattle.region.proofs.start.Statement.{statement}
 use Rattle.region.proofs.start.Tie as tie
 
-cleared-there : (r h n : List ℕ) → length r ≡ 1024 → head-of h ≡ cleared → head.Area h → run.Area n
+cleared-there : (r h n : List ℕ) → length r ≡ region-size → head-of h ≡ cleared → head.Area h → run.Area n
     → Good (putMid 32 48 (putMid 0 32 r h) n) × (session-of (putMid 32 48 (putMid 0 32 r h) n) ≡ closed)
 unfolding session-of region-formed
 cleared-there r h n s e g k =
     let r₁ = putMid 0 32 r h in
     let r₂ = putMid 32 48 r₁ n in
     let fits : 0 + 32 ≤ length r = omega arith in
-    let l : length r₁ ≡ 1024 = same-len-mid 0 32 r h (g .size ∙ sym (mid-len 0 32 r fits)) ∙ s in
+    let l : length r₁ ≡ region-size = same-len-mid 0 32 r h (g .size ∙ sym (mid-len 0 32 r fits)) ∙ s in
     let fits₁ : 32 + 48 ≤ length r₁ = omega arith in
     let a : head-area r₂ ≡ h = area-before 32 48 r₁ n (k .size) fits₁ 0 32 (lit≤ tt) ∙ area-same 0 32 r h (g .size) fits in
     let b : run-area r₂ ≡ n = area-same 32 48 r₁ n (k .size) fits₁ in (

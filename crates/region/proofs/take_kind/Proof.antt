@@ -6,7 +6,8 @@ use mathlib.Core.List.{List}
 use Prim.Native.Nat.{ℕ}
 use native.Mathlib.Omega.{arith}
 use Rattle.model.specs.Records.{settings-of}
-use Rattle.model.specs.Notices.{room-of, beats, acks, news, takes}
+use Rattle.model.specs.Kinds.{room-of}
+use Rattle.model.specs.Notices.{beats, acks, news, takes}
 use Rattle.notices.specs.Places.{notice-in, subscription-of, Kept}
 use Rattle.region.proofs.Areas.{identifiers-replaced, tightenings-replaced, places-of-identifiers, places-of-tightenings, moved-0, moved-1, dealt-there, put-there, size-0, size-1}
 use Rattle.region.proofs.take_kind.Statement.{statement}

@@ -7,7 +7,8 @@ use native.Mathlib.Omega.{arith}
 use Rattle.model.specs.Records.{settings-of}
 use Rattle.model.specs.Runs.{Run}
 use Rattle.session.specs.declared.Phase.the-variants.{Started}
-use Rattle.model.specs.Notices.{room-of, beats, act}
+use Rattle.model.specs.Kinds.{room-of}
+use Rattle.model.specs.Notices.{beats, act}
 use Rattle.text.proofs.Puts.{put-then, put-as}
 use Rattle.run.specs.Area.{run-of}
 use Rattle.notices.specs.Places.{subscription-of, Kept, dealt-bytes}

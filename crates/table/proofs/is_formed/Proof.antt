@@ -3,6 +3,7 @@ use borrow.Author.Needs.{needs}
 use borrow.Author.Tests.{not-true, not-false}
 use mathlib.Core.Path.{_≡_, refl, sym, _∙_}
 use Prim.Native.Nat.{_-_}
+use Rattle.model.specs.Limits.{session-count}
 use Rattle.table.specs.Table.{table-formed}
 use Rattle.table.proofs.Regions.{formed-from, formed-goes-on, formed-stops, formed-ends}
 use Rattle.table.proofs.is_formed.Statement.{statement}
@@ -12,7 +13,7 @@ abbrev Inv-loop : tie.InvT-loop
 Inv-loop table s₀ s = formed-from table s ≡ formed-from table 0
 
 abbrev μ-loop : tie.MeasureT-loop
-μ-loop table s₀ s = 4 - s
+μ-loop table s₀ s = session-count - s
 
 returns : tie.Need-returns Inv-loop μ-loop
 unfolding table-formed

@@ -1,13 +1,12 @@
 -- `table::open` meets its contract. Assumes nothing.
 use borrow.Author.Needs.{needs}
-use mathlib.Core.Path.{refl, sym, ap, _∙_}
+use mathlib.Core.Path.{sym, ap, _∙_}
 use Rattle.model.specs.Session.{is-closed}
-use Rattle.model.specs.World.{opens}
-use Rattle.model.specs.Steps.{opening}
+use Rattle.model.specs.Local.{opening}
 use Rattle.region.specs.Region.{session-of}
 use Rattle.table.specs.Table.{decode}
 use Rattle.table.proofs.Regions.{part, part-good, part-is}
-use Rattle.table.proofs.Alone.{opens-seen, became-alone, opened-fresh}
+use Rattle.table.proofs.Alone.{became-alone, opened-fresh}
 use Rattle.table.proofs.open.Statement.{statement}
 use Rattle.table.proofs.open.Tie as tie
 
@@ -22,8 +21,8 @@ returns c =
     let s = k .before .before .before in
     let t = s .args .table .now in
     let n = s .args .s in
-    became-alone t n (opens n) opening (decode t .settings) (s .pre .0) (s .pre .1) (opens-seen n) refl (k .«open» .last .0) (k .«open» .ensures .0)
-    (k .«open» .ensures .1 ∙ opened-fresh (decode t .settings) (session-of (part t n)) (ap is-closed (sym (part-is t n (s .pre .1))) ∙ s .pre .2))
+    became-alone t n opening (s .pre .0) (s .pre .1) (k .«open» .last .0) (k .«open» .ensures .0)
+    (k .«open» .ensures .1 ∙ opened-fresh (decode t .shared) (session-of (part t n)) (ap is-closed (sym (part-is t n (s .pre .1))) ∙ s .pre .2))
 
 pub open-spec : {M : Type 1} → statement M
 open-spec =

@@ -1,6 +1,7 @@
 -- `table::start` meets its contract. The invariant: the sessions so far are closed. Assumes nothing.
 use borrow.Author.Needs.{needs}
 use Prim.Native.Nat.{_-_}
+use Rattle.model.specs.Limits.{session-count}
 use Rattle.table.proofs.Starts.{Closed, closed-none, closed-next, closed-all}
 use Rattle.table.proofs.start.Statement.{statement}
 use Rattle.table.proofs.start.Tie as tie
@@ -9,7 +10,7 @@ abbrev Inv-loop : tie.InvT-loop
 Inv-loop table₀ payload s₀ table s = Closed table₀ table s
 
 abbrev μ-loop : tie.MeasureT-loop
-μ-loop table₀ payload s₀ table s = 4 - s
+μ-loop table₀ payload s₀ table s = session-count - s
 
 loop-again : tie.Need-loop-again Inv-loop μ-loop
 loop-again c =

@@ -2,7 +2,9 @@
 use borrow.Author.Needs.{needs}
 use Prim.Native.Nat.{_+_, _-_, _*_, _≤_}
 use native.Mathlib.Omega.{arith}
-use Rattle.model.specs.Steps.{tick}
+use Rattle.model.specs.Limits.{session-count}
+use Rattle.model.specs.Kinds.{kinds, copies-most}
+use Rattle.model.specs.Local.{tick}
 use Rattle.model.specs.World.{ticks, each}
 use Rattle.region.specs.Region.{session-of}
 use Rattle.table.specs.Table.{decode}
@@ -14,10 +16,10 @@ use Rattle.table.proofs.tick.Tie as tie
 
 abbrev Inv-loop : tie.InvT-loop
 Inv-loop table₀ out₀ at settings to₀ s₀ table out to s =
-    Walk (each (decode table₀) ticks) table₀ out₀ at table out to s × (to ≤ at + 472 * s)
+    Walk (each (decode table₀) ticks) table₀ out₀ at table out to s × (to ≤ at + copies-most kinds * s)
 
 abbrev μ-loop : tie.MeasureT-loop
-μ-loop table₀ out₀ at settings to₀ s₀ table out to s = 4 - s
+μ-loop table₀ out₀ at settings to₀ s₀ table out to s = session-count - s
 
 loop-holds : tie.Need-loop-holds Inv-loop μ-loop
 loop-holds c =
@@ -46,11 +48,12 @@ loop-again c =
     let room = l .inv .1 in
     let few = t .loop-test .taken in (
       walk-next (each (decode (a .table .now)) ticks) (a .table .now) (a .out .now) (a .at) (l .table) (l .out) (l .to) (l .s) (l .inv .0)
-          (k .tick .last .0) (k .tick .result) _ few (steps-with (l .s) tick (session-of (part (l .table) (l .s))) (p .settings-apart .ensures) (k .tick .ensures .1)),
+          (k .tick .last .0) (k .tick .result) _ few (steps-with (a .table .now) (l .s) tick (session-of (part (l .table) (l .s))) (p .settings-apart .ensures) (k .tick .ensures .1)),
       omega (arith, k .tick .ensures .0),
     )
 
 returns : tie.Need-returns Inv-loop μ-loop
+unfolding decode
 returns c =
     let l = c .before .loop in
     let s = c .before .before .before .before .before .before in
@@ -59,7 +62,7 @@ returns c =
     let few = w .within in
     let room = l .inv .1 in
     let e = walked ticks (a .table .now) (a .out .now) (a .at) (l .table) (l .out) (l .to) (l .s) (s .pre .0) w (c .loop-test .left) in
-    (omega arith, went-one (e .0) (e .1))
+    (omega arith, went-one {m = ticks} (e .0) (e .1))
 
 pub tick-spec : {M : Type 1} → statement M
 tick-spec =

@@ -1,0 +1,225 @@
+-- What one session is told, and its state, are a fold over what it sees of a history: no other session's bytes, openings, times or
+-- subscriptions show in it, but for the identifiers that are accepted from them. Assumes nothing.
+use Prim.Native.Nat.{ℕ, zero, suc, _<_}
+use mathlib.Core.Path.{_≡_, refl, sym, _∙_, ap, ap₂, subst}
+use mathlib.Core.Bool.{Bool, true, false, cond, true≢false}
+use mathlib.Core.List.{List, [], _∷_, _++_, append-nil}
+use mathlib.Core.Option.{Option, none, some, Option·map as option-map}
+use native.Mathlib.Omega.{arith}
+use lib.Dec.{eqb}
+use lib.ListN.{length}
+use borrow.Author.Tests.{eqb-true}
+use Rattle.model.specs.Limits.{session-count}
+use Rattle.model.specs.Records.{Settings, read-tool}
+use Rattle.model.specs.Runs.{cut}
+use Rattle.model.specs.Events.{Event, kind-of}
+use Rattle.model.specs.Sharing.{Shared, reported}
+use Rattle.model.specs.Session.{Session, closed, Emission}
+use Rattle.model.specs.Local.{Local, opening, hang-up, receives, elsewhere, takes, step as session-step}
+use Rattle.model.specs.Row.{Tagged, pick}
+use Rattle.model.specs.World.{World, session-at, begun, Change, no-change, Moment, to, happens, each, changed, next, emits, after, emitted}
+use Rattle.model.specs.Calls.{Call, start, open-session, hang-up-session, bytes, one-tick, tool, Lent, Conduct, does, refusal, happening, moments, taken-by, in-sum, Answer, answered, step}
+use Rattle.model.specs.Sights.{sight}
+use Rattle.model.specs.Own.{Glance, its-call, its-news, made-known, glance, Learned, told-to, if-seen, view-of, told-in, world-after, Ample, AllAmple, ample, glanced, folded, world-folded, SameFor}
+use Rattle.model.proofs.RowLaws.{pick-append, length-row}
+use Rattle.model.proofs.Sessions.{session-next, session-emits}
+use Rattle.model.proofs.Takers.{in-none, in-takers}
+
+module _ (s : ℕ) where
+  -- ==== moments, in two worlds that are the same for it
+
+  module _ {w v : World} (r : SameFor s w v) where
+    same-step : (m : Moment) → each w m s (session-at w s) ≡ each v m s (session-at v s)
+    same-step m = ap₂ (λ (g : Shared) (x : Session). session-step g (m .sees s) x) (r .shared) (r .session)
+
+    same-next : (m : Moment) → SameFor s (next w m) (next v m)
+    same-next m = record {
+      shared = ap (λ (g : Shared). changed g (m .leaves)) (r .shared);
+      session = session-next w s (r .here) m
+          ∙ ap (λ (p : Session × List Emission). p .0) (same-step m) ∙ sym (session-next v s (r .there) m);
+      here = rw (length-row (each w m) 0 (w .sessions)) (r .here);
+      there = rw (length-row (each v m) 0 (v .sessions)) (r .there);
+    }
+
+    same-emits : (m : Moment) → pick s (emits w m) ≡ pick s (emits v m)
+    same-emits m =
+        session-emits w s (r .here) m
+        ∙ ap (λ (p : Session × List Emission). p .1) (same-step m) ∙ sym (session-emits v s (r .there) m)
+
+    -- one that it does not see
+    unseen-next : (t : ℕ) (l : Local) → eqb s t ≡ false → SameFor s (next w (to t l)) v
+    unseen-next t l e = record {
+      shared = r .shared;
+      session = session-next w s (r .here) (to t l) ∙ rw e (r .session);
+      here = rw (length-row (each w (to t l)) 0 (w .sessions)) (r .here);
+      there = r .there;
+    }
+
+    unseen-emits : (t : ℕ) (l : Local) → eqb s t ≡ false → pick s (emits w (to t l)) ≡ []
+    unseen-emits t l e = session-emits w s (r .here) (to t l) ∙ rw e
+
+  same-after : {w v : World} (ms : List Moment) → SameFor s w v → SameFor s (after w ms) (after v ms)
+  same-after [] r = r
+  same-after (m ∷ ms) r = same-after ms (same-next r m)
+
+  same-emitted : {w v : World} (ms : List Moment) → SameFor s w v → pick s (emitted w ms) ≡ pick s (emitted v ms)
+  same-emitted [] r = refl
+  same-emitted {w} {v} (m ∷ ms) r =
+      pick-append s (emits w m) (emitted (next w m) ms)
+      ∙ ap₂ _++_ (same-emits r m) (same-emitted ms (same-next r m)) ∙ sym (pick-append s (emits v m) (emitted (next v m) ms))
+
+  -- ==== a call that is for it
+
+  -- what a call does in either world, as far as it goes for s
+  record Like (d e : Conduct) : Type 0 where
+    asks : d .asks ≡ e .asks
+    moment : d .moment ≡ e .moment
+    event : d .event ≡ e .event
+    took : in-sum s (d .taken) ≡ in-sum s (e .taken)
+
+  module _ {w v : World} (r : SameFor s w v) where
+    session-same : (t : ℕ) → eqb s t ≡ true → session-at w t ≡ session-at v t
+    session-same t e = subst (λ (n : ℕ). session-at w n ≡ session-at v n) (eqb-true s t e) (r .session)
+
+    taken-same : (o : Option Event) → in-sum s (taken-by (w .sessions) o) ≡ in-sum s (taken-by (v .sessions) o)
+    taken-same none = refl
+    taken-same (some e) =
+        in-takers (kind-of e) s (w .sessions) ∙ ap (takes (kind-of e)) (r .session) ∙ sym (in-takers (kind-of e) s (v .sessions))
+
+    does-like : (c : Call) → (sight s c) .own ≡ true → Like (does w c) (does v c)
+    does-like (start slice) h = record { asks = refl; moment = refl; event = refl; took = refl }
+    does-like (open-session t) h = record { asks = rw (session-same t h); moment = refl; event = refl; took = refl }
+    does-like (hang-up-session t) h = record { asks = rw (session-same t h); moment = refl; event = refl; took = refl }
+    does-like (bytes t bs) h = record {
+      asks = rw (session-same t h);
+      moment = refl;
+      event = rw (r .shared, session-same t h);
+      took = refl;
+    }
+    does-like one-tick h = record { asks = refl; moment = refl; event = refl; took = refl }
+    does-like (tool slice) h = record {
+      asks = rw (r .shared);
+      moment = refl;
+      event = rw (r .shared);
+      took = rw (r .shared) (taken-same (option-map (reported (v .shared)) (read-tool slice)));
+    }
+
+    answered-same : (c : Call) (n : ℕ) → Like (does w c) (does v c)
+        → SameFor s ((answered w c n) .0) ((answered v c n) .0) × (told-to s (answered w c n) ≡ told-to s (answered v c n))
+    answered-same c zero k =
+        let e : moments w c ≡ moments v c = rw (k .moment, k .event) in (
+          subst (λ (ms : List Moment). SameFor s (after w (moments w c)) (after v ms)) e (same-after (moments w c) r),
+          ap₂ {C = Learned} (λ (es : List Emission) (b : Bool). record { number = 0; sent = es; took = b })
+              (same-emitted (moments w c) r ∙ ap (λ (ms : List Moment). pick s (emitted v ms)) e) (k .took),
+        )
+    answered-same c (suc n) k = (r, refl)
+
+    -- A CALL that is for it
+    own-fits : (l : Lent) (c : Call) → Ample l → (sight s c) .own ≡ true
+        → SameFor s ((step l w c) .0) ((glanced s v (its-call c)) .0) × (told-to s (step l w c) ≡ (glanced s v (its-call c)) .1)
+    unfolding step refusal
+    own-fits l c a h =
+        let k = does-like c h in
+        rw (a .table, a .well-formed, a .output, k .asks) (answered-same c (refusal ample v c) k)
+
+    -- ==== a call for another: the moment is not seen, the event is
+
+    -- nothing changes for s, and it is told nothing; or what is told is the fold's
+    abbrev Fits : Option Glance → World × Answer × List (Tagged Emission) → Type 0
+    Fits none q = SameFor s (q .0) v × (pick s (q .2) ≡ []) × (in-sum s ((q .1) .taken) ≡ false)
+    Fits (some x) q = SameFor s (q .0) ((glanced s v x) .0) × (told-to s q ≡ (glanced s v x) .1)
+
+    module _ (t : ℕ) (l : Local) (e : eqb s t ≡ false) (consumed : ℕ) where
+      after-other : (o : Option Event) (written : ℕ)
+          → Fits (made-known 0 o) (
+            after w (to t l ∷ happening o),
+            record { number = 0; consumed = consumed; written = written; taken = 0 },
+            emitted w (to t l ∷ happening o),
+          )
+      after-other none written = (
+        unseen-next r t l e,
+        pick-append s (emits w (to t l)) [] ∙ ap (_++ []) (unseen-emits r t l e),
+        in-none s,
+      )
+      after-other (some x) written =
+          let q = unseen-next r t l e in (
+            same-next q (happens x),
+            ap₂ {C = Learned} (λ (es : List Emission) (b : Bool). record { number = 0; sent = es; took = b })
+                (pick-append s (emits w (to t l)) (emitted (next w (to t l)) (happening (some x)))
+                ∙ ap₂ _++_ (unseen-emits r t l e)
+                (same-emitted (happening (some x)) q ∙ ap (pick s) (append-nil (emits v (happens x)))))
+                (in-none s),
+          )
+
+    other-answered : (c : Call) (n : ℕ) → (sight s c) .own ≡ false → Fits (made-known n ((does w c) .event)) (answered w c n)
+    other-answered c (suc n) h = (r, refl, in-none s)
+    other-answered (start slice) zero h = absurd (true≢false h)
+    other-answered (open-session t) zero h = after-other t opening h 0 none 0
+    other-answered (hang-up-session t) zero h = after-other t hang-up h 0 none 0
+    other-answered (bytes t bs) zero h = after-other t (receives (cut bs)) h _ ((does w (bytes t bs)) .event) _
+    other-answered one-tick zero h = absurd (true≢false h)
+    other-answered (tool slice) zero h = absurd (true≢false h)
+
+    -- A CALL
+    fits : (l : Lent) (c : Call) → Ample l → Fits (glance s l w c) (step l w c)
+    unfolding step
+    fits l c a = go ((sight s c) .own) refl
+      where
+        go : (b : Bool) → (sight s c) .own ≡ b
+            → Fits (cond b (some (its-call c)) (made-known (refusal l w c) ((does w c) .event))) (step l w c)
+        go true h = own-fits l c a h
+        go false h = other-answered c (refusal l w c) h
+
+  -- ==== histories
+
+  -- WHAT SESSION s IS TOLD is a fold over its view-of, from any world that is the same for it
+  pub told-same : (w v : World) (cs : List (Lent × Call)) → SameFor s w v → AllAmple cs
+      → told-in s w cs ≡ folded s v (view-of s w cs)
+  told-same w v [] r h = refl
+  told-same w v (c ∷ cs) r h =
+      go (glance s (c .0) w (c .1)) (fits r (c .0) (c .1) (h .0)) (λ z k. told-same ((step (c .0) w (c .1)) .0) z cs k (h .1))
+    where
+      u : World
+      u = (step (c .0) w (c .1)) .0
+
+      go : (o : Option Glance) → Fits r o (step (c .0) w (c .1))
+          → ((z : World) → SameFor s u z → told-in s u cs ≡ folded s z (view-of s u cs))
+          → if-seen o (λ x. told-to s (step (c .0) w (c .1))) (told-in s u cs) ≡ folded s v (if-seen o (λ x. x) (view-of s u cs))
+      go none f ih = ih v (f .0)
+      go (some x) f ih = ap₂ _∷_ (f .1) (ih ((glanced s v x) .0) (f .0))
+
+  -- and so is its STATE, with what all share
+  pub state-same : (w v : World) (cs : List (Lent × Call)) → SameFor s w v → AllAmple cs
+      → SameFor s (world-after w cs) (world-folded s v (view-of s w cs))
+  state-same w v [] r h = r
+  state-same w v (c ∷ cs) r h =
+      go (glance s (c .0) w (c .1)) (fits r (c .0) (c .1) (h .0)) (λ z k. state-same ((step (c .0) w (c .1)) .0) z cs k (h .1))
+    where
+      u : World
+      u = (step (c .0) w (c .1)) .0
+
+      go : (o : Option Glance) → Fits r o (step (c .0) w (c .1))
+          → ((z : World) → SameFor s u z → SameFor s (world-after u cs) (world-folded s z (view-of s u cs)))
+          → SameFor s (world-after u cs) (world-folded s v (if-seen o (λ x. x) (view-of s u cs)))
+      go none f ih = ih v (f .0)
+      go (some x) f ih = ih ((glanced s v x) .0) (f .0)
+
+  -- of a call that it does not see it is told nothing
+  pub unseen : {w : World} → SameFor s w w → (l : Lent) (c : Call) → Ample l → glance s l w c ≡ none
+      → (pick s ((step l w c) .2) ≡ []) × (in-sum s (((step l w c) .1) .taken) ≡ false)
+  unseen {w} r l c a e =
+      let f = subst (λ (o : Option Glance). Fits r o (step l w c)) e (fits r l c a) in
+      (f .1, f .2)
+
+  -- TWO HISTORIES that look the same to session s, from worlds that are the same for it, tell it the same
+  pub apart : {w v : World} → SameFor s w v → (cs ds : List (Lent × Call)) → AllAmple cs → AllAmple ds
+      → view-of s w cs ≡ view-of s v ds → told-in s w cs ≡ told-in s v ds
+  apart {w} {v} r cs ds a b e =
+      told-same w v cs r a ∙ ap (folded s v) e
+      ∙ sym (told-same v v ds (record { shared = refl; session = refl; here = r .there; there = r .there }) b)
+
+  -- from equal starts
+  pub apart-from-start : (st : Settings) (events : ℕ) → s < session-count → (cs ds : List (Lent × Call)) → AllAmple cs → AllAmple ds
+      → view-of s (begun st events) cs ≡ view-of s (begun st events) ds → told-in s (begun st events) cs ≡ told-in s (begun st events) ds
+  apart-from-start st events h cs ds a b e =
+      apart (record { shared = refl; session = refl; here = h; there = h }) cs ds a b e

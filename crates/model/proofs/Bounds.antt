@@ -1,0 +1,98 @@
+-- The table of messages, row by row as the paper has it; and how much goes out at most. Assumes nothing.
+use mathlib.Core.Path.{_≡_, refl}
+use Prim.Native.Nat.{ℕ, zero, suc, _%_, _≤_, _<_}
+use mathlib.Core.Bool.{Bool, true, false, cond}
+use mathlib.Core.List.{List, [], _∷_, map}
+use lib.Dec.{eqb}
+use lib.ListN.{length, getD}
+use native.Mathlib.Omega.{arith}
+use Rattle.model.specs.Limits.{identifier-length, copy-every, given-up-at, output-least}
+use Rattle.model.specs.Bytes.{spaces, digits}
+use Rattle.model.specs.Records.{Settings, settings-of, tightening-of}
+use Rattle.model.specs.Events.{Result, Notice}
+use Rattle.model.specs.Frames.{header, frame, fields-from, frame-0002, frame-0052, frame-0061}
+use Rattle.model.specs.Kinds.{Room, Kind, kinds, kind-at, identifiers, tightenings, copy-most, copies-most, longest-reply, event-most}
+use Rattle.model.specs.Kinds.{receive-most, tick-most, call-most}
+use Rattle.model.specs.Notices.{empty, busy, Subscription, unsubscribed, plain, acked, Deed, nothing, beats, news, asks, drops, acks, next-one, act}
+use Rattle.model.specs.Messages.{not-read, revisions, starts, stops, identifies, subscribes, unsubscribes, acknowledges, mirrors, entry, table}
+
+-- 01, "What a message does"
+pub the-table : table
+    ≡ entry 0001 20 20 (revisions 1 1) starts
+    ∷ entry 0003 20 20 not-read stops
+    ∷ entry 0050 21 45 (revisions 1 1) (identifies 08)
+    ∷ entry 0051 20 20 (revisions 1 2) (subscribes identifiers 06)
+    ∷ entry 0053 20 20 not-read (acknowledges identifiers)
+    ∷ entry 0054 20 20 not-read (unsubscribes identifiers 07)
+    ∷ entry 0060 20 20 (revisions 1 1) (subscribes tightenings 09)
+    ∷ entry 0062 20 20 not-read (acknowledges tightenings)
+    ∷ entry 0063 20 20 not-read (unsubscribes tightenings 10)
+    ∷ entry 9999 20 20 not-read mirrors
+    ∷ []
+the-table = refl
+
+-- 01, "Frames we write": how long 0002 is, and the longest frame of each kind
+abbrev sample : Settings
+sample = settings-of (spaces 33)
+
+abbrev result : Result
+result = record { number = 1; identifier = spaces identifier-length; tightening = tightening-of (spaces 106) }
+
+abbrev frames : List (List ℕ)
+frames = frame-0002 sample ∷ frame-0052 2 false (spaces identifier-length) ∷ frame-0061 sample 1 false result ∷ []
+
+pub the-lengths : map length frames
+    ≡ longest-reply ∷ map (λ k. k .longest) kinds
+unfolding frame-0002 frame-0052 frame-0061 frame header fields-from digits settings-of tightening-of
+the-lengths = refl
+
+-- 01, "What the product holds": the output that has to be lent suffices
+pub call-fits : call-most ≤ output-least
+call-fits = omega arith
+
+pub tick-within : tick-most ≤ call-most
+tick-within = omega arith
+
+pub receive-within : receive-most ≤ call-most
+receive-within = omega arith
+
+-- a copy of one kind is no longer than a copy of each
+copy-among : (ks : List Kind) (place : ℕ) (d : Kind) → place < length ks → copy-most (getD ks place d) ≤ copies-most ks
+copy-among [] place d h = absurd (omega arith)
+copy-among (k ∷ ks) zero d h = omega arith
+copy-among (k ∷ ks) (suc place) d h = let r = copy-among ks place d (omega arith) in omega arith
+
+pub copy-within : (place : ℕ) → place < length kinds → copy-most (kind-at place) ≤ copies-most kinds
+copy-within place h = copy-among kinds place (kind-at (length kinds)) h
+
+pub event-within : (place : ℕ) → place < length kinds → event-most place ≤ call-most
+event-within place h = let n = copy-within place h in omega arith
+
+-- 01, "Notices and the clock": whatever is done to a subscription, one copy at most goes out
+next-few : (r : ℕ) (q : List Notice) → length ((next-one r q) .1) ≤ 1
+next-few r [] = omega arith
+next-few r (x ∷ q) = omega arith
+
+pub act-few : (room : Room) (d : Deed) (s : Subscription) → length ((act room d s) .1) ≤ 1
+act-few room nothing s = omega arith
+act-few room beats unsubscribed = omega arith
+act-few room beats (plain r) = omega arith
+act-few room beats (acked r empty) = omega arith
+act-few room beats (acked r (busy x c q)) = go (eqb (suc c) given-up-at) (eqb (suc c % copy-every) 0)
+  where
+    go : (b d : Bool) → length ((cond b (next-one r q) (acked r (busy x (suc c) q), cond d (x ∷ []) [])) .1) ≤ 1
+    go true d = next-few r q
+    go false true = omega arith
+    go false false = omega arith
+act-few room (news n) unsubscribed = omega arith
+act-few room (news n) (plain r) = omega arith
+act-few room (news n) (acked r empty) = omega arith
+act-few room (news n) (acked r (busy x c q)) = omega arith
+act-few room (asks r a) unsubscribed = omega arith
+act-few room (asks r a) (plain c) = omega arith
+act-few room (asks r a) (acked c q) = omega arith
+act-few room drops s = omega arith
+act-few room acks unsubscribed = omega arith
+act-few room acks (plain r) = omega arith
+act-few room acks (acked r empty) = omega arith
+act-few room acks (acked r (busy x c q)) = next-few r q

@@ -1,0 +1,62 @@
+-- What all sessions share, and what is left of it by an event or a start. 01, "What the product holds", "House records" and "Frames
+-- we write". Assumes nothing: these are definitions.
+use Prim.Native.Nat.{ℕ, suc, _+_}
+use mathlib.Core.List.{List}
+use mathlib.Core.Option.{Option, none, some}
+use Rattle.model.specs.Limits.{identifier-length}
+use Rattle.model.specs.Bytes.{spaces}
+use Rattle.model.specs.Records.{Settings, Tool, scanned, tightening}
+use Rattle.model.specs.Events.{Event, identified, tightened, identifier-of, Notice}
+
+pub record Shared : Type 0 where
+  pub settings : Settings
+  -- the identifier in force
+  pub in-force : List ℕ
+  -- the last tightening number
+  pub last : ℕ
+  -- how many events there were: no answer and no byte shows it
+  pub events : ℕ
+
+-- a start: no identifier is in force, and the last number is the settings'
+abbrev pub shared-begun : Settings → ℕ → Shared
+shared-begun st events =
+    record { settings = st; in-force = spaces identifier-length; last = st .last; events = events }
+
+-- an event of an identifier puts it in force, whether it was scanned or came over the net
+abbrev pub in-force-after : List ℕ → Event → List ℕ
+in-force-after x (identified y) = y
+in-force-after x (tightened r) = x
+
+-- an event of a tightening makes its number the last, whether a session takes it or not
+abbrev pub last-after : ℕ → Event → ℕ
+last-after n (identified y) = n
+last-after n (tightened r) = r .number
+
+abbrev pub shared-after : Shared → Event → Shared
+shared-after g e = record {
+  settings = g .settings;
+  in-force = in-force-after (g .in-force) e;
+  last = last-after (g .last) e;
+  events = suc (g .events);
+}
+
+-- where there may be one
+abbrev pub shared-with : Shared → Option Event → Shared
+shared-with g none = g
+shared-with g (some e) = shared-after g e
+
+-- the count of events forgotten: the table keeps none
+abbrev pub unnumbered : Shared → Shared
+unnumbered g = record { settings = g .settings; in-force = g .in-force; last = g .last; events = 0 }
+
+-- ==== events, by what is shared when they come
+
+-- the notice of an event has the next number
+abbrev pub notice-of : Shared → Event → Notice
+notice-of g e = record { id = g .events; event = e }
+
+-- what a tool record reports; a tightening gets its number and the identifier that is meant now
+abbrev pub reported : Shared → Tool → Event
+reported g (scanned x) = identified x
+reported g (tightening x t) =
+    tightened (record { number = g .last + 1; identifier = identifier-of x (g .in-force); tightening = t })
