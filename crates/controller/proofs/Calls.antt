@@ -37,7 +37,8 @@ module _ (c : Call) (t o : List ℕ) where
   said-is n e = ap outcome (sym e)
 
   -- a refusal: nothing is altered
-  pub refuse : {n : ℕ} {r : Answer} → n ≡ number t (length o) c → (n ≡ 0 → ⊥) → r ≡ record { number = n; consumed = 0; written = 0; taken = 0 } → Outcome c t o r t o
+  pub refuse : {n : ℕ} {r : Answer} → n ≡ number t (length o) c → (n ≡ 0 → ⊥)
+      → r ≡ record { number = n; consumed = 0; written = 0; taken = 0 } → Outcome c t o r t o
   refuse {n = zero} e ne p = absurd (ne refl)
   refuse {n = suc n} {r = r} e ne p =
       let s = said-is (suc n) e in
@@ -54,13 +55,15 @@ module _ (c : Call) (t o : List ℕ) where
 
   -- the moments of the call have passed, and what they emit stands in the output
   pub finish : {n : ℕ} {r : Answer} (at consumed taken : ℕ) {t′ o′ : List ℕ} → n ≡ number t (length o) c → n ≡ 0
-      → r ≡ record { number = 0; consumed = consumed; written = at; taken = taken } → consumed ≡ (does (decode t) c) .consumed → taken ≡ (does (decode t) c) .taken
+      → r ≡ record { number = 0; consumed = consumed; written = at; taken = taken } → consumed ≡ (does (decode t) c) .consumed → taken
+      ≡ (does (decode t) c) .taken
       → Went t o 0 (moments (decode t) c) at t′ o′ → at ≤ output-least → Outcome c t o r t′ o′
   finish {n} {r} at consumed taken e z p ec et w h =
       let s = said-is 0 (sym z ∙ e) in
       let ew : at ≡ length (output (emitted (decode t) (moments (decode t) c))) = w .bytes .place ∙ zero-add _ in
       record {
-        answer = p ∙ (λ i. record { number = 0; consumed = ec i; written = ew i; taken = et i }) ∙ sym (ap (λ (x : Said). numbers (x .1)) s);
+        answer =
+            p ∙ (λ i. record { number = 0; consumed = ec i; written = ew i; taken = et i }) ∙ sym (ap (λ (x : Said). numbers (x .1)) s);
         meaning = w .table .meaning ∙ sym (ap (λ (x : Said). uncounted (x .0)) s);
         output = w .bytes .output ∙ sym (ap (λ (x : Said). sets o 0 (output (x .2))) s);
         fits = rw p h;
@@ -88,15 +91,18 @@ unfolding decode
 start-begins t st = ap uncounted (begins-begun (decode t) st (so-many-sessions t))
 
 -- a moment that only the table shows
-quietly : (t o : List ℕ) (m : Moment) {t′ : List ℕ} → emits (decode t) m ≡ [] → Becomes t (uncounted (next (decode t) m)) t′ → Went t o 0 (m ∷ []) 0 t′ o
+quietly : (t o : List ℕ) (m : Moment) {t′ : List ℕ} → emits (decode t) m ≡ [] → Becomes t (uncounted (next (decode t) m)) t′
+    → Went t o 0 (m ∷ []) 0 t′ o
 quietly t o m e b =
     let n : output (emits (decode t) m ++ []) ≡ [] = ap (λ (es : List (Tagged Emission)). output (es ++ [])) e in
     record { table = b; bytes = record { output = sym (ap (sets o 0) n); place = sym (zero-add _ ∙ ap length n) } }
 
-pub opened-quietly : (t o : List ℕ) (s : ℕ) {t′ : List ℕ} → Becomes t (uncounted (next (decode t) (opens s))) t′ → Went t o 0 (moments (decode t) (open-session s)) 0 t′ o
+pub opened-quietly : (t o : List ℕ) (s : ℕ) {t′ : List ℕ} → Becomes t (uncounted (next (decode t) (opens s))) t′
+    → Went t o 0 (moments (decode t) (open-session s)) 0 t′ o
 opened-quietly t o s b = quietly t o (opens s) (opens-silent (decode t) s) b
 
-pub hung-up-quietly : (t o : List ℕ) (s : ℕ) {t′ : List ℕ} → Becomes t (uncounted (next (decode t) (hangs-up s))) t′ → Went t o 0 (moments (decode t) (hang-up-session s)) 0 t′ o
+pub hung-up-quietly : (t o : List ℕ) (s : ℕ) {t′ : List ℕ} → Becomes t (uncounted (next (decode t) (hangs-up s))) t′
+    → Went t o 0 (moments (decode t) (hang-up-session s)) 0 t′ o
 hung-up-quietly t o s b = quietly t o (hangs-up s) (hangs-up-silent (decode t) s) b
 
 pub started-quietly : (t o slice : List ℕ) {t′ : List ℕ} → read-settings slice ≡ some (settings-of (payload slice))

@@ -27,7 +27,8 @@ use Rattle.table.specs.Table.{shared-area, shared-of, decode}
 use Rattle.shared.specs.Shared.{shared-size}
 
 -- cells that a function leaves as they are read
-cells-same : {A : Type 0} (g : A → A) (f : List ℕ → A) → ((p : List ℕ) → g (f p) ≡ f p) → (k n : ℕ) (l : List ℕ) → map g (cells f k n l) ≡ cells f k n l
+cells-same : {A : Type 0} (g : A → A) (f : List ℕ → A) → ((p : List ℕ) → g (f p) ≡ f p) → (k n : ℕ) (l : List ℕ)
+    → map g (cells f k n l) ≡ cells f k n l
 unfolding cells
 cells-same g f h k zero l = refl
 cells-same g f h k (suc n) l = ap₂ _∷_ (h (take k l)) (cells-same g f h k n (drop k l))
@@ -36,7 +37,8 @@ notices-erased : (kind held : ℕ) (places : List ℕ) → map erase (notices-in
 unfolding notices-in
 notices-erased kind held places = cells-same erase (notice-in kind) (λ p. refl) (place-size kind) held places
 
-sub-erased : (f : Form) (revision clock : ℕ) (ns : List Notice) → map erase ns ≡ ns → erase-sub (subscription-as f revision clock ns) ≡ subscription-as f revision clock ns
+sub-erased : (f : Form) (revision clock : ℕ) (ns : List Notice) → map erase ns ≡ ns
+    → erase-sub (subscription-as f revision clock ns) ≡ subscription-as f revision clock ns
 sub-erased Not revision clock ns e = refl
 sub-erased Plain revision clock ns e = refl
 sub-erased Acknowledged revision clock [] e = refl
@@ -53,10 +55,13 @@ unfolding session-of
 session-erased r =
     let x = head-of (head-area r) in
     as-erased (x .phase) (x .idle) (run-of (run-area r)) _ _
-    (sub-erased (x .identifiers .form) (x .identifiers .revision) (x .identifiers .clock) _ (notices-erased identifiers (x .identifiers .held) (identifiers-area r)))
-    (sub-erased (x .tightenings .form) (x .tightenings .revision) (x .tightenings .clock) _ (notices-erased tightenings (x .tightenings .held) (tightenings-area r)))
+    (sub-erased (x .identifiers .form) (x .identifiers .revision) (x .identifiers .clock) _
+    (notices-erased identifiers (x .identifiers .held) (identifiers-area r)))
+    (sub-erased (x .tightenings .form) (x .tightenings .revision) (x .tightenings .clock) _
+    (notices-erased tightenings (x .tightenings .held) (tightenings-area r)))
 
 pub decode-erased : (t : List ℕ) → decode t ≡ erase-world (decode t)
 unfolding decode
 decode-erased t =
-    ap (λ (ss : List model-session.Session). record { shared = shared-of (shared-area t); sessions = ss }) (sym (cells-same erase-session session-of session-erased region-size session-count (drop shared-size t)))
+    ap (λ (ss : List model-session.Session). record { shared = shared-of (shared-area t); sessions = ss })
+    (sym (cells-same erase-session session-of session-erased region-size session-count (drop shared-size t)))

@@ -32,7 +32,8 @@ pub record Does (q : Said) (r : Answer) (t′ o′ : List ℕ) : Type 0 where
   pub world : decode t′ ≡ erase-world (q .0)
 
 -- the table means w, but for the numbers of events
-pub one-call : {c : Call} {t o : List ℕ} {r : Answer} {t′ o′ : List ℕ} (w : World) → Table t → decode t ≡ erase-world w → Outcome c t o r t′ o′
+pub one-call : {c : Call} {t o : List ℕ} {r : Answer} {t′ o′ : List ℕ} (w : World) → Table t → decode t ≡ erase-world w
+    → Outcome c t o r t′ o′
     → Does (step (lending (length t) (length o)) w c) r t′ o′
 one-call {c = c} {t = t} {o = o} {r = r} {t′ = t′} {o′ = o′} w h e out =
     let l = lending (length t) (length o) in
@@ -68,4 +69,6 @@ begun-meaning {t = t} {slice = slice} {r = r} out e =
 -- A HISTORY IS A RUN OF THE MODEL, from the begun world on
 pub history-modelled : {t t′ : List ℕ} {ms : List Made} (h : History t ms t′)
     → map shown ms ≡ observed (run (begun (settings-of (payload (h .settings))) 0) (lendings (length t) ms))
-history-modelled h = modelled (begun (settings-of (payload (h .settings))) 0) (table-begun (h .begins) (h .done)) (begun-meaning (h .begins) (h .done)) (h .then)
+history-modelled h =
+    modelled (begun (settings-of (payload (h .settings))) 0) (table-begun (h .begins) (h .done)) (begun-meaning (h .begins) (h .done))
+    (h .then)

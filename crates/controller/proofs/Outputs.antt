@@ -14,7 +14,8 @@ use Rattle.model.specs.Limits.{output-least}
 use Rattle.model.specs.Records.{Settings, read-settings}
 use Rattle.model.specs.Session.{Session, Emission}
 use Rattle.model.specs.World.{World, Moment, begins, each, next, after, emitted}
-use Rattle.model.specs.Calls.{Call, start, open-session, hang-up-session, bytes, one-tick, tool, does, at-most-one, moments, output, Lent, refusal, answered, step}
+use Rattle.model.specs.Calls.{Call, start, open-session, hang-up-session, bytes, one-tick, tool, does, at-most-one, moments, output, Lent}
+use Rattle.model.specs.Calls.{refusal, answered, step}
 use Rattle.model.specs.Row.{Tagged, tag, said as row-said}
 use Rattle.model.proofs.RowLaws.{length-row}
 use Rattle.model.proofs.Refusals.{has-output}
@@ -52,7 +53,8 @@ module _ (t : List ℕ) (n : ℕ) (c : Call) where
       go true a = omega (arith, ltb-false n output-least (has-output (lent t n) (decode t) c e a))
       go false a = omega (arith, q, ap length (silent (decode t) c a))
 
-pub so-long : {c : Call} {t o : List ℕ} {r : Answer} {t′ o′ : List ℕ} → Outcome c t o r t′ o′ → r .written ≡ length (output ((said c t o) .2))
+pub so-long : {c : Call} {t o : List ℕ} {r : Answer} {t′ o′ : List ℕ} → Outcome c t o r t′ o′
+    → r .written ≡ length (output ((said c t o) .2))
 unfolding step
 so-long {c = c} {t = t} {o = o} out = ap (λ (a : Answer). a .written) (out .answer) ∙ written-is (decode t) c (number t (length o) c)
 
@@ -76,7 +78,8 @@ stands {c = c} {t = t} {o = o} {r = r} {t′ = t′} {o′ = o′} out =
       behind = ap (drop (r .written)) (out .output) ∙ drop-sets-after bs o 0 (r .written) (omega arith);
     }
   where
-    go : (m : ℕ) → number t (length o) c ≡ m → r .written ≡ length (output ((answered (decode t) c (number t (length o) c)) .2)) → r .written ≤ length o
+    go : (m : ℕ) → number t (length o) c ≡ m → r .written ≡ length (output ((answered (decode t) c (number t (length o) c)) .2))
+        → r .written ≤ length o
     go zero e q = room t (length o) c (r .written) e (q ∙ ap (λ (k : ℕ). length (output ((answered (decode t) c k) .2))) e) (out .fits)
     go (suc m) e q = let z = q ∙ ap (λ (k : ℕ). length (output ((answered (decode t) c k) .2))) e in omega arith
 

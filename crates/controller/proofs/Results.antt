@@ -86,7 +86,8 @@ module _ (z p x : List ℕ) (n : ℕ) (lz : length z ≡ 110) (lp : length p ≡
   kept-rest =
       let y = sets (sets z 0 p) 0 x in
       ap (take 81) (drop-sets (in-bytes 4 n) y 25 81) ∙ take-sets-before (in-bytes 4 n) (drop 25 y) 81 81 (lit≤ tt)
-      ∙ ap (take 81) (drop-sets-after x (sets z 0 p) 0 25 (omega arith) ∙ ap (drop 25) with-payload ∙ drop-append-le 25 p (drop 106 z) (omega arith))
+      ∙ ap (take 81) (drop-sets-after x (sets z 0 p) 0 25 (omega arith) ∙ ap (drop 25) with-payload
+      ∙ drop-append-le 25 p (drop 106 z) (omega arith))
       ∙ take-append-le 81 (drop 25 p) (drop 106 z) (simp length-drop (omega arith))
 
   -- the event that is reported now
@@ -100,7 +101,8 @@ module _ (z p x : List ℕ) (n : ℕ) (lz : length z ≡ 110) (lp : length p ≡
   })
 
 -- the identifier that is meant is as long as the two are
-pub meant-length : {x : List ℕ} (own in-force : List ℕ) → x ≡ identifier-of own in-force → length own ≡ 25 → length in-force ≡ 25 → length x ≡ 25
+pub meant-length : {x : List ℕ} (own in-force : List ℕ) → x ≡ identifier-of own in-force → length own ≡ 25 → length in-force ≡ 25
+    → length x ≡ 25
 meant-length own in-force e a b = ap length e ∙ go (all is-space own)
   where
     go : (s : Bool) → length (cond s in-force own) ≡ 25
@@ -108,7 +110,8 @@ meant-length own in-force e a b = ap length e ∙ go (all is-space own)
     go false = a
 
 -- the same, as the code writes it
-pub result-put : (z p x : List ℕ) (n : ℕ) {p₁ p₂ p₃ : List ℕ} {r₁ r₂ r₃ : ℕ} → Put z 0 p r₁ p₁ → Put p₁ 0 x r₂ p₂ → Put p₂ 106 (in-bytes 4 n) r₃ p₃
+pub result-put : (z p x : List ℕ) (n : ℕ) {p₁ p₂ p₃ : List ℕ} {r₁ r₂ r₃ : ℕ} → Put z 0 p r₁ p₁ → Put p₁ 0 x r₂ p₂
+    → Put p₂ 106 (in-bytes 4 n) r₃ p₃
     → length z ≡ 110 → length p ≡ 106 → length x ≡ 25 → n < 4_294_967_296
     → (g : Shared) → x ≡ identifier-of (identifier-in p) (g .in-force) → n ≡ g .last + 1
     → tightened (result-of p₃) ≡ reported g (tightening (identifier-in p) (tightening-of p))

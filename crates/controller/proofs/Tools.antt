@@ -6,7 +6,8 @@ use mathlib.Core.Bool.{Bool, true, false, cond}
 use mathlib.Core.List.{List, [], _∷_}
 use mathlib.Core.Option.{Option, none, Option·map as option-map}
 use lib.ListN.{length}
-use Rattle.model.specs.Records.{payload, good-record, identifier-in, tightening-of, tightening-items, scanned-items, Tool, tightening, read-tool}
+use Rattle.model.specs.Records.{payload, good-record, identifier-in, tightening-of, tightening-items, scanned-items, Tool, tightening}
+use Rattle.model.specs.Records.{read-tool}
 use Rattle.model.specs.Kinds.{identifiers, tightenings, event-most, call-most}
 use Rattle.model.proofs.Bounds.{event-within}
 use Rattle.model.specs.Events.{Event, identified, tightened}
@@ -24,7 +25,8 @@ use Rattle.controller.proofs.Calls.{nothing-passed}
 
 -- what the event of a tool record does
 abbrev pub Reports : (slice t o : List ℕ) (at taken : ℕ) (t′ o′ : List ℕ) → Type 0
-Reports slice t o at taken t′ o′ = (at ≤ call-most) × Went t o 0 (moments (decode t) (tool slice)) at t′ o′ × (taken ≡ (does (decode t) (tool slice)) .taken)
+Reports slice t o at taken t′ o′ =
+    (at ≤ call-most) × Went t o 0 (moments (decode t) (tool slice)) at t′ o′ × (taken ≡ (does (decode t) (tool slice)) .taken)
 
 module _ (kind : Kind) (slice : List ℕ) (e : tool-in kind slice ≡ read-tool slice) where
   -- the tool record that is read
@@ -74,15 +76,19 @@ module _ (kind : Kind) (slice : List ℕ) (e : tool-in kind slice ≡ read-tool 
 
     pub tightening-reported : (r : List ℕ) {p : List ℕ} {at taken : ℕ} {t′ o′ : List ℕ} → kind ≡ Tightening → p ≡ payload slice
         → tightened (result-of r) ≡ reported (decode t .shared) (tightening (identifier-in p) (tightening-of p))
-        → at ≤ 0 + event-most tightenings → Went t o 0 (happens (event-in tightenings r) ∷ []) at t′ o′ → taken ≡ takers tightenings 0 (decode t .sessions)
+        → at ≤ 0 + event-most tightenings → Went t o 0 (happens (event-in tightenings r) ∷ []) at t′ o′ → taken
+        ≡ takers tightenings 0 (decode t .sessions)
         → Reports slice t o at taken t′ o′
     tightening-reported r k q m h w n =
         as-reported (tool-in Tightening slice) (read k)
-        (ap (λ (e : Event). happens e ∷ []) (m ∙ ap (λ (bs : List ℕ). reported (decode t .shared) (tightening (identifier-in bs) (tightening-of bs))) q))
+        (ap (λ (e : Event). happens e ∷ []) (m
+        ∙ ap (λ (bs : List ℕ). reported (decode t .shared) (tightening (identifier-in bs) (tightening-of bs))) q))
         n (omega (arith, event-within tightenings (omega arith))) w
 
     pub scan-reported : {p : List ℕ} {at taken : ℕ} {t′ o′ : List ℕ} → kind ≡ Scanned → p ≡ payload slice
-        → at ≤ 0 + event-most identifiers → Went t o 0 (happens (event-in identifiers p) ∷ []) at t′ o′ → taken ≡ takers identifiers 0 (decode t .sessions)
+        → at ≤ 0 + event-most identifiers → Went t o 0 (happens (event-in identifiers p) ∷ []) at t′ o′ → taken
+        ≡ takers identifiers 0 (decode t .sessions)
         → Reports slice t o at taken t′ o′
     scan-reported k q h w n =
-        as-reported (tool-in Scanned slice) (read k) (ap (λ (bs : List ℕ). happens (identified bs) ∷ []) q) n (omega (arith, event-within identifiers (omega arith))) w
+        as-reported (tool-in Scanned slice) (read k) (ap (λ (bs : List ℕ). happens (identified bs) ∷ []) q) n
+        (omega (arith, event-within identifiers (omega arith))) w

@@ -34,8 +34,10 @@ table-left {t = t} {r = r} {t′ = t′} h out = go (r .number) refl
 
 none-is-2 : {t t′ : List ℕ} {ms : List Made} → Table t → Trace t ms t′ → Never 2 ms
 none-is-2 h none = tt
-none-is-2 {t = t} h (and {m = m} out rest) =
-    (λ e. never-2 (lent t (length (m .output))) (decode t) (m .call) (h .formed) (sym (number-is out) ∙ e), none-is-2 (table-left h out) rest)
+none-is-2 {t = t} h (and {m = m} out rest) = (
+  λ e. never-2 (lent t (length (m .output))) (decode t) (m .call) (h .formed) (sym (number-is out) ∙ e),
+  none-is-2 (table-left h out) rest,
+)
 
 -- a start that is done leaves a table
 pub table-begun : {t : List ℕ} {slice : List ℕ} {r : Answer} {t′ : List ℕ} → Outcome (start slice) t [] r t′ [] → r .number ≡ 0 → Table t′

@@ -22,7 +22,8 @@ use Rattle.controller.proofs.Modelled.{lending, one-call}
 use Rattle.controller.proofs.Erased.{decode-erased}
 
 -- an output that is long enough is as good as any other
-room-enough : (size room s : ℕ) (bs : List ℕ) (w : World) → output-least ≤ room → step (lending size room) w (bytes s bs) ≡ step (lending size output-least) w (bytes s bs)
+room-enough : (size room s : ℕ) (bs : List ℕ) (w : World) → output-least ≤ room
+    → step (lending size room) w (bytes s bs) ≡ step (lending size output-least) w (bytes s bs)
 unfolding step refusal
 room-enough size room s bs w h = rw (le-ltb room output-least h)
 
@@ -43,12 +44,16 @@ as-uncut {s = s} {t = t} w h e (and-on {t₁ = t₁} {o = o} {bs = bs} {b = b} {
     let same : step (lending (length t) (length o)) w (bytes s (b ∷ bs)) ≡ q = room-enough (length t) (length o) s (b ∷ bs) w room in
     let k = one-call w h e out in
     let next : decode t₁ ≡ erase-world (q .0) = k .world ∙ ap (λ (x : Said). erase-world (x .0)) same in
-    let left : r .consumed ≡ (q .1) .consumed = ap (λ (a : model.Answer). a .consumed) (k .answer) ∙ ap (λ (x : Said). (x .1) .consumed) same in
+    let left : r .consumed ≡ (q .1) .consumed = ap (λ (a : model.Answer). a .consumed) (k .answer)
+    ∙ ap (λ (x : Said). (x .1) .consumed) same in
     let ih = as-uncut (q .0) (table-left h out) next rest in
-    let m : read-all (lending (length t₁) output-least) (q .0) s (drop (r .consumed) (b ∷ bs)) ≡ read-all l (q .0) s (drop ((q .1) .consumed) (b ∷ bs)) =
+    let m : read-all (lending (length t₁) output-least) (q .0) s (drop (r .consumed) (b ∷ bs))
+    ≡ read-all l (q .0) s (drop ((q .1) .consumed) (b ∷ bs)) =
     ap₂ (λ (size n : ℕ). read-all (lending size output-least) (q .0) s (drop n (b ∷ bs))) (out .size) left in
     record {
-      world = ih .world ∙ ap (λ (x : Upshot). erase-world (x .world)) m ∙ ap (λ (x : Upshot). erase-world (x .world)) (sym (read-on l s w b bs));
+      world =
+          ih .world ∙ ap (λ (x : Upshot). erase-world (x .world)) m
+          ∙ ap (λ (x : Upshot). erase-world (x .world)) (sym (read-on l s w b bs));
       bytes =
           ap₂ _++_ (k .bytes ∙ ap (λ (x : Said). output (x .2)) same) (ih .bytes ∙ ap (λ (x : Upshot). output (x .emissions)) m)
           ∙ sym (output-append (q .2) _) ∙ ap (λ (x : Upshot). output (x .emissions)) (sym (read-on l s w b bs));
@@ -58,7 +63,8 @@ as-uncut {s = s} {t = t} w h e (and-on {t₁ = t₁} {o = o} {bs = bs} {b = b} {
 
 -- CUTS DO NOT MATTER: two slices one after the other, or their bytes in one, leave a table of the same meaning, and have the same
 -- records written
-pub cut-anywhere-same : {s : ℕ} {t xs ys out₁ out₂ out t₁ t₂ t′ : List ℕ} → Table t → Reads s t xs out₁ t₁ → Reads s t₁ ys out₂ t₂ → Reads s t (xs ++ ys) out t′
+pub cut-anywhere-same : {s : ℕ} {t xs ys out₁ out₂ out t₁ t₂ t′ : List ℕ} → Table t → Reads s t xs out₁ t₁ → Reads s t₁ ys out₂ t₂
+    → Reads s t (xs ++ ys) out t′
     → (decode t₂ ≡ decode t′) × (out₁ ++ out₂ ≡ out)
 cut-anywhere-same {s = s} {t = t} {xs = xs} {ys = ys} {t₁ = t₁} h a b c =
     let l = lending (length t) output-least in
@@ -70,7 +76,8 @@ cut-anywhere-same {s = s} {t = t} {xs = xs} {ys = ys} {t₁ = t₁} h a b c =
     let n : read-all (lending (length t₁) output-least) (m .world) s ys ≡ read-all l (m .world) s ys =
     ap (λ (size : ℕ). read-all (lending size output-least) (m .world) s ys) (first .same-size) in
     let k = cut-anywhere l w s xs ys in (
-      second .world ∙ ap (λ (x : Upshot). erase-world (x .world)) n ∙ sym (ap (λ (x : Upshot). erase-world (x .world)) k) ∙ sym (whole .world),
+      second .world ∙ ap (λ (x : Upshot). erase-world (x .world)) n ∙ sym (ap (λ (x : Upshot). erase-world (x .world)) k)
+          ∙ sym (whole .world),
       ap₂ _++_ (first .bytes) (second .bytes ∙ ap (λ (x : Upshot). output (x .emissions)) n)
           ∙ sym (output-append (m .emissions) _) ∙ sym (ap (λ (x : Upshot). output (x .emissions)) k) ∙ sym (whole .bytes),
     )

@@ -68,7 +68,8 @@ pub fn start(table: &mut [u8], settings: &[u8]) -> Answer
 }
 
 pub fn open(table: &mut [u8], output: &mut [u8], session: u64) -> Answer
-    ensures { λ r. ⌜ Outcome (open-session session) (now (table .entry)) (now (output .entry)) r (now (table .exit)) (now (output .exit)) ⌝ }
+    ensures { λ r. ⌜ Outcome (open-session session) (now (table .entry)) (now (output .entry)) r (now (table .exit))
+        (now (output .exit)) ⌝ }
 {
     let n = refusal::open(table, output.len(), session);
     if n != 0 {
@@ -79,7 +80,8 @@ pub fn open(table: &mut [u8], output: &mut [u8], session: u64) -> Answer
 }
 
 pub fn hang_up(table: &mut [u8], output: &mut [u8], session: u64) -> Answer
-    ensures { λ r. ⌜ Outcome (hang-up-session session) (now (table .entry)) (now (output .entry)) r (now (table .exit)) (now (output .exit)) ⌝ }
+    ensures { λ r. ⌜ Outcome (hang-up-session session) (now (table .entry)) (now (output .entry)) r (now (table .exit))
+        (now (output .exit)) ⌝ }
 {
     let n = refusal::hang_up(table, output.len(), session);
     if n != 0 {
@@ -104,7 +106,8 @@ pub fn tick(table: &mut [u8], output: &mut [u8]) -> Answer
 
 // They are refused where a hang-up would be.
 pub fn bytes(table: &mut [u8], output: &mut [u8], session: u64, slice: &[u8]) -> Answer
-    ensures { λ r. ⌜ Outcome (bytes-call session (now (slice .entry))) (now (table .entry)) (now (output .entry)) r (now (table .exit)) (now (output .exit)) ⌝ }
+    ensures { λ r. ⌜ Outcome (bytes-call session (now (slice .entry))) (now (table .entry)) (now (output .entry)) r (now (table .exit))
+        (now (output .exit)) ⌝ }
 {
     let n = refusal::hang_up(table, output.len(), session);
     if n != 0 {
@@ -128,7 +131,8 @@ pub fn rest(bytes: &[u8], answer: Answer) -> &[u8]
 // A tightening as it is kept: the tool record's payload with the identifier that is meant now, and its number, the next one.
 fn result<'a>(table: &'a [u8], payload: &'a [u8]) -> [u8; 110]
     requires { ⌜ Table (now table) × (length (now payload) ≡ 106) × (decode (now table) .shared .last ≡ number-greatest → ⊥) ⌝ }
-    ensures { λ r. ⌜ tightened (result-of r) ≡ reported (decode (now (table .entry)) .shared) (tightening (identifier-in (now (payload .entry))) (tightening-of (now (payload .entry)))) ⌝ }
+    ensures { λ r. ⌜ tightened (result-of r) ≡ reported (decode (now (table .entry)) .shared)
+        (tightening (identifier-in (now (payload .entry))) (tightening-of (now (payload .entry)))) ⌝ }
 {
     let mut place = [0; 110];
     text::copy(payload, &mut place, 0);
@@ -143,7 +147,9 @@ fn result<'a>(table: &'a [u8], payload: &'a [u8]) -> [u8; 110]
 fn report(table: &mut [u8], output: &mut [u8], slice: &[u8], kind: Kind) -> Told
     requires { ⌜ Table (now table) × (output-least ≤ length (now output)) × (tool-in kind (now slice) ≡ read-tool (now slice)) ⌝ }
     requires { ⌜ (kind ≡ Kind.Tightening → decode (now table) .shared .last ≡ number-greatest → ⊥) ⌝ }
-    ensures { λ r. ⌜ (r .at ≤ call-most) × Went (now (table .entry)) (now (output .entry)) 0 (moments (decode (now (table .entry))) (tool (now (slice .entry)))) (r .at) (now (table .exit)) (now (output .exit)) × (r .taken ≡ (does (decode (now (table .entry))) (tool (now (slice .entry)))) .taken) ⌝ }
+    ensures { λ r. ⌜ (r .at ≤ call-most) × Went (now (table .entry)) (now (output .entry)) 0
+        (moments (decode (now (table .entry))) (tool (now (slice .entry)))) (r .at) (now (table .exit)) (now (output .exit))
+        × (r .taken ≡ (does (decode (now (table .entry))) (tool (now (slice .entry)))) .taken) ⌝ }
 {
     let payload = record::payload(slice);
     match kind {
@@ -157,7 +163,8 @@ fn report(table: &mut [u8], output: &mut [u8], slice: &[u8], kind: Kind) -> Told
 }
 
 pub fn tool_record(table: &mut [u8], output: &mut [u8], slice: &[u8]) -> Answer
-    ensures { λ r. ⌜ Outcome (tool (now (slice .entry))) (now (table .entry)) (now (output .entry)) r (now (table .exit)) (now (output .exit)) ⌝ }
+    ensures { λ r. ⌜ Outcome (tool (now (slice .entry))) (now (table .entry)) (now (output .entry)) r (now (table .exit))
+        (now (output .exit)) ⌝ }
 {
     let kind = record::tool_kind(slice);
     let n = refusal::tool_record(table, output.len(), kind);

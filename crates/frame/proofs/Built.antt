@@ -10,7 +10,8 @@ use lib.Seq.{take-all}
 use borrow.Author.Tests.{ne-eqb}
 use Rattle.model.specs.Bytes.{all, space, digit-0, digit-1, digits}
 use Rattle.model.specs.Records.{settings-of, tightening-of}
-use Rattle.model.specs.Frames.{header, frame, Field, value, fields-from, controller-fields, result-fields, frame-0002, frame-0004, frame-0005, frame-0052, frame-0061}
+use Rattle.model.specs.Frames.{header, frame, Field, value, fields-from, controller-fields, result-fields, frame-0002, frame-0004}
+use Rattle.model.specs.Frames.{frame-0005, frame-0052, frame-0061}
 use Rattle.text.specs.Put.{Put}
 use Rattle.text.proofs.Numbers.{digits-length}
 use Rattle.text.proofs.Puts.{put-then, scratch}
@@ -26,7 +27,8 @@ pub built : {o o′ : List ℕ} {r : ℕ} (n mid revision byte-12 : ℕ) (bs : L
     → Put o 0 (header n mid revision byte-12 ++ bs) r o′ → o′ ≡ frame mid revision byte-12 bs
 unfolding frame
 built n mid revision byte-12 bs e l p =
-    scratch (l ∙ sym e ∙ sym (length-append (header n mid revision byte-12) bs ∙ ap (λ (k : ℕ). k + length bs) (header-length n mid revision byte-12))) p
+    scratch (l ∙ sym e ∙ sym (length-append (header n mid revision byte-12) bs
+    ∙ ap (λ (k : ℕ). k + length bs) (header-length n mid revision byte-12))) p
     ∙ ap (λ (k : ℕ). header k mid revision byte-12 ++ bs) (sym e)
 
 -- ==== the layouts, as the code has them
@@ -65,7 +67,8 @@ result =
     ∷ []
 
 -- a source of the right length serves a layout
-pub serves : (rows : List (List ℕ)) (n : ℕ) (source : List ℕ) → length source ≡ n → all (served n) rows ≡ true → all (served (length source)) rows ≡ true
+pub serves : (rows : List (List ℕ)) (n : ℕ) (source : List ℕ) → length source ≡ n → all (served n) rows ≡ true
+    → all (served (length source)) rows ≡ true
 serves rows n source e t = ap (λ (k : ℕ). all (served k) rows) e ∙ t
 
 -- ==== the frames, of what is written
@@ -88,7 +91,8 @@ unfolding fields-from
 fields-append i [] ys = ap (λ (n : ℕ). fields-from n ys) (sym (add-zero i))
 fields-append i (x ∷ xs) ys =
     ap (λ (l : List ℕ). digits 2 i ++ value x ++ l)
-    (fields-append (suc i) xs ys ∙ ap (λ (n : ℕ). fields-from (suc i) xs ++ fields-from n ys) (suc-add i (length xs) ∙ sym (add-suc i (length xs))))
+    (fields-append (suc i) xs ys ∙ ap (λ (n : ℕ). fields-from (suc i) xs ++ fields-from n ys)
+    (suc-add i (length xs) ∙ sym (add-suc i (length xs))))
     ∙ sym (append-assoc (digits 2 i ++ value x) (fields-from (suc i) xs) (fields-from (i + suc (length xs)) ys))
 
 module _ (no-acknowledge : Bool) where
@@ -105,7 +109,8 @@ module _ (no-acknowledge : Bool) where
   is-0052-2 revision x h e = rw (ne-eqb revision 1 h, take-all 25 x (omega arith))
 
   pub is-0061 : (revision : ℕ) (bs rs : List ℕ)
-      → frame 61 revision flag (laid-out 1 controller bs ++ laid-out 4 result rs) ≡ frame-0061 (settings-of bs) revision no-acknowledge (result-of rs)
+      → frame 61 revision flag (laid-out 1 controller bs ++ laid-out 4 result rs)
+      ≡ frame-0061 (settings-of bs) revision no-acknowledge (result-of rs)
   unfolding frame-0061 laid-out settings-of result-of tightening-of
   is-0061 revision bs rs =
       ap (frame 61 revision flag)

@@ -18,7 +18,8 @@ use Rattle.frame.specs.Layout.{is-copied, is-blank, width, field-of, lai
 
 -- ==== output records, of the parts that are written
 
-pub frame-record-is : (s : ℕ) (bs : List ℕ) → ((in-bytes 2 (length bs + 1) ++ in-bytes 2 (256 + s)) ++ bs) ++ in-bytes 1 0 ≡ frame-record s bs
+pub frame-record-is : (s : ℕ) (bs : List ℕ)
+    → ((in-bytes 2 (length bs + 1) ++ in-bytes 2 (256 + s)) ++ bs) ++ in-bytes 1 0 ≡ frame-record s bs
 unfolding frame-record in-bytes
 frame-record-is s bs = rw (length-append bs (0 ∷ []))
 
@@ -52,9 +53,11 @@ module _ (source row : List ℕ) (ok : served (length source) row ≡ true) wher
   value-length = go (eqb (getD row 1 0) 0) (eqb (getD row 1 0) 9) refl
     where
       go : (c b : Bool) → eqb (getD row 1 0) 0 ≡ c
-          → length (value (cond c (text (take (width row) (drop (getD row 2 0) source))) (cond b (text (spaces (width row))) (number (width row) (little (take (getD row 1 0) (drop (getD row 2 0) source)))))))
+          → length (value (cond c (text (take (width row) (drop (getD row 2 0) source)))
+          (cond b (text (spaces (width row))) (number (width row) (little (take (getD row 1 0) (drop (getD row 2 0) source)))))))
           ≡ width row
-      go true b e = let h = copied-fits (eqb-true _ _ e) in length-take-le (width row) (drop (getD row 2 0) source) (simp length-drop (omega arith))
+      go true b e =
+          let h = copied-fits (eqb-true _ _ e) in length-take-le (width row) (drop (getD row 2 0) source) (simp length-drop (omega arith))
       go false true e = length-replicate (width row) 0x20
       go false false e = digits-length (width row) _
 
@@ -66,7 +69,8 @@ module _ (source row : List ℕ) where
   pub value-blank : getD row 1 0 ≡ 9 → replicate (width row) 0x20 ≡ value (field-of source row)
   value-blank e = rw e
 
-  pub value-number : {n : ℕ} → (getD row 1 0 ≡ 0 → ⊥) → (getD row 1 0 ≡ 9 → ⊥) → n ≡ little (take (getD row 1 0) (drop (getD row 2 0) source))
+  pub value-number : {n : ℕ} → (getD row 1 0 ≡ 0 → ⊥) → (getD row 1 0 ≡ 9 → ⊥)
+      → n ≡ little (take (getD row 1 0) (drop (getD row 2 0) source))
       → digits (width row) n ≡ value (field-of source row)
   value-number h g e = rw (ne-eqb _ _ h, ne-eqb _ _ g, e)
 
@@ -79,7 +83,8 @@ module _ (source : List ℕ) (rows : List (List ℕ)) (k : ℕ) (h : k < length 
   laid-out-next first =
       let e : suc (first + k) ≡ first + (k + 1) = omega arith in
       ap (λ (l : List (List ℕ)). fields-from (first + k) (map (field-of source) l)) (drop-next rows k [] h)
-      ∙ ap (λ (n : ℕ). digits 2 (first + k) ++ value (field-of source (getD rows k [])) ++ fields-from n (map (field-of source) (drop (k + 1) rows))) e
+      ∙ ap (λ (n : ℕ). digits 2 (first + k) ++ value (field-of source (getD rows k [])) ++ fields-from n
+      (map (field-of source) (drop (k + 1) rows))) e
 
   pub layout-length-next : layout-length (drop k rows) ≡ 2 + width (getD rows k []) + layout-length (drop (k + 1) rows)
   unfolding layout-length
@@ -92,4 +97,10 @@ unfolding laid-out fields-from layout-length
 laid-out-length source [] first ok = refl
 laid-out-length source (row ∷ rows) first ok =
     let t = and-eq-true-iff (served (length source) row) (all (served (length source)) rows) .0 ok in
-    rw (length-append, length-append, digits-length 2 first, value-length source row (t .0), laid-out-length source rows (suc first) (t .1)) (omega arith)
+    rw (
+      length-append,
+      length-append,
+      digits-length 2 first,
+      value-length source row (t .0),
+      laid-out-length source rows (suc first) (t .1),
+    ) (omega arith)

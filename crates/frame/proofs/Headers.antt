@@ -61,7 +61,8 @@ module _ (bs : List ℕ) (count : ℕ) where
           pub no-revision : (all is-digit (places 9 11 bs) || all is-space (places 9 11 bs)) ≡ false → false ≡ result
           no-revision e = rw (le-leb 20 (length bs) long, le-leb count 9999 short, digits, eq-eqb _ _ own, mid, e)
 
-          pub by-flag : (b : Bool) → (all is-digit (places 9 11 bs) || all is-space (places 9 11 bs)) ≡ true → b ≡ is-flag (getD bs 11 0) → b ≡ result
+          pub by-flag : (b : Bool) → (all is-digit (places 9 11 bs) || all is-space (places 9 11 bs)) ≡ true → b ≡ is-flag (getD bs 11 0)
+              → b ≡ result
           by-flag b e f =
               let w : 11 < length bs = omega arith in
               rw (le-leb 20 (length bs) long, le-leb count 9999 short, digits, eq-eqb _ _ own, mid, e, byte-12 bs w) (f ∙ sym (and-true _))

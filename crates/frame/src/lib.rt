@@ -189,7 +189,8 @@ const RESULT: [[usize; 3]; 20] = [
 // The value of one field.
 fn put_value(out: &mut [u8], at: usize, row: &[usize; 3], source: &[u8]) -> usize
     requires { ⌜ (served (length (now source)) (now row) ≡ true) × (at + width-of (now row) ≤ length (now out)) ⌝ }
-    ensures { λ r. ⌜ (r ≡ at + width-of (now (row .entry))) × Put (now (out .entry)) at (value (field-of (now (source .entry)) (now (row .entry)))) r (now (out .exit)) ⌝ }
+    ensures { λ r. ⌜ (r ≡ at + width-of (now (row .entry)))
+        × Put (now (out .entry)) at (value (field-of (now (source .entry)) (now (row .entry)))) r (now (out .exit)) ⌝ }
 {
     let width = row[0];
     let size = row[1];
@@ -205,8 +206,10 @@ fn put_value(out: &mut [u8], at: usize, row: &[usize; 3], source: &[u8]) -> usiz
 
 // The fields of a layout, each with its number before it, from `first` on.
 fn put_fields(out: &mut [u8], at: usize, first: u64, rows: &[[usize; 3]], source: &[u8]) -> usize
-    requires { ⌜ (all (served (length (now source))) (now rows) ≡ true) × (at + layout-length (now rows) ≤ length (now out)) × (first + length (now rows) ≤ 100) ⌝ }
-    ensures { λ r. ⌜ (r ≡ at + layout-length (now (rows .entry))) × Put (now (out .entry)) at (laid-out first (now (rows .entry)) (now (source .entry))) r (now (out .exit)) ⌝ }
+    requires { ⌜ (all (served (length (now source))) (now rows) ≡ true) × (at + layout-length (now rows) ≤ length (now out))
+        × (first + length (now rows) ≤ 100) ⌝ }
+    ensures { λ r. ⌜ (r ≡ at + layout-length (now (rows .entry)))
+        × Put (now (out .entry)) at (laid-out first (now (rows .entry)) (now (source .entry))) r (now (out .exit)) ⌝ }
 {
     let mut to = at;
     let mut k = 0;
@@ -235,7 +238,8 @@ fn put_header(out: &mut [u8], size: u64, mid: u64, revision: u64, byte_12: u8) -
 // A frame to session s, with its NUL.
 pub fn put_frame(out: &mut [u8], at: usize, s: u64, frame: &[u8]) -> usize
     requires { ⌜ (at + length (now frame) + 5 ≤ length (now out)) × (s < 256) ⌝ }
-    ensures { λ r. ⌜ (r ≡ at + length (now (frame .entry)) + 5) × Put (now (out .entry)) at (frame-record s (now (frame .entry))) r (now (out .exit)) ⌝ }
+    ensures { λ r. ⌜ (r ≡ at + length (now (frame .entry)) + 5)
+        × Put (now (out .entry)) at (frame-record s (now (frame .entry))) r (now (out .exit)) ⌝ }
 {
     let at = text::put_little(out, at, 2, (frame.len() + 1) as u64);
     let at = text::put_little(out, at, 2, 256 + s);
@@ -257,7 +261,8 @@ pub fn put_close(out: &mut [u8], at: usize, s: u64) -> usize
 // 0002: the session is started. The settings are a settings record's payload.
 pub fn put_0002(out: &mut [u8], at: usize, s: u64, settings: &[u8]) -> usize
     requires { ⌜ (at + reply-most ≤ length (now out)) × (s < 256) × (length (now settings) ≡ 33) ⌝ }
-    ensures { λ r. ⌜ (r ≡ at + reply-most) × Put (now (out .entry)) at (frame-record s (frame-0002 (settings-of (now (settings .entry))))) r (now (out .exit)) ⌝ }
+    ensures { λ r. ⌜ (r ≡ at + reply-most)
+        × Put (now (out .entry)) at (frame-record s (frame-0002 (settings-of (now (settings .entry))))) r (now (out .exit)) ⌝ }
 {
     let mut frame = [0u8; 57];
     let to = put_header(&mut frame, 57, 2, 1, b' ');
@@ -298,7 +303,8 @@ fn byte_12(no_acknowledge: bool) -> u8
 // 0052, revision 1.
 fn put_0052_1(out: &mut [u8], at: usize, s: u64, no_acknowledge: bool, identifier: &[u8]) -> usize
     requires { ⌜ (at + 52 ≤ length (now out)) × (s < 256) × (length (now identifier) ≡ 25) ⌝ }
-    ensures { λ r. ⌜ (r ≡ at + 52) × Put (now (out .entry)) at (frame-record s (frame-0052 1 «no_acknowledge» (now (identifier .entry)))) r (now (out .exit)) ⌝ }
+    ensures { λ r. ⌜ (r ≡ at + 52)
+        × Put (now (out .entry)) at (frame-record s (frame-0052 1 «no_acknowledge» (now (identifier .entry)))) r (now (out .exit)) ⌝ }
 {
     let mut frame = [0u8; 47];
     let to = put_header(&mut frame, 47, 52, 1, byte_12(no_acknowledge));
@@ -317,7 +323,9 @@ fn put_0052_2(
 ) -> usize
     requires { ⌜ (at + copy-most (kind-at identifiers) ≤ length (now out)) × (s < 256) × (length (now identifier) ≡ 25) ⌝ }
     requires { ⌜ (revision ≡ 1 → ⊥) ⌝ }
-    ensures { λ r. ⌜ (r ≡ at + copy-most (kind-at identifiers)) × Put (now (out .entry)) at (frame-record s (frame-0052 revision «no_acknowledge» (now (identifier .entry)))) r (now (out .exit)) ⌝ }
+    ensures { λ r. ⌜ (r ≡ at + copy-most (kind-at identifiers))
+        × Put (now (out .entry)) at (frame-record s (frame-0052 revision «no_acknowledge» (now (identifier .entry)))) r
+        (now (out .exit)) ⌝ }
 {
     let mut frame = [0u8; 128];
     let to = put_header(&mut frame, 128, 52, revision, byte_12(no_acknowledge));
@@ -335,7 +343,9 @@ pub fn put_0052(
     identifier: &[u8],
 ) -> usize
     requires { ⌜ (at + copy-most (kind-at identifiers) ≤ length (now out)) × (s < 256) × (length (now identifier) ≡ 25) ⌝ }
-    ensures { λ r. ⌜ (r ≤ at + copy-most (kind-at identifiers)) × Put (now (out .entry)) at (frame-record s (frame-0052 revision «no_acknowledge» (now (identifier .entry)))) r (now (out .exit)) ⌝ }
+    ensures { λ r. ⌜ (r ≤ at + copy-most (kind-at identifiers))
+        × Put (now (out .entry)) at (frame-record s (frame-0052 revision «no_acknowledge» (now (identifier .entry)))) r
+        (now (out .exit)) ⌝ }
 {
     if revision == 1 {
         return put_0052_1(out, at, s, no_acknowledge, identifier);
@@ -353,8 +363,12 @@ pub fn put_0061(
     settings: &[u8],
     result: &[u8],
 ) -> usize
-    requires { ⌜ (at + copy-most (kind-at tightenings) ≤ length (now out)) × (s < 256) × (length (now settings) ≡ 33) × (length (now result) ≡ 110) ⌝ }
-    ensures { λ r. ⌜ (r ≡ at + copy-most (kind-at tightenings)) × Put (now (out .entry)) at (frame-record s (frame-0061 (settings-of (now (settings .entry))) revision «no_acknowledge» (result-of (now (result .entry))))) r (now (out .exit)) ⌝ }
+    requires { ⌜ (at + copy-most (kind-at tightenings) ≤ length (now out)) × (s < 256) × (length (now settings) ≡ 33)
+        × (length (now result) ≡ 110) ⌝ }
+    ensures { λ r. ⌜ (r ≡ at + copy-most (kind-at tightenings))
+        × Put (now (out .entry)) at (frame-record s
+        (frame-0061 (settings-of (now (settings .entry))) revision «no_acknowledge» (result-of (now (result .entry))))) r
+        (now (out .exit)) ⌝ }
 {
     let mut frame = [0u8; 231];
     let to = put_header(&mut frame, 231, 61, revision, byte_12(no_acknowledge));

@@ -212,5 +212,6 @@ sent-turn w past a s h l c ns = go (refusal l w c) refl ns
         let o = (does w c) .event in
         let b = is-some (ended (run s past) ((sight s c) .given)) in
         subst (Sent b) (sym (goes w past (a .size) (a .like) l c e f s h .1))
-        (sent-append b (y .1) ((told g o (y .0)) .1) (sent-seen g (coherent l w c e .sees s) (reading-of s past) (session-at w s) (a .like s h))
+        (sent-append b (y .1) ((told g o (y .0)) .1)
+        (sent-seen g (coherent l w c e .sees s) (reading-of s past) (session-at w s) (a .like s h))
         (sent-told g o (y .0) (steps-full (call-steps w past (a .size) (a .like) l c e f s h))))

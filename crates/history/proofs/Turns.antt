@@ -102,7 +102,8 @@ module _ (w : World) (past : List Turn) (size : length (w .sessions) ≡ session
       → Steps g (run-with ((sight s c) .given) ((sight s c) .opens) (run s past)) (ended (run s past) ((sight s c) .given))
       ((sight s c) .hangs-up) ((sight s c) .ticks) (tells s) (reading-of s past) (session-at w s) (y s)
   call-steps s h =
-      sees-steps g (reading-of s past) (coherent l w c done .sees s) (coherent l w c done .alike s ∙ no-start) (session-at w s) (coherent l w c done .opens s)
+      sees-steps g (reading-of s past) (coherent l w c done .sees s) (coherent l w c done .alike s ∙ no-start) (session-at w s)
+      (coherent l w c done .opens s)
       (like s h)
 
   -- and then: the session and what it is sent, by the event
@@ -111,7 +112,9 @@ module _ (w : World) (past : List Turn) (size : length (w .sessions) ≡ session
   goes s h = rw (coherent l w c done .leaves no-start) at (goes-to w s (omega arith) moment ((does w c) .event))
 
   pub leaves : (after w (moments w c)) .shared ≡ shared-with g ((does w c) .event)
-  leaves = after-shared w moment ((does w c) .event) ∙ ap (λ (v : Shared). shared-with v ((does w c) .event)) (coherent l w c done .leaves no-start)
+  leaves =
+      after-shared w moment ((does w c) .event) ∙ ap (λ (v : Shared). shared-with v ((does w c) .event))
+      (coherent l w c done .leaves no-start)
 
   -- ---- what is read of the event
 

@@ -13,7 +13,8 @@ module _ {A B : Type 0} (test : A → B → Bool) where
   pairwise (x ∷ xs) [] = false
   pairwise (x ∷ xs) (y ∷ ys) = test x y && pairwise xs ys
 
-  pub at-each : (xs : List A) (ys : List B) (a : A) (b : B) → So (pairwise xs ys) → (k : ℕ) → k < length xs → So (test (getD xs k a) (getD ys k b))
+  pub at-each : (xs : List A) (ys : List B) (a : A) (b : B) → So (pairwise xs ys) → (k : ℕ) → k < length xs
+      → So (test (getD xs k a) (getD ys k b))
   at-each [] ys a b s k h = absurd (not-suc-le-zero h)
   at-each (x ∷ xs) [] a b s k h = absurd (false≢true s)
   at-each (x ∷ xs) (y ∷ ys) a b s zero h = and-eq-true-iff (test x y) (pairwise xs ys) .0 s .0

@@ -10,7 +10,8 @@ use borrow.Author.Tests.{le-leb}
 use types.Run.{OneOf, miss}
 use denote.Enum.Declared.{tagOf}
 use Rattle.model.specs.Bytes.{within, is-text, all}
-use Rattle.model.specs.Messages.{Standing, Entry, Revisions, not-read, revisions, good-among, Error, unknown-message, already-started, wrong-length, wrong-revision, wrong-data, tested, entry-of, error-of}
+use Rattle.model.specs.Messages.{Standing, Entry, Revisions, not-read, revisions, good-among, Error, unknown-message, already-started}
+use Rattle.model.specs.Messages.{wrong-length, wrong-revision, wrong-data, tested, entry-of, error-of}
 use Rattle.message.specs.Meaning.{effect-in, effect-listed}
 use Rattle.message.specs.Inner.{any, Spans, is-listed, Lists, own-error}
 use Rattle.message.specs.declared.Effect.{Effect}

@@ -6,7 +6,8 @@ use mathlib.Core.List.{[], _∷_}
 use mathlib.Core.Option.{Option, none, some}
 use lib.ListN.{getD}
 use Rattle.model.specs.Messages as model
-use Rattle.model.specs.Messages.{Entry, starts, stops, identifies, subscribes, unsubscribes, acknowledges, mirrors, gets-reply, Error, unknown-message, already-started, wrong-length, wrong-revision, wrong-data, own, code}
+use Rattle.model.specs.Messages.{Entry, starts, stops, identifies, subscribes, unsubscribes, acknowledges, mirrors, gets-reply, Error}
+use Rattle.model.specs.Messages.{unknown-message, already-started, wrong-length, wrong-revision, wrong-data, own, code}
 use Rattle.message.specs.declared.Effect.{Effect}
 use Rattle.message.specs.declared.Effect.the-variants as effect
 use Rattle.message.specs.declared.Standing.{Standing}

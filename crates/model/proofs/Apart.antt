@@ -17,10 +17,13 @@ use Rattle.model.specs.Sharing.{Shared, reported}
 use Rattle.model.specs.Session.{Session, closed, Emission}
 use Rattle.model.specs.Local.{Local, opening, hang-up, receives, elsewhere, takes, step as session-step}
 use Rattle.model.specs.Row.{Tagged, pick}
-use Rattle.model.specs.World.{World, session-at, begun, Change, no-change, Moment, to, happens, each, changed, next, emits, after, emitted}
-use Rattle.model.specs.Calls.{Call, start, open-session, hang-up-session, bytes, one-tick, tool, Lent, Conduct, does, refusal, happening, moments, taken-by, in-sum, Answer, answered, step}
+use Rattle.model.specs.World.{World, session-at, begun, Change, no-change, Moment, to, happens, each, changed, next, emits, after}
+use Rattle.model.specs.World.{emitted}
+use Rattle.model.specs.Calls.{Call, start, open-session, hang-up-session, bytes, one-tick, tool, Lent, Conduct, does, refusal}
+use Rattle.model.specs.Calls.{happening, moments, taken-by, in-sum, Answer, answered, step}
 use Rattle.model.specs.Sights.{sight}
-use Rattle.model.specs.Own.{Glance, its-call, its-news, made-known, glance, Learned, told-to, if-seen, view-of, told-in, world-after, Ample, AllAmple, ample, glanced, folded, world-folded, SameFor}
+use Rattle.model.specs.Own.{Glance, its-call, its-news, made-known, glance, Learned, told-to, if-seen, view-of, told-in, world-after}
+use Rattle.model.specs.Own.{Ample, AllAmple, ample, glanced, folded, world-folded, SameFor}
 use Rattle.model.proofs.RowLaws.{pick-append, length-row}
 use Rattle.model.proofs.Sessions.{session-next, session-emits}
 use Rattle.model.proofs.Takers.{in-none, in-takers}

@@ -13,8 +13,10 @@ use Rattle.model.specs.Events.{Result, Notice}
 use Rattle.model.specs.Frames.{header, frame, fields-from, frame-0002, frame-0052, frame-0061}
 use Rattle.model.specs.Kinds.{Room, Kind, kinds, kind-at, identifiers, tightenings, copy-most, copies-most, longest-reply, event-most}
 use Rattle.model.specs.Kinds.{receive-most, tick-most, call-most}
-use Rattle.model.specs.Notices.{empty, busy, Subscription, unsubscribed, plain, acked, Deed, nothing, beats, news, asks, drops, acks, next-one, act}
-use Rattle.model.specs.Messages.{not-read, revisions, starts, stops, identifies, subscribes, unsubscribes, acknowledges, mirrors, entry, table}
+use Rattle.model.specs.Notices.{empty, busy, Subscription, unsubscribed, plain, acked, Deed, nothing, beats, news, asks, drops, acks}
+use Rattle.model.specs.Notices.{next-one, act}
+use Rattle.model.specs.Messages.{not-read, revisions, starts, stops, identifies, subscribes, unsubscribes, acknowledges, mirrors}
+use Rattle.model.specs.Messages.{entry, table}
 
 -- 01, "What a message does"
 pub the-table : table

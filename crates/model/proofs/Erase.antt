@@ -12,17 +12,24 @@ use Rattle.model.specs.Limits.{given-up-at, copy-every, idle-limit}
 use Rattle.model.specs.Records.{Settings, Tool, scanned, tightening, read-settings, read-tool}
 use Rattle.model.specs.Kinds.{Room, the-newest, up-to, room-of}
 use Rattle.model.specs.Runs.{Run, empty-run, longer, Piece, cut, Message, read-run}
-use Rattle.model.specs.Messages.{Effect, starts, stops, identifies, subscribes, unsubscribes, acknowledges, mirrors, Entry, entry-of, gets-reply, Error, code}
+use Rattle.model.specs.Messages.{Effect, starts, stops, identifies, subscribes, unsubscribes, acknowledges, mirrors, Entry, entry-of}
+use Rattle.model.specs.Messages.{gets-reply, Error, code}
 use Rattle.model.specs.Events.{Event, identified, Notice, kind-of}
 use Rattle.model.specs.Sharing.{Shared, unnumbered, notice-of, reported}
 use Rattle.model.specs.Frames.{frame-0004}
-use Rattle.model.specs.Notices.{empty, busy, Subscription, unsubscribed, plain, acked, is-subscribed, has-room, takes as takes-event, Deed, nothing, beats, news, asks, drops, acks, next-one, waits, clock-at, act}
+use Rattle.model.specs.Notices.{empty, busy, Subscription, unsubscribed, plain, acked, is-subscribed, has-room, takes as takes-event}
+use Rattle.model.specs.Notices.{Deed, nothing, beats, news, asks, drops, acks, next-one, waits, clock-at, act}
 use Rattle.model.specs.Row.{Tagged, said}
-use Rattle.model.specs.Session.{Session, closed, opened, started, is-closed, subscribed-to, Copy, Emission, reply, copy, close, frame-to, copies-to, deal, dealt, only}
-use Rattle.model.specs.Hearing.{message-error, started-standing, opened-standing, error-reply, accepted, carry-out, judged, hear, begin, hear-opened}
-use Rattle.model.specs.Local.{end-run, end-run-opened, Local, opening, hang-up, receives, tick, event, elsewhere, tick-at, receive, receive-opened, step as session-step, takes, identifier-run, announces}
-use Rattle.model.specs.World.{World, uncounted, session-at, Change, no-change, by-event, by-start, Moment, to, opens, hangs-up, hears, ticks, happens, begins, changed, each, sessions-after, next, emits, after, emitted}
-use Rattle.model.specs.Calls.{Call, start, open-session, hang-up-session, bytes, one-tick, tool, Lent, refusal, at-most-one, happening, moments, output-record, output, takers, taken-by, does, Answer, answered, step, run}
+use Rattle.model.specs.Session.{Session, closed, opened, started, is-closed, subscribed-to, Copy, Emission, reply, copy, close}
+use Rattle.model.specs.Session.{frame-to, copies-to, deal, dealt, only}
+use Rattle.model.specs.Hearing.{message-error, started-standing, opened-standing, error-reply, accepted, carry-out, judged, hear}
+use Rattle.model.specs.Hearing.{begin, hear-opened}
+use Rattle.model.specs.Local.{end-run, end-run-opened, Local, opening, hang-up, receives, tick, event, elsewhere, tick-at, receive}
+use Rattle.model.specs.Local.{receive-opened, step as session-step, takes, identifier-run, announces}
+use Rattle.model.specs.World.{World, uncounted, session-at, Change, no-change, by-event, by-start, Moment, to, opens, hangs-up, hears}
+use Rattle.model.specs.World.{ticks, happens, begins, changed, each, sessions-after, next, emits, after, emitted}
+use Rattle.model.specs.Calls.{Call, start, open-session, hang-up-session, bytes, one-tick, tool, Lent, refusal, at-most-one}
+use Rattle.model.specs.Calls.{happening, moments, output-record, output, takers, taken-by, does, Answer, answered, step, run}
 use Rattle.model.specs.Erased.{erase, erase-sub, erase-session, erase-world, observed}
 use Rattle.model.proofs.RowLaws.{retag, row-map, said-map}
 

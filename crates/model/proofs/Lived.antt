@@ -23,7 +23,8 @@ after-append w (m ∷ ms) ns = after-append (next w m) ms ns
 emitted-append : (w : World) (ms ns : List Moment) → emitted w (ms ++ ns) ≡ emitted w ms ++ emitted (after w ms) ns
 emitted-append w [] ns = refl
 emitted-append w (m ∷ ms) ns =
-    ap (emits w m ++_) (emitted-append (next w m) ms ns) ∙ sym (append-assoc (emits w m) (emitted (next w m) ms) (emitted (after w (m ∷ ms)) ns))
+    ap (emits w m ++_) (emitted-append (next w m) ms ns)
+    ∙ sym (append-assoc (emits w m) (emitted (next w m) ms) (emitted (after w (m ∷ ms)) ns))
 
 -- a run of calls is its moments
 answered-after : (w : World) (c : Call) (n : ℕ) → (answered w c n) .0 ≡ after w (moments-done n w c)
@@ -64,7 +65,8 @@ module _ (s : ℕ) where
       let here = session-next w s h m in
       let ih = lives (next w m) (rw (length-row (each w m) 0 (w .sessions)) h) ms in
       let more : Session → Session × List Emission = λ x. lived (changed (w .shared) (m .leaves)) x (seen-of s ms) in
-      let e : (session-at (after (next w m) ms) s, pick s (emitted (next w m) ms)) ≡ more ((each w m s (session-at w s)) .0) = ih ∙ ap more here in
+      let e : (session-at (after (next w m) ms) s, pick s (emitted (next w m) ms)) ≡ more ((each w m s (session-at w s)) .0) = ih
+      ∙ ap more here in
       ap (λ (es : List Emission). (session-at (after (next w m) ms) s, es))
       (pick-append s (emits w m) (emitted (next w m) ms) ∙ ap (_++ pick s (emitted (next w m) ms)) (session-emits w s h m))
       ∙ ap (λ (r : Session × List Emission). (r .0, (each w m s (session-at w s)) .1 ++ r .1)) e

@@ -59,7 +59,8 @@ module _ (l : Lent) (w : World) (c : Call) where
   -- on a well formed table it is not refused with 2
   pub never-2 : l .well-formed ≡ true → refusal l w c ≡ 2 → ⊥
   unfolding refusal
-  never-2 f = go (ltb (l .table) table-least) ((does w c) .asks .table) (l .well-formed) ((does w c) .asks .output && ltb (l .output) output-least)
+  never-2 f =
+      go (ltb (l .table) table-least) ((does w c) .asks .table) (l .well-formed) ((does w c) .asks .output && ltb (l .output) output-least)
       (first 0 ((does w c) .asks .own)) f (own-beyond w c)
     where
       go : (a asks formed d : Bool) (n : ℕ) → formed ≡ true → Beyond n → by-tests a (asks && not formed) d n ≡ 2 → ⊥
@@ -74,7 +75,8 @@ module _ (l : Lent) (w : World) (c : Call) where
   pub has-output : refusal l w c ≡ 0 → (does w c) .asks .output ≡ true → ltb (l .output) output-least ≡ false
   unfolding refusal
   has-output e a =
-      go (ltb (l .table) table-least) ((does w c) .asks .table && not (l .well-formed)) ((does w c) .asks .output) (ltb (l .output) output-least)
+      go (ltb (l .table) table-least) ((does w c) .asks .table && not (l .well-formed)) ((does w c) .asks .output)
+      (ltb (l .output) output-least)
       (first 0 ((does w c) .asks .own)) a e
     where
       go : (s f a d : Bool) (n : ℕ) → a ≡ true → by-tests s f (a && d) n ≡ 0 → d ≡ false

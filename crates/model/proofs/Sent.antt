@@ -243,9 +243,11 @@ module _ (g : Shared) (clean : CleanSettings (g .settings)) where
       let d = asks (m .revision) (m .no-acknowledge) in
       accepted-clean m (dealt (g .settings) 0 empty-run (only kind d) subs) (only-dealt (g .settings) clean 0 empty-run kind d subs tt tt h)
   carry-out-clean subs m (unsubscribes kind n) c h least greatest u v =
-      accepted-clean m (dealt (g .settings) 0 empty-run (only kind drops) subs) (only-dealt (g .settings) clean 0 empty-run kind drops subs tt tt h)
+      accepted-clean m (dealt (g .settings) 0 empty-run (only kind drops) subs)
+      (only-dealt (g .settings) clean 0 empty-run kind drops subs tt tt h)
   carry-out-clean subs m (acknowledges kind) c h least greatest u v =
-      still (some m) (dealt (g .settings) 0 empty-run (only kind acks) subs) (only-dealt (g .settings) clean 0 empty-run kind acks subs tt tt h)
+      still (some m) (dealt (g .settings) 0 empty-run (only kind acks) subs)
+      (only-dealt (g .settings) clean 0 empty-run kind acks subs tt tt h)
   carry-out-clean subs m mirrors c h least greatest u v =
       let w = both (leb least (m .size)) (leb (m .size) greatest) v in
       let a = both (eqb (m .mid) 9999 && eqb least header-length) (eqb greatest header-length) u in
@@ -281,7 +283,8 @@ module _ (g : Shared) (clean : CleanSettings (g .settings)) where
   hear-opened-clean idle m = go (eqb (m .mid) 0001) refl (message-error (opened-standing g) m)
     where
       go : (b : Bool) → eqb (m .mid) 0001 ≡ b → (x : Option Error) → Goes (some m) (cond b (begin g idle m x) (opened idle empty-run, []))
-      go true e none = ((tt, (tt, (tt, tt))), answers refl (welcomes (g .settings) (eqb-true (m .mid) 0001 e)) (framed-0002 (g .settings) clean) tt)
+      go true e none =
+          ((tt, (tt, (tt, tt))), answers refl (welcomes (g .settings) (eqb-true (m .mid) 0001 e)) (framed-0002 (g .settings) clean) tt)
       go true e (some x) = (tt, answers refl (refuses (code x)) (framed-0004 (m .mid) (code x)) tt)
       go false e x = (tt, quiet tt)
 
@@ -334,7 +337,8 @@ module _ (g : Shared) (clean : CleanSettings (g .settings)) where
   step-clean (event e) (started i run subs) c h =
       let kind = kind-of e in
       let n = notice-of g e in
-      still none (dealt (g .settings) i run (only kind (news n)) subs) (only-dealt (g .settings) clean i run kind (news n) subs c (h .0) (h .1))
+      still none (dealt (g .settings) i run (only kind (news n)) subs)
+      (only-dealt (g .settings) clean i run kind (news n) subs c (h .0) (h .1))
   step-clean elsewhere (started i run subs) c h = (h, quiet tt)
 
   -- the identifier that bytes make known

@@ -18,7 +18,8 @@ use Rattle.model.specs.Sharing.{Shared, in-force-after, reported}
 use Rattle.model.specs.Row.{Tagged, tag}
 use Rattle.model.specs.Session.{Session, closed, Emission, reply}
 use Rattle.model.specs.Local.{Local, opening, hang-up, receives, tick, elsewhere, step as session-step, announces}
-use Rattle.model.specs.World.{World, session-at, Change, no-change, by-event, by-start, Moment, to, begins, opens, hangs-up, hears, ticks}
+use Rattle.model.specs.World.{World, session-at, Change, no-change, by-event, by-start, Moment, to, begins, opens, hangs-up, hears}
+use Rattle.model.specs.World.{ticks}
 use Rattle.model.specs.World.{begun, happens, each, sessions-after, changed, next, emits, after, emitted}
 use Rattle.model.specs.Calls.{Call, start, open-session, hang-up-session, bytes, one-tick, tool, Lent, refusal, does}
 use Rattle.model.specs.Calls.{at-most-one, happening, moments, answered, step}
@@ -187,7 +188,8 @@ module _ (w : World) (h : CleanWorld w) where
       let more = emitted (next w m) (happening o) in
       let silent = emitted-silent (next w m) (happening o) (next-clean w h m clean) (happening-clean o k) (happening-unheard o) in
       let x = session-at w s in
-      let said = step-clean (w .shared) (h .settings) (receives (cut bs)) x (nul-cut bs) (session-clean (w .sessions) s (h .sessions)) .1 in (
+      let said = step-clean (w .shared) (h .settings) (receives (cut bs)) x (nul-cut bs)
+      (session-clean (w .sessions) s (h .sessions)) .1 in (
         (clean, happening-clean o k),
         either-emits w s (receives (cut bs)) (λ es. Sends w c (es ++ more)) (none-replies silent)
             (sends-to s more said (rw (eq-eqb s s refl)) silent),

@@ -27,7 +27,8 @@ use Rattle.session.specs.declared.Take.{Take}
 use Rattle.session.specs.declared.Take.the-variants as take
 use Rattle.session.specs.declared.Taken.{Taken}
 use Rattle.session.specs.declared.Subscription.{Subscription}
-use Rattle.notices.specs.Places.{place-size, places-size, event-in, notice-in, notices-in, copies-to, subscription-of, Kept, Deals, dealt-bytes}
+use Rattle.notices.specs.Places.{place-size, places-size, event-in, notice-in, notices-in, copies-to, subscription-of, Kept, Deals}
+use Rattle.notices.specs.Places.{dealt-bytes}
 use Rattle.notices.proofs.Places.{held-length}
 
 -- ==== a notice goes to a place
@@ -75,7 +76,8 @@ busy-not-once : (room : Room) (x : Subscription) → (taken-busy room x) .take �
 busy-not-once the-newest x e = waits-once 1 e
 busy-not-once (up-to most) x e = go (leb most (x .held)) e
   where
-    go : (b : Bool) → (cond {A = Taken} b (record { take = take.Not; next = x }) (record { take = take.Waits (x .held); next = holding x (x .clock) (x .held + 1) })) .take ≡ take.Once → ⊥
+    go : (b : Bool) → (cond {A = Taken} b (record { take = take.Not; next = x })
+        (record { take = take.Waits (x .held); next = holding x (x .clock) (x .held + 1) })) .take ≡ take.Once → ⊥
     go true e = not-once e
     go false e = waits-once (x .held) e
 
@@ -110,8 +112,10 @@ busy-held : (room : Room) (x : Subscription) (i : ℕ) → (taken-busy room x) .
 busy-held the-newest x i e = ap (λ (k : ℕ). k + 1) (waits-injective 1 i e)
 busy-held (up-to most) x i e = go (leb most (x .held)) e
   where
-    go : (b : Bool) → (cond {A = Taken} b (record { take = take.Not; next = x }) (record { take = take.Waits (x .held); next = holding x (x .clock) (x .held + 1) })) .take ≡ take.Waits i
-        → (cond {A = Taken} b (record { take = take.Not; next = x }) (record { take = take.Waits (x .held); next = holding x (x .clock) (x .held + 1) })) .next .held ≡ i + 1
+    go : (b : Bool) → (cond {A = Taken} b (record { take = take.Not; next = x })
+        (record { take = take.Waits (x .held); next = holding x (x .clock) (x .held + 1) })) .take ≡ take.Waits i
+        → (cond {A = Taken} b (record { take = take.Not; next = x })
+        (record { take = take.Waits (x .held); next = holding x (x .clock) (x .held + 1) })) .next .held ≡ i + 1
     go true e = absurd (not-waits i e)
     go false e = ap (λ (k : ℕ). k + 1) (waits-injective (x .held) i e)
 
@@ -125,7 +129,8 @@ waits-held room x i e = by-form (x .form) e
     go true e = absurd (opens-waits i e)
     go false e = busy-held room x i e
 
-    by-form : (f : Form) → (take-from f x (taken-busy room x)) .take ≡ take.Waits i → (take-from f x (taken-busy room x)) .next .held ≡ i + 1
+    by-form : (f : Form) → (take-from f x (taken-busy room x)) .take ≡ take.Waits i
+        → (take-from f x (taken-busy room x)) .next .held ≡ i + 1
     by-form Not e = absurd (not-waits i e)
     by-form Plain e = absurd (once-waits i e)
     by-form Acknowledged e = go (eqb (x .held) 0) e
@@ -138,7 +143,8 @@ room-some (suc (suc kind)) h = absurd (omega arith)
 
 -- ==== an event to a kind, by the answer
 
-module _ (kind s : ℕ) (st : Settings) (x : Subscription) (places p : List ℕ) (k : Kept kind x places) (t : Taken) (e : t ≡ taken (room-of kind) x)
+module _ (kind s : ℕ) (st : Settings) (x : Subscription) (places p : List ℕ) (k : Kept kind x places) (t : Taken)
+    (e : t ≡ taken (room-of kind) x)
     (some : 0 < most-held (room-of kind)) where
   abbrev room : Room
   room = room-of kind
@@ -159,7 +165,8 @@ module _ (kind s : ℕ) (st : Settings) (x : Subscription) (places p : List ℕ)
   place-held i q = subst (λ (u : Take). place-of u < most-held room) q (took .place)
 
   -- the places hold what is kept
-  deals : (places′ : List ℕ) → length places′ ≡ length places → notices-in kind (t .next .held) places′ ≡ kept (t .take) n ns → Deals kind (news n) x places (t .next) places′
+  deals : (places′ : List ℕ) → length places′ ≡ length places → notices-in kind (t .next .held) places′ ≡ kept (t .take) n ns
+      → Deals kind (news n) x places (t .next) places′
   deals places′ l q = record {
     becomes = ap (subscription-in (t .next)) q ∙ sym (ap (λ (r : model.Subscription × List Notice). r .0) (took .acts));
     kept = record { size = l ∙ k .size; holds = subst (λ (ms : List Notice). Holds room (t .next) ms) (sym q) (took .holds) };
@@ -209,11 +216,13 @@ module _ (kind s : ℕ) (st : Settings) (x : Subscription) (places p : List ℕ)
         sym (took .takes ∙ ap is-taken q),
       )
 
-  pub waits : (i : ℕ) (places′ : List ℕ) → length places′ ≡ length places → notices-in kind (i + 1) places′ ≡ notices-in kind i places ++ (n ∷ [])
+  pub waits : (i : ℕ) (places′ : List ℕ) → length places′ ≡ length places
+      → notices-in kind (i + 1) places′ ≡ notices-in kind i places ++ (n ∷ [])
       → t .take ≡ take.Waits i
       → Deals kind (news n) x places (t .next) places′ × ([] ≡ dealt-bytes kind s st (news n) x places) × (true ≡ takes room sub)
   waits i places′ l h q =
-      let so : t .next .held ≡ i + 1 = ap (λ (u : Taken). u .next .held) e ∙ waits-held room x i (ap (λ (u : Taken). u .take) (sym e) ∙ q) in
+      let so : t .next .held ≡ i + 1 = ap (λ (u : Taken). u .next .held) e
+      ∙ waits-held room x i (ap (λ (u : Taken). u .take) (sym e) ∙ q) in
       let many : i + 1 ≡ length (take i ns ++ (n ∷ [])) = sym so ∙ took .holds .held ∙ ap (λ (u : Take). length (kept u n ns)) q in
       let few : i ≤ x .held =
       let a = length-append (take i ns) (n ∷ []) in
@@ -221,7 +230,8 @@ module _ (kind s : ℕ) (st : Settings) (x : Subscription) (places p : List ℕ)
       let d = held-length kind (x .held) places in
       omega arith in (
         deals places′ l
-            (ap (λ (j : ℕ). notices-in kind j places′) so ∙ h ∙ ap (λ (m : List Notice). m ++ (n ∷ [])) (sym (prefix kind i (x .held) places few))
+            (ap (λ (j : ℕ). notices-in kind j places′) so ∙ h
+            ∙ ap (λ (m : List Notice). m ++ (n ∷ [])) (sym (prefix kind i (x .held) places few))
             ∙ ap (λ (u : Take). kept u n ns) (sym q)),
         ap (λ (u : Take). copies-to s st sub (told u n)) (sym q) ∙ bytes,
         sym (took .takes ∙ ap is-taken q),

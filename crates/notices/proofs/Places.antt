@@ -54,12 +54,14 @@ module _ (kind held : ℕ) (places : List ℕ) where
   not-shifted false e = refl
 
   pub is-shifted : (b : Bool) (size : ℕ) → b ≡ true → size ≡ place-size kind → held * place-size kind ≤ length places → 0 < held
-      → notices-in kind (cond b (held - 1) held) (sets places 0 (take (length places - size) (drop size places))) ≡ shifted b (notices-in kind held places)
+      → notices-in kind (cond b (held - 1) held) (sets places 0 (take (length places - size) (drop size places)))
+      ≡ shifted b (notices-in kind held places)
   is-shifted true size e z h p = rw z (popped kind held places h p)
   is-shifted false size e z h p = absurd (true≢false (sym e))
 
 -- the first that is held
-pub first-held : (kind held : ℕ) (places : List ℕ) → 0 < held → sent true (notices-in kind held places) ≡ notice-in kind (take (place-size kind) places) ∷ []
+pub first-held : (kind held : ℕ) (places : List ℕ) → 0 < held
+    → sent true (notices-in kind held places) ≡ notice-in kind (take (place-size kind) places) ∷ []
 unfolding notices-in cells
 first-held kind zero places p = absurd (omega arith)
 first-held kind (suc n) places p = refl
@@ -90,5 +92,6 @@ module _ (s : ℕ) (st : Settings) (revision : ℕ) (b : Bool) (kind held : ℕ)
   nothing-sent e = rw e
 
   pub first-sent : (size : ℕ) → b ≡ true → size ≡ place-size kind → 0 < held
-      → frame-record s (event-frame st revision false (event-in kind (take (size - 0) places))) ≡ copies s st revision false (sent b (notices-in kind held places))
+      → frame-record s (event-frame st revision false (event-in kind (take (size - 0) places)))
+      ≡ copies s st revision false (sent b (notices-in kind held places))
   first-sent size e z p = rw (e, first-held kind held places p, z, sub-zero) (sym (append-nil _))

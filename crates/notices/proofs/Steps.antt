@@ -16,7 +16,8 @@ use Rattle.model.specs.Kinds.{room-of}
 use Rattle.model.specs.Notices.{Deed, act}
 use Rattle.model.specs.Notices as model
 use Rattle.session.specs.Meaning.{subscription-as, subscription-in, Holds, Stepped, shifted, sent}
-use Rattle.session.specs.Control.{step, still, holding, next-goes-out, by-beat, beat-at, ticked, acknowledged, ticked-from, acknowledged-from}
+use Rattle.session.specs.Control.{step, still, holding, next-goes-out, by-beat, beat-at, ticked, acknowledged, ticked-from}
+use Rattle.session.specs.Control.{acknowledged-from}
 use Rattle.session.specs.declared.Form.{Form}
 use Rattle.session.specs.declared.Form.the-variants.{Not, Plain, Acknowledged}
 use Rattle.session.specs.declared.Beat.{Beat}
@@ -44,7 +45,8 @@ next-feasible x = go (eqb (x .held) 0) refl
         }
 
 beat-feasible : (x : Subscription) (b : Beat) → 0 < x .held → Feasible (x .held) (by-beat x b)
-beat-feasible x (Runs clock) h = record { gone = λ e. absurd (true≢false (sym e)); stays = λ e. refl; one = λ e. absurd (true≢false (sym e)) }
+beat-feasible x (Runs clock) h =
+    record { gone = λ e. absurd (true≢false (sym e)); stays = λ e. refl; one = λ e. absurd (true≢false (sym e)) }
 beat-feasible x (Copy clock) h = record { gone = λ e. absurd (true≢false (sym e)); stays = λ e. refl; one = λ e. h }
 beat-feasible x GivenUp h = next-feasible x
 
@@ -72,9 +74,11 @@ acknowledge-feasible x = by-form (x .form)
 
 -- ==== what is sent
 
-copies-same : (s : ℕ) (st : Settings) (revision : ℕ) (q : model.Pending) (ns : List Notice) → copies s st revision false ns ≡ copies-to s st (model.acked revision q) ns
+copies-same : (s : ℕ) (st : Settings) (revision : ℕ) (q : model.Pending) (ns : List Notice)
+    → copies s st revision false ns ≡ copies-to s st (model.acked revision q) ns
 copies-same s st revision q [] = refl
-copies-same s st revision q (n ∷ ns) = ap (λ (l : List ℕ). frame-record s (event-frame st revision false (n .event)) ++ l) (copies-same s st revision q ns)
+copies-same s st revision q (n ∷ ns) =
+    ap (λ (l : List ℕ). frame-record s (event-frame st revision false (n .event)) ++ l) (copies-same s st revision q ns)
 
 next-revision : (x : Subscription) → (next-goes-out x) .next .revision ≡ x .revision
 next-revision x = go (eqb (x .held) 0)
@@ -91,7 +95,9 @@ beat-revision x GivenUp = next-revision x
 module _ (s : ℕ) (st : Settings) (x : Subscription) (ns ms : List Notice) where
   -- the copies of a step are those of the subscription
   abbrev Sends : Form → Step → Type 0
-  Sends f r = copies s st (r .next .revision) false (sent (r .send) ms) ≡ copies-to s st (subscription-as f (x .revision) (x .clock) ns) (sent (r .send) ms)
+  Sends f r =
+      copies s st (r .next .revision) false (sent (r .send) ms)
+      ≡ copies-to s st (subscription-as f (x .revision) (x .clock) ns) (sent (r .send) ms)
 
   sends-so : (r : Step) → r .next .revision ≡ x .revision → Sends Acknowledged r
   sends-so r e = ap (λ (k : ℕ). copies s st k false (sent (r .send) ms)) e ∙ copies-same s st (x .revision) _ (sent (r .send) ms)
@@ -135,7 +141,8 @@ module _ (kind : ℕ) (deed : Deed) (x : Subscription) (places places′ : List 
   pub carried-bytes : (s : ℕ) (st : Settings)
       → (copies s st (r .next .revision) false (sent (r .send) (shifted (r .shift) (notices-in kind (x .held) places)))
       ≡ copies-to s st (subscription-of kind x places) (sent (r .send) (shifted (r .shift) (notices-in kind (x .held) places))))
-      → copies s st (r .next .revision) false (sent (r .send) (notices-in kind (r .next .held) places′)) ≡ dealt-bytes kind s st deed x places
+      → copies s st (r .next .revision) false (sent (r .send) (notices-in kind (r .next .held) places′))
+      ≡ dealt-bytes kind s st deed x places
   carried-bytes s st q =
       ap (λ (ns : List Notice). copies s st (r .next .revision) false (sent (r .send) ns)) e ∙ q
       ∙ sym (ap (λ (p : model.Subscription × List Notice). copies-to s st (subscription-of kind x places) (p .1)) (stepped .acts))

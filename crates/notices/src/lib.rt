@@ -12,7 +12,8 @@ ghost use Rattle.model.specs.Notices.{beats, acks, news, takes};
 ghost use Rattle.text.specs.Put.{Put};
 ghost use Rattle.session.specs.Meaning.{most-held, shifted, sent};
 ghost use Rattle.session.specs.Control.{taken};
-ghost use Rattle.notices.specs.Places.{place-size, event-in, notice-in, notices-in, copies, Feasible, places-size, subscription-of, Kept, Deals, dealt-bytes};
+ghost use Rattle.notices.specs.Places.{place-size, event-in, notice-in, notices-in, copies, Feasible, places-size, subscription-of};
+ghost use Rattle.notices.specs.Places.{Kept, Deals, dealt-bytes};
 use session::Step;
 use session::Subscription;
 use session::Take;
@@ -39,8 +40,12 @@ fn put_copy(
     settings: &[u8],
     place: &[u8],
 ) -> usize
-    requires { ⌜ (at + copy-most (kind-at kind) ≤ length (now out)) × (s < 256) × (length (now settings) ≡ 33) × (length (now place) ≡ place-size kind) × (kind < length kinds) ⌝ }
-    ensures { λ r. ⌜ (r ≤ at + copy-most (kind-at kind)) × Put (now (out .entry)) at (frame-record s (event-frame (settings-of (now (settings .entry))) revision «no_acknowledge» (event-in kind (now (place .entry))))) r (now (out .exit)) ⌝ }
+    requires { ⌜ (at + copy-most (kind-at kind) ≤ length (now out)) × (s < 256) × (length (now settings) ≡ 33)
+        × (length (now place) ≡ place-size kind) × (kind < length kinds) ⌝ }
+    ensures { λ r. ⌜ (r ≤ at + copy-most (kind-at kind))
+        × Put (now (out .entry)) at (frame-record s
+        (event-frame (settings-of (now (settings .entry))) revision «no_acknowledge» (event-in kind (now (place .entry))))) r
+        (now (out .exit)) ⌝ }
 {
     if kind == message::IDENTIFIERS {
         return frame::put_0052(out, at, s, revision, no_acknowledge, place);
@@ -52,7 +57,8 @@ fn put_copy(
 // however many wait.
 fn shift_down(places: &mut [u8], kind: usize, held: u64, shift: bool)
     requires { ⌜ (held * place-size kind ≤ length (now places)) × (shift ≡ true → 0 < held) ⌝ }
-    ensures { λ _. ⌜ notices-in kind (cond shift (held - 1) held) (now (places .exit)) ≡ shifted shift (notices-in kind held (now (places .entry))) ⌝ }
+    ensures { λ _. ⌜ notices-in kind (cond shift (held - 1) held) (now (places .exit))
+        ≡ shifted shift (notices-in kind held (now (places .entry))) ⌝ }
 {
     if !shift {
         return;
@@ -75,7 +81,10 @@ fn carry(
 ) -> usize
     requires { ⌜ (at + copy-most (kind-at kind) ≤ length (now out)) × (s < 256) × (length (now settings) ≡ 33) × (kind < length kinds) ⌝ }
     requires { ⌜ (held * place-size kind ≤ length (now places)) × Feasible held step ⌝ }
-    ensures { λ r. ⌜ (notices-in kind (step .next .held) (now (places .exit)) ≡ shifted (step .shift) (notices-in kind held (now (places .entry)))) × (r ≤ at + copy-most (kind-at kind)) × Put (now (out .entry)) at (copies s (settings-of (now (settings .entry))) (step .next .revision) false (sent (step .send) (notices-in kind (step .next .held) (now (places .exit))))) r (now (out .exit)) ⌝ }
+    ensures { λ r. ⌜ (notices-in kind (step .next .held) (now (places .exit))
+        ≡ shifted (step .shift) (notices-in kind held (now (places .entry)))) × (r ≤ at + copy-most (kind-at kind))
+        × Put (now (out .entry)) at (copies s (settings-of (now (settings .entry))) (step .next .revision) false
+        (sent (step .send) (notices-in kind (step .next .held) (now (places .exit))))) r (now (out .exit)) ⌝ }
 {
     shift_down(places, kind, held, step.shift);
     if !step.send {
@@ -111,8 +120,11 @@ pub fn tick(
     x: Subscription,
     settings: &[u8],
 ) -> Dealt
-    requires { ⌜ (at + copy-most (kind-at kind) ≤ length (now out)) × (s < 256) × (length (now settings) ≡ 33) × Kept kind x (now places) × (kind < length kinds) ⌝ }
-    ensures { λ r. ⌜ (r .at ≤ at + copy-most (kind-at kind)) × Deals kind beats x (now (places .entry)) (r .next) (now (places .exit)) × Put (now (out .entry)) at (dealt-bytes kind s (settings-of (now (settings .entry))) beats x (now (places .entry))) (r .at) (now (out .exit)) ⌝ }
+    requires { ⌜ (at + copy-most (kind-at kind) ≤ length (now out)) × (s < 256) × (length (now settings) ≡ 33) × Kept kind x (now places)
+        × (kind < length kinds) ⌝ }
+    ensures { λ r. ⌜ (r .at ≤ at + copy-most (kind-at kind)) × Deals kind beats x (now (places .entry)) (r .next) (now (places .exit))
+        × Put (now (out .entry)) at (dealt-bytes kind s (settings-of (now (settings .entry))) beats x (now (places .entry))) (r .at)
+        (now (out .exit)) ⌝ }
 {
     let step = session::ticked(x);
     let to = carry(places, out, at, s, kind, x.held, step, settings);
@@ -130,8 +142,11 @@ pub fn acknowledge(
     x: Subscription,
     settings: &[u8],
 ) -> Dealt
-    requires { ⌜ (at + copy-most (kind-at kind) ≤ length (now out)) × (s < 256) × (length (now settings) ≡ 33) × Kept kind x (now places) × (kind < length kinds) ⌝ }
-    ensures { λ r. ⌜ (r .at ≤ at + copy-most (kind-at kind)) × Deals kind acks x (now (places .entry)) (r .next) (now (places .exit)) × Put (now (out .entry)) at (dealt-bytes kind s (settings-of (now (settings .entry))) acks x (now (places .entry))) (r .at) (now (out .exit)) ⌝ }
+    requires { ⌜ (at + copy-most (kind-at kind) ≤ length (now out)) × (s < 256) × (length (now settings) ≡ 33) × Kept kind x (now places)
+        × (kind < length kinds) ⌝ }
+    ensures { λ r. ⌜ (r .at ≤ at + copy-most (kind-at kind)) × Deals kind acks x (now (places .entry)) (r .next) (now (places .exit))
+        × Put (now (out .entry)) at (dealt-bytes kind s (settings-of (now (settings .entry))) acks x (now (places .entry))) (r .at)
+        (now (out .exit)) ⌝ }
 {
     let step = session::acknowledged(x);
     let to = carry(places, out, at, s, kind, x.held, step, settings);
@@ -142,7 +157,8 @@ pub fn acknowledge(
 // A notice goes to place i, as the last of those held.
 fn hold(places: &mut [u8], kind: usize, i: u64, place: &[u8])
     requires { ⌜ (i < most-held (room-of kind)) × (length (now places) ≡ places-size kind) × (length (now place) ≡ place-size kind) ⌝ }
-    ensures { λ _. ⌜ notices-in kind (i + 1) (now (places .exit)) ≡ notices-in kind i (now (places .entry)) ++ (notice-in kind (now (place .entry)) ∷ []) ⌝ }
+    ensures { λ _. ⌜ notices-in kind (i + 1) (now (places .exit))
+        ≡ notices-in kind i (now (places .entry)) ++ (notice-in kind (now (place .entry)) ∷ []) ⌝ }
 {
     let at = i as usize * place_size(kind);
     text::copy(place, places, at);
@@ -177,9 +193,14 @@ pub fn take(
     settings: &[u8],
     place: &[u8],
 ) -> Took
-    requires { ⌜ (at + copy-most (kind-at kind) ≤ length (now out)) × (s < 256) × (length (now settings) ≡ 33) × Kept kind x (now places) ⌝ }
+    requires { ⌜ (at + copy-most (kind-at kind) ≤ length (now out)) × (s < 256) × (length (now settings) ≡ 33)
+        × Kept kind x (now places) ⌝ }
     requires { ⌜ (kind < length kinds) × (length (now place) ≡ place-size kind) ⌝ }
-    ensures { λ r. ⌜ (r .at ≤ at + copy-most (kind-at kind)) × Deals kind (news (notice-in kind (now (place .entry)))) x (now (places .entry)) (r .next) (now (places .exit)) × Put (now (out .entry)) at (dealt-bytes kind s (settings-of (now (settings .entry))) (news (notice-in kind (now (place .entry)))) x (now (places .entry))) (r .at) (now (out .exit)) × (r .taken ≡ takes (room-of kind) (subscription-of kind x (now (places .entry)))) ⌝ }
+    ensures { λ r. ⌜ (r .at ≤ at + copy-most (kind-at kind))
+        × Deals kind (news (notice-in kind (now (place .entry)))) x (now (places .entry)) (r .next) (now (places .exit))
+        × Put (now (out .entry)) at (dealt-bytes kind s (settings-of (now (settings .entry)))
+        (news (notice-in kind (now (place .entry)))) x (now (places .entry))) (r .at) (now (out .exit))
+        × (r .taken ≡ takes (room-of kind) (subscription-of kind x (now (places .entry)))) ⌝ }
 {
     let t = taking(kind, x);
     let next = t.next;

@@ -8,7 +8,8 @@ use lib.Dec.{leb, eqb}
 use lib.ListN.{length, getD, take, drop, drop-of-length-le}
 use borrow.Author.Tests.{leb-true, eqb-true, eq-eqb, ne-eqb}
 use Rattle.model.specs.Bytes.{little, places}
-use Rattle.model.specs.Records.{Item, number, text, time, item-length, is-record, good-item, payload-length, parts, parts-from, good-parts, good-payload, good-record}
+use Rattle.model.specs.Records.{Item, number, text, time, item-length, is-record, good-item, payload-length, parts, parts-from, good-parts}
+use Rattle.model.specs.Records.{good-payload, good-record}
 use Rattle.text.proofs.Lists.{drop-next}
 use Rattle.record.specs.Items.{item-of, items, readable}
 
@@ -40,7 +41,8 @@ module _ (row : List ℕ) (bs : List ℕ) where
   pub is-number : {n : ℕ} → getD row 0 0 ≡ 0 → n ≡ little bs → leb n (getD row 2 0) ≡ good-item (item-of row) bs
   is-number e p = rw (eq-eqb (getD row 0 0) 0 e, p)
 
-  pub is-a-text : {b : Bool} → (getD row 0 0 ≡ 0 → ⊥) → getD row 0 0 ≡ 1 → b ≡ good-item (text (getD row 1 0)) bs → b ≡ good-item (item-of row) bs
+  pub is-a-text : {b : Bool} → (getD row 0 0 ≡ 0 → ⊥) → getD row 0 0 ≡ 1 → b ≡ good-item (text (getD row 1 0)) bs
+      → b ≡ good-item (item-of row) bs
   is-a-text h e p = rw (ne-eqb (getD row 0 0) 0 h, eq-eqb (getD row 0 0) 1 e) p
 
   pub is-a-time : {b : Bool} → (getD row 0 0 ≡ 0 → ⊥) → (getD row 0 0 ≡ 1 → ⊥) → b ≡ good-item time bs → b ≡ good-item (item-of row) bs
@@ -52,7 +54,8 @@ module _ (rows : List (List ℕ)) (s : List ℕ) (k : ℕ) where
   abbrev left : ℕ → ℕ → Bool
   left at j = good-parts (items (drop j rows)) (parts-from at (items (drop j rows)) s)
 
-  pub length-next : k < length rows → payload-length (items (drop k rows)) ≡ item-length (item-of (getD rows k [])) + payload-length (items (drop (k + 1) rows))
+  pub length-next : k < length rows
+      → payload-length (items (drop k rows)) ≡ item-length (item-of (getD rows k [])) + payload-length (items (drop (k + 1) rows))
   length-next h = ap (λ (l : List (List ℕ)). payload-length (items l)) (drop-next rows k [] h)
 
   module _ (at size : ℕ) (h : k < length rows) (e : item-length (item-of (getD rows k [])) ≡ size) where
@@ -61,14 +64,16 @@ module _ (rows : List (List ℕ)) (s : List ℕ) (k : ℕ) where
         ap (λ (l : List (List ℕ)). good-parts (items l) (parts-from at (items l) s)) (drop-next rows k [] h)
         ∙ ap (λ (n : ℕ). good-item (item-of (getD rows k [])) (take n (drop at s)) && left (at + n) (k + 1)) e
 
-    pub items-go-on : {b : Bool} → good-item (item-of (getD rows k [])) (take size (drop at s)) ≡ true → left at k ≡ b → left (at + size) (k + 1) ≡ b
+    pub items-go-on : {b : Bool} → good-item (item-of (getD rows k [])) (take size (drop at s)) ≡ true → left at k ≡ b
+        → left (at + size) (k + 1) ≡ b
     items-go-on t i = ap (λ (c : Bool). c && left (at + size) (k + 1)) (sym t) ∙ sym parts-next ∙ i
 
     pub items-stop : {b : Bool} → good-item (item-of (getD rows k [])) (take size (drop at s)) ≡ false → left at k ≡ b → false ≡ b
     items-stop t i = ap (λ (c : Bool). c && left (at + size) (k + 1)) (sym t) ∙ sym parts-next ∙ i
 
   pub items-end : {b : Bool} (at : ℕ) → length rows ≤ k → left at k ≡ b → true ≡ b
-  items-end at h i = ap (λ (l : List (List ℕ)). good-parts (items l) (parts-from at (items l) s)) (sym (drop-of-length-le rows {i = k} h)) ∙ i
+  items-end at h i =
+      ap (λ (l : List (List ℕ)). good-parts (items l) (parts-from at (items l) s)) (sym (drop-of-length-le rows {i = k} h)) ∙ i
 
 -- ==== a record, by its head, its payload's length and its items
 
@@ -82,6 +87,7 @@ module _ (kind : ℕ) (es : List Item) (slice : List ℕ) where
     unfolding good-record good-payload
     other-length h = rw (e, ne-eqb (length (drop 4 slice)) (payload-length es) h)
 
-    pub by-items : {b : Bool} → length (drop 4 slice) ≡ payload-length es → b ≡ good-parts es (parts es (drop 4 slice)) → b ≡ good-record kind es slice
+    pub by-items : {b : Bool} → length (drop 4 slice) ≡ payload-length es → b ≡ good-parts es (parts es (drop 4 slice))
+        → b ≡ good-record kind es slice
     unfolding good-record good-payload
     by-items h p = rw (e, eq-eqb (length (drop 4 slice)) (payload-length es) h) p

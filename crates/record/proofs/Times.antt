@@ -9,7 +9,8 @@ use Rattle.model.specs.Records.{good-in-time, is-time-from}
 use Rattle.text.proofs.Lists.{drop-next}
 
 module _ (l : List ℕ) (i : ℕ) where
-  time-next : i < length l → is-time-from (i + 1) (drop i l) ≡ good-in-time (i + 1) (getD l i 0) && is-time-from (i + 1 + 1) (drop (i + 1) l)
+  time-next : i < length l
+      → is-time-from (i + 1) (drop i l) ≡ good-in-time (i + 1) (getD l i 0) && is-time-from (i + 1 + 1) (drop (i + 1) l)
   time-next h =
       let e : suc (i + 1) ≡ i + 1 + 1 = omega arith in
       ap (is-time-from (i + 1)) (drop-next l i 0 h)

@@ -11,7 +11,8 @@ use lib.ListN.{length}
 use borrow.Author.Tests.{ltb-false, leb-false, eqb-true, not-false, eq-eqb, ne-eqb}
 use Rattle.model.specs.Limits.{session-count, table-least, output-least, number-greatest}
 use Rattle.model.specs.Tests.{Test, _gives_, first}
-use Rattle.model.specs.Records.{payload, Item, is-record, payload-length, parts, good-parts, good-payload, good-record, settings-of, settings-items, read-settings, read-tool}
+use Rattle.model.specs.Records.{payload, Item, is-record, payload-length, parts, good-parts, good-payload, good-record, settings-of}
+use Rattle.model.specs.Records.{settings-items, read-settings, read-tool}
 use Rattle.model.specs.Session.{is-closed}
 use Rattle.model.specs.World.{session-at}
 use Rattle.model.specs.Calls.{start, open-session, hang-up-session, bytes, one-tick, tool, asks-both, refusal, is-none}
@@ -92,11 +93,13 @@ tool-own t kind = is-bad kind gives 7 ∷ cond (is-tightening kind) (eqb (decode
 -- ==== records
 
 -- how long the payload of a good record is
-pub good-length : (kind : ℕ) (es : List Item) (slice : List ℕ) → good-record kind es slice ≡ true → length (payload slice) ≡ payload-length es
+pub good-length : (kind : ℕ) (es : List Item) (slice : List ℕ) → good-record kind es slice ≡ true
+    → length (payload slice) ≡ payload-length es
 unfolding good-record good-payload
 good-length kind es slice e =
     let p = and-eq-true-iff (is-record kind slice) (good-payload es (payload slice)) .0 e in
-    eqb-true _ _ (and-eq-true-iff (eqb (length (payload slice)) (payload-length es)) (good-parts es (parts es (payload slice))) .0 (p .1) .0)
+    eqb-true _ _ (and-eq-true-iff (eqb (length (payload slice)) (payload-length es)) (good-parts es (parts es (payload slice))) .0
+    (p .1) .0)
 
 -- settings are bad where there are none
 pub bad-settings : (good : Bool) (slice : List ℕ) → settings-in good slice ≡ read-settings slice → is-none (read-settings slice) ≡ not good
@@ -104,7 +107,8 @@ bad-settings true slice e = rw (sym e)
 bad-settings false slice e = rw (sym e)
 
 -- a tool record of that kind
-pub tool-refused : (t : List ℕ) (n : ℕ) (kind : Kind) (slice : List ℕ) → tool-in kind slice ≡ read-tool slice → tool-number t n kind ≡ number t n (tool slice)
+pub tool-refused : (t : List ℕ) (n : ℕ) (kind : Kind) (slice : List ℕ) → tool-in kind slice ≡ read-tool slice
+    → tool-number t n kind ≡ number t n (tool slice)
 unfolding refusal tool-number
 tool-refused t n Bad slice e = rw (sym e)
 tool-refused t n Tightening slice e = rw (sym e)
@@ -130,7 +134,8 @@ bytes-refused t n s bs = refl
 
 -- ==== what is known of a call that is not refused
 
-session-passes : (s : ℕ) (b : Bool) (k : ℕ) → first 0 (leb session-count s gives 4 ∷ b gives suc k ∷ []) ≡ 0 → (s < session-count) × (b ≡ false)
+session-passes : (s : ℕ) (b : Bool) (k : ℕ) → first 0 (leb session-count s gives 4 ∷ b gives suc k ∷ []) ≡ 0
+    → (s < session-count) × (b ≡ false)
 session-passes s b k e = go (leb session-count s) b refl e
   where
     go : (a c : Bool) → leb session-count s ≡ a → first 0 (a gives 4 ∷ c gives suc k ∷ []) ≡ 0 → (s < session-count) × (c ≡ false)
@@ -167,11 +172,14 @@ tool-passes t n kind e =
 -- what is lent will do, whatever the record's kind
 pub tool-ready : (t : List ℕ) (n : ℕ) (slice : List ℕ) → number t n (tool slice) ≡ 0 → Ready t n
 unfolding refusal
-tool-ready t n slice e = is-ready t n (none-applies t n (is-none (read-tool slice) gives 7 ∷ cond (model.is-tightening (read-tool slice)) (eqb (decode t .shared .last) number-greatest) false gives 8 ∷ []) e .0)
+tool-ready t n slice e =
+    is-ready t n (none-applies t n (is-none (read-tool slice) gives 7 ∷ cond (model.is-tightening (read-tool slice))
+    (eqb (decode t .shared .last) number-greatest) false gives 8 ∷ []) e .0)
 
 -- good settings, and a table that is long enough
 pub start-passes : (t slice : List ℕ) → number t 0 (start slice) ≡ 0
-    → (table-least ≤ length t) × (read-settings slice ≡ some (settings-of (payload slice))) × (length (payload slice) ≡ payload-length settings-items)
+    → (table-least ≤ length t) × (read-settings slice ≡ some (settings-of (payload slice))) ×
+    (length (payload slice) ≡ payload-length settings-items)
 unfolding refusal read-settings
 start-passes t slice e =
     let p = go (ltb (length t) table-least) (good-record 3 settings-items slice) refl refl e in

@@ -25,7 +25,8 @@ use Rattle.run.specs.Area as run
 use Rattle.head.specs.Head.{head-of, forms-fit, control-formed, head-formed, Storable}
 use Rattle.head.specs.Head as head
 use Rattle.head.proofs.Areas.{fitting}
-use Rattle.region.specs.Region.{region-size, head-area, run-area, identifiers-area, tightenings-area, session-of, region-formed, Good, Stands, places-of, Moved}
+use Rattle.region.specs.Region.{region-size, head-area, run-area, identifiers-area, tightenings-area, session-of, region-formed, Good}
+use Rattle.region.specs.Region.{Stands, places-of, Moved}
 
 -- ==== what is known of each
 
@@ -84,7 +85,9 @@ module _ (r ys : List ℕ) (g : Good r) where
         record {
           good = record {
             size = size-kept 0 32 f len;
-            formed = formed-of (putMid 0 32 r ys) (ap head-formed same ∙ formed) (ap run-formed (after 32 48 (lit≤ tt)) ∙ parts r g .run .formed);
+            formed =
+                formed-of (putMid 0 32 r ys) (ap head-formed same ∙ formed)
+                (ap run-formed (after 32 48 (lit≤ tt)) ∙ parts r g .run .formed);
           };
           head = ap head-of same ∙ is-x;
           run = ap run-of (after 32 48 (lit≤ tt));
@@ -103,7 +106,9 @@ module _ (r ys : List ℕ) (g : Good r) where
         record {
           good = record {
             size = size-kept 32 80 f len;
-            formed = formed-of (putMid 32 48 r ys) (ap head-formed (before 0 32 (lit≤ tt)) ∙ parts r g .head .formed) (ap run-formed same ∙ formed);
+            formed =
+                formed-of (putMid 32 48 r ys) (ap head-formed (before 0 32 (lit≤ tt)) ∙ parts r g .head .formed)
+                (ap run-formed same ∙ formed);
           };
           head = ap head-of (before 0 32 (lit≤ tt));
           run = ap run-of same ∙ is-n;
@@ -123,7 +128,8 @@ module _ (r ys : List ℕ) (g : Good r) where
             (ap run-formed (before 32 48 (omega arith)) ∙ parts r g .run .formed);
       }
 
-  pub identifiers-replaced : length ys ≡ 50 → Stands (putMid 80 50 r ys) (head-of (head-area r)) (run-of (run-area r)) ys (tightenings-area r)
+  pub identifiers-replaced : length ys ≡ 50
+      → Stands (putMid 80 50 r ys) (head-of (head-area r)) (run-of (run-area r)) ys (tightenings-area r)
   identifiers-replaced len =
       let s = g .size in
       let f : 80 + 50 ≤ length r = omega arith in
@@ -136,7 +142,8 @@ module _ (r ys : List ℕ) (g : Good r) where
         tightenings = area-after 80 50 r ys len f 136 880 (lit≤ tt);
       }
 
-  pub tightenings-replaced : length ys ≡ 880 → Stands (putMid 136 880 r ys) (head-of (head-area r)) (run-of (run-area r)) (identifiers-area r) ys
+  pub tightenings-replaced : length ys ≡ 880
+      → Stands (putMid 136 880 r ys) (head-of (head-area r)) (run-of (run-area r)) (identifiers-area r) ys
   tightenings-replaced len =
       let s = g .size in
       let f : 136 + 880 ≤ length r = omega arith in

@@ -55,7 +55,8 @@ module _ (r : List ℕ) (x : Session) (g : Good r) (k : Storable x) where
       }
 
   -- so that what is said of a sound session is said of it
-  pub sound-control : Sound x (notices-in 0 (x .identifiers .held) (identifiers-area r)) (notices-in 1 (x .tightenings .held) (tightenings-area r))
+  pub sound-control : Sound x (notices-in 0 (x .identifiers .held) (identifiers-area r))
+      (notices-in 1 (x .tightenings .held) (tightenings-area r))
   sound-control =
       let l = k .idle in
       record { idle = omega arith; subscribed = k .subscribed; of-identifiers = kept-identifiers .holds; of-tightenings = kept-tightenings .holds }
@@ -88,14 +89,37 @@ module _ (idle : ℕ) (i t : Subscription) (is ts : List ℕ) where
       record { idle = l; subscribed = tt; i-clock = omega arith; i-held = omega arith; t-clock = omega arith; t-held = omega arith }
 
 pub cleared-storable : Storable cleared
-cleared-storable = record { idle = omega arith; subscribed = (refl, refl); i-clock = omega arith; i-held = omega arith; t-clock = omega arith; t-held = omega arith }
+cleared-storable =
+    record {
+      idle = omega arith;
+      subscribed = (
+        refl,
+        refl,
+      );
+      i-clock = omega arith;
+      i-held = omega arith;
+      t-clock = omega arith;
+      t-held = omega arith;
+    }
 
 pub fresh-storable : Storable fresh
-fresh-storable = record { idle = omega arith; subscribed = (refl, refl); i-clock = omega arith; i-held = omega arith; t-clock = omega arith; t-held = omega arith }
+fresh-storable =
+    record {
+      idle = omega arith;
+      subscribed = (
+        refl,
+        refl,
+      );
+      i-clock = omega arith;
+      i-held = omega arith;
+      t-clock = omega arith;
+      t-held = omega arith;
+    }
 
 -- ==== both kinds
 
-module _ (s : ℕ) (st : Settings) (idle : ℕ) (run : Run) (deed : ℕ → Deed) (i t : notice.Subscription) (r : List ℕ) (x y : Subscription) (is ts : List ℕ)
+module _ (s : ℕ) (st : Settings) (idle : ℕ) (run : Run) (deed : ℕ → Deed) (i t : notice.Subscription) (r : List ℕ) (x y : Subscription)
+    (is ts : List ℕ)
     (stands : Stands r (record { phase = Started; idle = idle; identifiers = x; tightenings = y }) run is ts)
     (ei : subscription-of 0 x is ≡ (act (room-of 0) (deed 0) i) .0) (et : subscription-of 1 y ts ≡ (act (room-of 1) (deed 1) t) .0) where
   means : session-of r ≡ started idle run (subscription-of 0 x is ∷ subscription-of 1 y ts ∷ [])

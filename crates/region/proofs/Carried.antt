@@ -27,12 +27,14 @@ use Rattle.session.specs.declared.Session.{Session}
 use Rattle.session.specs.declared.Subscription.{Subscription}
 use Rattle.session.proofs.Decision as decision
 use Rattle.session.specs.declared.Decision.{Decision}
-use Rattle.session.specs.declared.Decision.the-variants.{Nothing, Heard, Error, Start, Stop, Identify, Subscribe, Unsubscribe, Acknowledge, Mirror}
+use Rattle.session.specs.declared.Decision.the-variants.{Nothing, Heard, Error, Start, Stop, Identify, Subscribe, Unsubscribe, Acknowledge}
+use Rattle.session.specs.declared.Decision.the-variants.{Mirror}
 use Rattle.session.proofs.Afterwards.{after-right}
 use Rattle.run.specs.Area.{run-of}
 use Rattle.head.specs.Head.{head-of, Storable}
 use Rattle.notices.specs.Places.{notices-in}
-use Rattle.region.specs.Region.{head-area, run-area, identifiers-area, tightenings-area, meaning, session-of, Good, Stands, subscriptions-of, Steps}
+use Rattle.region.specs.Region.{head-area, run-area, identifiers-area, tightenings-area, meaning, session-of, Good, Stands}
+use Rattle.region.specs.Region.{subscriptions-of, Steps}
 use Rattle.region.proofs.Both.{sound-control}
 use Rattle.region.proofs.Ticks.{means}
 
@@ -74,7 +76,8 @@ module _ (x : Session) where
     still-t = ap (λ (s : Subscription). notices-in 1 (s .held) places) (heard-keeps (x .phase) .1)
 
     held-i : (d : Decision) → Other d
-        → notices-in 0 ((after x d) .identifiers .held) places ≡ held-after d 0 (x .identifiers) (notices-in 0 (x .identifiers .held) places)
+        → notices-in 0 ((after x d) .identifiers .held) places
+        ≡ held-after d 0 (x .identifiers) (notices-in 0 (x .identifiers .held) places)
     unfolding after
     held-i Nothing o = refl
     held-i Heard o = still-i
@@ -83,7 +86,8 @@ module _ (x : Session) where
     held-i (Stop mid) o = nothing-held 0 places
     held-i (Identify mid) o = still-i
     held-i (Subscribe zero mid revision no-acknowledge) o =
-        held-by-asking 0 places revision no-acknowledge (x .identifiers .form) (x .identifiers .revision) (x .identifiers .clock) (x .identifiers .held)
+        held-by-asking 0 places revision no-acknowledge (x .identifiers .form) (x .identifiers .revision) (x .identifiers .clock)
+        (x .identifiers .held)
     held-i (Subscribe (suc kind) mid revision no-acknowledge) o = rw (eqb·zero-suc kind) still-i
     held-i (Unsubscribe zero mid) o = nothing-held 0 places
     held-i (Unsubscribe (suc kind) mid) o = rw (eqb·zero-suc kind) still-i
@@ -91,7 +95,8 @@ module _ (x : Session) where
     held-i Mirror o = still-i
 
     held-t : (d : Decision) → Other d
-        → notices-in 1 ((after x d) .tightenings .held) places ≡ held-after d 1 (x .tightenings) (notices-in 1 (x .tightenings .held) places)
+        → notices-in 1 ((after x d) .tightenings .held) places
+        ≡ held-after d 1 (x .tightenings) (notices-in 1 (x .tightenings .held) places)
     unfolding after
     held-t Nothing o = refl
     held-t Heard o = still-t
@@ -101,7 +106,8 @@ module _ (x : Session) where
     held-t (Identify mid) o = still-t
     held-t (Subscribe zero mid revision no-acknowledge) o = still-t
     held-t (Subscribe (suc zero) mid revision no-acknowledge) o =
-        held-by-asking 1 places revision no-acknowledge (x .tightenings .form) (x .tightenings .revision) (x .tightenings .clock) (x .tightenings .held)
+        held-by-asking 1 places revision no-acknowledge (x .tightenings .form) (x .tightenings .revision) (x .tightenings .clock)
+        (x .tightenings .held)
     held-t (Subscribe (suc (suc kind)) mid revision no-acknowledge) o = rw (eqb·suc-suc 0 (suc kind), eqb·zero-suc kind) still-t
     held-t (Unsubscribe zero mid) o = still-t
     held-t (Unsubscribe (suc zero) mid) o = nothing-held 1 places
@@ -111,13 +117,15 @@ module _ (x : Session) where
 
   -- and nothing is sent but a reply
   quiet : (st : Settings) (is ts : List ℕ) (d : Decision) → Other d
-      → carried-out st x (notices-in 0 (x .identifiers .held) is) (notices-in 1 (x .tightenings .held) ts) d ≡ (meaning (after x d) empty-run is ts, [])
+      → carried-out st x (notices-in 0 (x .identifiers .held) is) (notices-in 1 (x .tightenings .held) ts) d
+      ≡ (meaning (after x d) empty-run is ts, [])
   quiet st is ts d o =
       let ns = sym (held-i is d o) in
       let ms = sym (held-t ts d o) in
       λ i. (session-in (after x d) empty-run (ns i) (ms i), sends d o i)
     where
-      sends : (d : Decision) → Other d → (carried-out st x (notices-in 0 (x .identifiers .held) is) (notices-in 1 (x .tightenings .held) ts) d) .1 ≡ []
+      sends : (d : Decision) → Other d
+          → (carried-out st x (notices-in 0 (x .identifiers .held) is) (notices-in 1 (x .tightenings .held) ts) d) .1 ≡ []
       sends Nothing o = refl
       sends Heard o = refl
       sends (Error mid code) o = refl
@@ -134,7 +142,9 @@ module _ (x : Session) where
 module _ (s : ℕ) (st : Settings) (r r₁ : List ℕ) (x : Session) (g : Good r) (k : Storable x)
     (over : Stands r₁ (head-of (head-area r)) empty-run (identifiers-area r) (tightenings-area r)) where
   abbrev becomes : Decision → model.Session × List Emission
-  becomes d = carried-out st x (notices-in 0 (x .identifiers .held) (identifiers-area r)) (notices-in 1 (x .tightenings .held) (tightenings-area r)) d
+  becomes d =
+      carried-out st x (notices-in 0 (x .identifiers .held) (identifiers-area r))
+      (notices-in 1 (x .tightenings .held) (tightenings-area r)) d
 
   pub quiet-so : {r₂ o : List ℕ} (at : ℕ) (d : Decision) (y : Session) → Other d → y ≡ after x d
       → Stands r₂ y (run-of (run-area r₁)) (identifiers-area r₁) (tightenings-area r₁) → Steps s (becomes d) r₂ o at at o
@@ -168,11 +178,14 @@ module _ (s : ℕ) (st : Settings) (r r₁ : List ℕ) (x : Session) (g : Good r
         ∙ after-right st empty-run _ _ [] x (sound-control r x g k) (Acknowledge kind)
 
     pub acknowledged-so : {r₂ o o′ : List ℕ} {at next : ℕ} (kind : ℕ) (d : Decision) (h : Session) → h ≡ heard x → d ≡ Acknowledge kind
-        → Steps s (dealt st (h .idle) (run-of (run-area r₁)) (only kind acks) (subscriptions-of h r₁)) r₂ o at next o′ → Steps s (becomes d) r₂ o at next o′
+        → Steps s (dealt st (h .idle) (run-of (run-area r₁)) (only kind acks) (subscriptions-of h r₁)) r₂ o at next o′ → Steps s
+        (becomes d) r₂ o at next o′
     acknowledged-so {r₂} {o} {o′} {at} {next} kind d h eh ed w =
         let q : dealt st (h .idle) (run-of (run-area r₁)) (only kind acks) (subscriptions-of h r₁) ≡ becomes d =
         ap (λ (z : Session). dealt st (z .idle) (run-of (run-area r₁)) (only kind acks) (subscriptions-of z r₁)) (eh ∙ heard-idle)
         ∙ ap (λ (n : Run). dealt st 0 n (only kind acks) (subscriptions-of x r₁)) (over .run)
-        ∙ ap₂ (λ (is ts : List ℕ). dealt st 0 empty-run (only kind acks) (subscriptions-in x (notices-in 0 (x .identifiers .held) is) (notices-in 1 (x .tightenings .held) ts))) (over .identifiers) (over .tightenings)
+        ∙ ap₂ (λ (is ts : List ℕ). dealt st 0 empty-run (only kind acks)
+        (subscriptions-in x (notices-in 0 (x .identifiers .held) is) (notices-in 1 (x .tightenings .held) ts))) (over .identifiers)
+        (over .tightenings)
         ∙ right kind ∙ ap becomes (sym ed) in
         subst (λ (z : model.Session × List Emission). Steps s z r₂ o at next o′) q w

@@ -24,7 +24,8 @@ use Rattle.session.specs.declared.Session.{Session}
 use Rattle.run.specs.Area.{run-of}
 use Rattle.head.specs.Head.{head-of}
 use Rattle.notices.specs.Places.{notice-in, subscription-of}
-use Rattle.region.specs.Region.{head-area, run-area, identifiers-area, tightenings-area, places-of, session-of, Good, out-bytes, subscriptions-of, Steps}
+use Rattle.region.specs.Region.{head-area, run-area, identifiers-area, tightenings-area, places-of, session-of, Good, out-bytes}
+use Rattle.region.specs.Region.{subscriptions-of, Steps}
 
 module _ (s kind : ℕ) (st : Settings) (r : List ℕ) (x : Session) (ex : x ≡ head-of (head-area r)) (n : Notice) where
   -- the region means a session of its control
@@ -36,21 +37,26 @@ module _ (s kind : ℕ) (st : Settings) (r : List ℕ) (x : Session) (ex : x ≡
   as-phase p e = as-control ∙ ap (λ (q : Phase). session-as q (x .idle) (run-of (run-area r)) (subscriptions-of x r)) e
 
   -- one that is not started takes no event
-  not-told : {o : List ℕ} (at : ℕ) (z : model.Session) → Good r → session-of r ≡ z → step (shared-begun st (n .id)) (event (n .event)) z ≡ (z, []) → takes kind z ≡ false
+  not-told : {o : List ℕ} (at : ℕ) (z : model.Session) → Good r → session-of r ≡ z
+      → step (shared-begun st (n .id)) (event (n .event)) z ≡ (z, []) → takes kind z ≡ false
       → Steps s (step (shared-begun st (n .id)) (event (n .event)) (session-of r)) r o at at o × (false ≡ takes kind (session-of r))
   not-told {o} at z g e f t = (
     record {
       good = g;
       session = e ∙ sym (ap (λ (p : model.Session × List Emission). p .0) (ap (step (shared-begun st (n .id)) (event (n .event))) e ∙ f));
-      bytes = put-as (ap (λ (p : model.Session × List Emission). out-bytes s (p .1)) (sym (ap (step (shared-begun st (n .id)) (event (n .event))) e ∙ f))) (put-nothing o at);
+      bytes =
+          put-as (ap (λ (p : model.Session × List Emission). out-bytes s (p .1))
+          (sym (ap (step (shared-begun st (n .id)) (event (n .event))) e ∙ f))) (put-nothing o at);
     },
     sym (ap (takes kind) e ∙ t),
   )
 
-  pub told-closed : {o : List ℕ} (at : ℕ) → Good r → x .phase ≡ Closed → Steps s (step (shared-begun st (n .id)) (event (n .event)) (session-of r)) r o at at o × (false ≡ takes kind (session-of r))
+  pub told-closed : {o : List ℕ} (at : ℕ) → Good r → x .phase ≡ Closed
+      → Steps s (step (shared-begun st (n .id)) (event (n .event)) (session-of r)) r o at at o × (false ≡ takes kind (session-of r))
   told-closed at g e = not-told at _ g (as-phase Closed e) refl refl
 
-  pub told-opened : {o : List ℕ} (at : ℕ) → Good r → x .phase ≡ Opened → Steps s (step (shared-begun st (n .id)) (event (n .event)) (session-of r)) r o at at o × (false ≡ takes kind (session-of r))
+  pub told-opened : {o : List ℕ} (at : ℕ) → Good r → x .phase ≡ Opened
+      → Steps s (step (shared-begun st (n .id)) (event (n .event)) (session-of r)) r o at at o × (false ≡ takes kind (session-of r))
   told-opened at g e = not-told at _ g (as-phase Opened e) refl refl
 
   -- one that is started: the event's kind takes it, or not
@@ -58,8 +64,10 @@ module _ (s kind : ℕ) (st : Settings) (r : List ℕ) (x : Session) (ex : x ≡
       → Steps s (dealt st (x .idle) (run-of (run-area r)) (only kind (news n)) (subscriptions-of x r)) r′ o at next o′
       → Steps s (step (shared-begun st (n .id)) (event (n .event)) (session-of r)) r′ o at next o′
   told-started {r′} {o} {o′} {at} {next} e ek w =
-      subst (λ (z : model.Session). Steps s (step (shared-begun st (n .id)) (event (n .event)) z) r′ o at next o′) (sym (as-phase Started e))
-      (subst (λ (k : ℕ). Steps s (dealt st (x .idle) (run-of (run-area r)) (only k (news n)) (subscriptions-of x r)) r′ o at next o′) (sym ek) w)
+      subst (λ (z : model.Session). Steps s (step (shared-begun st (n .id)) (event (n .event)) z) r′ o at next o′)
+      (sym (as-phase Started e))
+      (subst (λ (k : ℕ). Steps s (dealt st (x .idle) (run-of (run-area r)) (only k (news n)) (subscriptions-of x r)) r′ o at next o′)
+      (sym ek) w)
 
   -- and it takes the event as its subscription of the kind does
   pub taken-started : {b : Bool} → kind < length kinds → x .phase ≡ Started
@@ -67,7 +75,8 @@ module _ (s kind : ℕ) (st : Settings) (r : List ℕ) (x : Session) (ex : x ≡
   taken-started {b} few e t = t ∙ by-kind kind few ∙ sym (ap (takes kind) (as-phase Started e))
     where
       by-kind : (kind : ℕ) → kind < length kinds
-          → notice.takes (room-of kind) (subscription-of kind (subscription-at x kind) (places-of kind r)) ≡ takes kind (started (x .idle) (run-of (run-area r)) (subscriptions-of x r))
+          → notice.takes (room-of kind) (subscription-of kind (subscription-at x kind) (places-of kind r))
+          ≡ takes kind (started (x .idle) (run-of (run-area r)) (subscriptions-of x r))
       by-kind zero few = refl
       by-kind (suc zero) few = refl
       by-kind (suc (suc kind)) few = absurd (omega arith)

@@ -34,16 +34,19 @@ use Rattle.session.proofs.Acknowledges.{acknowledge-known}
 use Rattle.run.specs.Area.{run-of, Ends}
 use Rattle.head.specs.Head.{head-of, Storable}
 use Rattle.notices.specs.Places.{notices-in}
-use Rattle.region.specs.Region.{head-area, run-area, identifiers-area, tightenings-area, meaning, session-of, Good, Stands, out-bytes, Steps, ending, known-in, Knows, Ruled, Hears}
+use Rattle.region.specs.Region.{head-area, run-area, identifiers-area, tightenings-area, meaning, session-of, Good, Stands, out-bytes}
+use Rattle.region.specs.Region.{Steps, ending, known-in, Knows, Ruled, Hears}
 use Rattle.region.proofs.Outputs.{out-append}
 use Rattle.region.proofs.Both.{sound-control, sound-storable}
 use Rattle.region.proofs.Ticks.{means}
 
 -- ==== the kept bytes of a run, and how many it has, are the run
 
-module _ {s : ℕ} {st : Settings} {x : Session} {o : List ℕ} {at : ℕ} {place : List ℕ} {d : Decision} {next : ℕ} {known : Bool} {o′ place′ : List ℕ} where
+module _ {s : ℕ} {st : Settings} {x : Session} {o : List ℕ} {at : ℕ} {place : List ℕ} {d : Decision} {next : ℕ} {known : Bool}
+    {o′ place′ : List ℕ} where
   pub ruled-as : (run : List ℕ) (count : ℕ) (m : Run) → run ≡ m .kept → count ≡ m .count
-      → Ruled s st x (record { kept = run; count = count }) o at place d next known o′ place′ → Ruled s st x m o at place d next known o′ place′
+      → Ruled s st x
+      (record { kept = run; count = count }) o at place d next known o′ place′ → Ruled s st x m o at place d next known o′ place′
   ruled-as run count m ek ec w =
       subst (λ (z : Run). Ruled s st x z o at place d next known o′ place′) (λ i. record { kept = ek i; count = ec i }) w
 
@@ -60,7 +63,8 @@ taken-few bs = rw (length-take 45 bs) (omega arith)
 
 -- ==== a run ends
 
-module _ (s : ℕ) (st : Settings) (r : List ℕ) (g : Good r) (x : Session) (ex : x ≡ head-of (head-area r)) (k : Storable x) (bs : List ℕ) where
+module _ (s : ℕ) (st : Settings) (r : List ℕ) (g : Good r) (x : Session) (ex : x ≡ head-of (head-area r)) (k : Storable x)
+    (bs : List ℕ) where
   -- it is then
   abbrev n : Run
   n = longer (run-of (run-area r)) bs
@@ -91,17 +95,22 @@ module _ (s : ℕ) (st : Settings) (r : List ℕ) (g : Good r) (x : Session) (ex
         ∙ ap (carried-by-value st x is ts (take 20 (n .kept))) (sym (ruled .decides))
 
     -- the reply, then what the decision does, where the places are as they were in r
-    pub ends-so : {r′ o′ : List ℕ} {next : ℕ} (r₁ : List ℕ) → identifiers-area r₁ ≡ identifiers-area r → tightenings-area r₁ ≡ tightenings-area r
+    pub ends-so : {r′ o′ : List ℕ} {next : ℕ} (r₁ : List ℕ) → identifiers-area r₁ ≡ identifiers-area r
+        → tightenings-area r₁ ≡ tightenings-area r
         → next ≤ mid + copies-most kinds
-        → Steps s (carried-out st x (notices-in 0 (x .identifiers .held) (identifiers-area r₁)) (notices-in 1 (x .tightenings .held) (tightenings-area r₁)) d) r′ o₁ mid next o′
+        → Steps s (carried-out st x (notices-in 0 (x .identifiers .held) (identifiers-area r₁))
+        (notices-in 1 (x .tightenings .held) (tightenings-area r₁)) d) r′ o₁ mid next o′
         → Hears s st (ending bs) r o at place next known r′ o′ place′
     ends-so {r′} {o′} {next} r₁ ei et few w =
-        let q : carried-out st x (notices-in 0 (x .identifiers .held) (identifiers-area r₁)) (notices-in 1 (x .tightenings .held) (tightenings-area r₁)) d ≡ carried-out st x is ts d =
+        let q : carried-out st x (notices-in 0 (x .identifiers .held) (identifiers-area r₁))
+        (notices-in 1 (x .tightenings .held) (tightenings-area r₁)) d ≡ carried-out st x is ts d =
         ap₂ (λ (a b : List ℕ). carried-out st x (notices-in 0 (x .identifiers .held) a) (notices-in 1 (x .tightenings .held) b) d) ei et in
-        let v : Steps s (carried-out st x is ts d) r′ o₁ mid next o′ = subst (λ (z : model.Session × List Emission). Steps s z r′ o₁ mid next o′) q w in
+        let v : Steps s (carried-out st x is ts d) r′ o₁ mid next o′ =
+        subst (λ (z : model.Session × List Emission). Steps s z r′ o₁ mid next o′) q w in
         let e : announced d (drop 20 (n .kept)) ≡ announces (shared-begun st 0) (ending bs) (session-of r) =
         ap (λ (z : Decision). announced z (drop 20 (n .kept))) (ruled .decides)
-        ∙ sym (ap (announces (shared-begun st 0) (ending bs)) as-control ∙ identify-right st (run-of (run-area r)) is ts (ending bs) refl x) in
+        ∙ sym (ap (announces (shared-begun st 0) (ending bs)) as-control
+        ∙ identify-right st (run-of (run-area r)) is ts (ending bs) refl x) in
         let l = ruled .within in
         record {
           within = omega arith;
@@ -109,7 +118,9 @@ module _ (s : ℕ) (st : Settings) (r : List ℕ) (g : Good r) (x : Session) (ex
               subst (λ (z : model.Session × List Emission). Steps s z r′ o at next o′) (sym right) (record {
                 good = v .good;
                 session = v .session;
-                bytes = put-as (sym (out-append s (replies st (take 20 (n .kept)) d) (noticed st x is ts d))) (put-then (ruled .bytes) (v .bytes));
+                bytes =
+                    put-as (sym (out-append s (replies st (take 20 (n .kept)) d) (noticed st x is ts d)))
+                    (put-then (ruled .bytes) (v .bytes));
               });
           knows = subst (λ (z : Option (List ℕ)). Knows z place known place′) e (ruled .knows);
         }
@@ -129,7 +140,9 @@ module _ (s : ℕ) (st : Settings) (r r′ o : List ℕ) (at : ℕ) (place bs : 
         steps =
             record {
               good = w .good;
-              session = means r′ _ _ _ _ w ∙ ap (λ (z : List ℕ). meaning x (longer (run-of (run-area r)) z) (identifiers-area r) (tightenings-area r)) (sym eb) ∙ sym (ap (λ (z : model.Session × List Emission). z .0) (h .0));
+              session =
+                  means r′ _ _ _ _ w ∙ ap (λ (z : List ℕ). meaning x (longer (run-of (run-area r)) z) (identifiers-area r)
+                  (tightenings-area r)) (sym eb) ∙ sym (ap (λ (z : model.Session × List Emission). z .0) (h .0));
               bytes = put-as (ap (λ (z : model.Session × List Emission). out-bytes s (z .1)) (sym (h .0))) (put-nothing o at);
             };
         knows = subst (λ (z : Option (List ℕ)). Knows z place false place) (sym (h .1)) (refl, refl);
@@ -148,5 +161,6 @@ pub piece-goes-on : (bs : List ℕ) (i : ℕ) → Ends bs i → length bs ≤ i 
 piece-goes-on bs i e h = (e .ends ∙ le-ltb i (length bs) h, e .bytes ∙ take-all i bs h)
 
 module _ {s : ℕ} {st : Settings} {r o : List ℕ} {at : ℕ} {place : List ℕ} {next : ℕ} {known : Bool} {r′ o′ place′ : List ℕ} where
-  pub hears-as : {p q : Piece} → p ≡ q → Hears s st p r o at place next known r′ o′ place′ → Hears s st q r o at place next known r′ o′ place′
+  pub hears-as : {p q : Piece} → p ≡ q → Hears s st p r o at place next known r′ o′ place′
+      → Hears s st q r o at place next known r′ o′ place′
   hears-as e w = subst (λ (z : Piece). Hears s st z r o at place next known r′ o′ place′) e w

@@ -15,6 +15,7 @@ module _ (s : ℕ) (st : Settings) (header : List ℕ) (d d′ : Decision) (e : 
   pub no-reply : {o : List ℕ} (at : ℕ) → replies st header d′ ≡ [] → Put o at (out-bytes s (replies st header d)) at o
   no-reply {o} at n = put-as (ap (out-bytes s) (sym (ap (replies st header) e ∙ n))) (put-nothing o at)
 
-  pub one-reply : {o o′ : List ℕ} {at next : ℕ} (frame : List ℕ) → replies st header d′ ≡ reply frame ∷ [] → Put o at (frame-record s frame) next o′
+  pub one-reply : {o o′ : List ℕ} {at next : ℕ} (frame : List ℕ) → replies st header d′ ≡ reply frame ∷ []
+      → Put o at (frame-record s frame) next o′
       → Put o at (out-bytes s (replies st header d)) next o′
   one-reply frame n p = put-as (sym (append-nil (frame-record s frame)) ∙ ap (out-bytes s) (sym (ap (replies st header) e ∙ n))) p

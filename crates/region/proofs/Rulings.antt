@@ -18,7 +18,8 @@ use Rattle.session.specs.Effects.{decision-on, announced}
 use Rattle.session.specs.declared.Session.{Session}
 use Rattle.session.proofs.Decision as decision-of
 use Rattle.session.specs.declared.Decision.{Decision}
-use Rattle.session.specs.declared.Decision.the-variants.{Nothing, Heard, Error, Start, Stop, Identify, Subscribe, Unsubscribe, Acknowledge, Mirror}
+use Rattle.session.specs.declared.Decision.the-variants.{Nothing, Heard, Error, Start, Stop, Identify, Subscribe, Unsubscribe, Acknowledge}
+use Rattle.session.specs.declared.Decision.the-variants.{Mirror}
 use Rattle.region.specs.Region.{is-known, known-in, Knows}
 
 -- ==== an identifier
@@ -50,9 +51,11 @@ module _ (bs : List ℕ) where
       let l : n ≡ length bs = omega arith in
       let w = put-then p q in
       let all-of-it : length place ≡ length (bs ++ replicate (25 - n) 0x20) =
-      size ∙ (let m : 25 ≡ length bs + (25 - n) = omega arith in m) ∙ ap (λ (k : ℕ). length bs + k) (sym (length-replicate (25 - n) 0x20)) ∙ sym (length-append bs (replicate (25 - n) 0x20)) in (
+      size ∙ (let m : 25 ≡ length bs + (25 - n) = omega arith in m) ∙ ap (λ (k : ℕ). length bs + k) (sym (length-replicate (25 - n) 0x20))
+      ∙ sym (length-append bs (replicate (25 - n) 0x20)) in (
         ap (λ (k : Decision). is-known (announced k bs)) (sym e),
-        scratch all-of-it w ∙ ap (λ (k : ℕ). bs ++ replicate (25 - k) 0x20) l ∙ ap (λ (k : Decision). known-in (announced k bs) place) (sym e),
+        scratch all-of-it w ∙ ap (λ (k : ℕ). bs ++ replicate (25 - k) 0x20) l
+            ∙ ap (λ (k : Decision). known-in (announced k bs) place) (sym e),
       )
 
 -- ==== the decision

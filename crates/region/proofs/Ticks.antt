@@ -30,7 +30,8 @@ use Rattle.session.specs.declared.Idling.the-variants.{Stays, TimesOut}
 use Rattle.run.specs.Area.{run-of}
 use Rattle.head.specs.Head.{head-of, Storable}
 use Rattle.notices.specs.Places.{notices-in}
-use Rattle.region.specs.Region.{head-area, run-area, identifiers-area, tightenings-area, meaning, session-of, Good, Stands, out-bytes, Steps, tick-goes-on, by-idling}
+use Rattle.region.specs.Region.{head-area, run-area, identifiers-area, tightenings-area, meaning, session-of, Good, Stands, out-bytes}
+use Rattle.region.specs.Region.{Steps, tick-goes-on, by-idling}
 
 -- ==== the idle count
 
@@ -133,7 +134,8 @@ module _ (s : ℕ) (st : Settings) (x : Session) (run : Run) (is ts : List ℕ) 
   pub stays-opened : {r o : List ℕ} (at : ℕ) → x .phase ≡ Opened → Stands r x run is ts → Steps s (goes-on (x .phase)) r o at at o
   stays-opened at e w = silent x run is ts (goes-on (x .phase)) at w (rw e)
 
-  pub stays-started : {r o o′ : List ℕ} {at next : ℕ} → x .phase ≡ Started → Steps s (goes-on Started) r o at next o′ → Steps s (goes-on (x .phase)) r o at next o′
+  pub stays-started : {r o o′ : List ℕ} {at next : ℕ} → x .phase ≡ Started → Steps s (goes-on Started) r o at next o′
+      → Steps s (goes-on (x .phase)) r o at next o′
   stays-started {r} {o} {o′} {at} {next} e w = subst (λ (p : Phase). Steps s (goes-on p) r o at next o′) (sym e) w
 
 -- ==== the whole tick, by what the idle count says
@@ -149,7 +151,8 @@ module _ (s : ℕ) (st : Settings) (r : List ℕ) (x : Session) (ex : x ≡ head
   run-here = run-of (run-area r)
 
   -- the model's tick to what the region means
-  right : step (shared-begun st 0) tick (session-of r) ≡ by-idling st run-here (notices-i (x .identifiers)) (notices-t (x .tightenings)) (idled x)
+  right : step (shared-begun st 0) tick (session-of r)
+      ≡ by-idling st run-here (notices-i (x .identifiers)) (notices-t (x .tightenings)) (idled x)
   unfolding session-of
   right =
       ap (λ (z : Session). step (shared-begun st 0) tick (meaning z run-here (identifiers-area r) (tightenings-area r))) (sym ex)
@@ -178,12 +181,14 @@ module _ (s : ℕ) (st : Settings) (r : List ℕ) (x : Session) (ex : x ≡ head
 
 -- ==== whether it is closed, how it begins and ends
 
-closed-as : (p : Phase) (idle : ℕ) (run : Run) (subs : List notice.Subscription) → is-closed (session-as p idle run subs) ≡ is-closed (session-as p 0 empty-run [])
+closed-as : (p : Phase) (idle : ℕ) (run : Run) (subs : List notice.Subscription)
+    → is-closed (session-as p idle run subs) ≡ is-closed (session-as p 0 empty-run [])
 closed-as Closed idle run subs = refl
 closed-as Opened idle run subs = refl
 closed-as Started idle run subs = refl
 
-pub closed-by : (r : List ℕ) (p : Phase) → (head-of (head-area r)) .phase ≡ p → is-closed (session-of r) ≡ is-closed (session-as p 0 empty-run [])
+pub closed-by : (r : List ℕ) (p : Phase) → (head-of (head-area r)) .phase ≡ p
+    → is-closed (session-of r) ≡ is-closed (session-as p 0 empty-run [])
 unfolding session-of
 closed-by r p e = closed-as (head-of (head-area r) .phase) _ _ _ ∙ ap (λ (q : Phase). is-closed (session-as q 0 empty-run [])) e
 

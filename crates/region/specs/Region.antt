@@ -97,7 +97,8 @@ out-bytes s es = output (tag s es)
 -- the subscriptions of a session of that control in a region
 abbrev pub subscriptions-of : Session → List ℕ → List Subscription
 subscriptions-of x r =
-    subscription-of identifiers (x .identifiers) (identifiers-area r) ∷ subscription-of tightenings (x .tightenings) (tightenings-area r) ∷ []
+    subscription-of identifiers (x .identifiers) (identifiers-area r) ∷ subscription-of tightenings (x .tightenings)
+    (tightenings-area r) ∷ []
 
 -- the region means the session that the step leaves, and what it emits to session s is written
 pub record Steps (s : ℕ) (step : model.Session × List Emission) (r o : List ℕ) (at next : ℕ) (o′ : List ℕ) : Type 0 where

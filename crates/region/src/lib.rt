@@ -17,7 +17,9 @@ ghost use Rattle.session.specs.Effects.{announced, replies, carried-out, Acknow
 ghost use Rattle.run.specs.Area.{run-of, Ends};
 ghost use Rattle.head.specs.Head.{head-of, Storable};
 ghost use Rattle.notices.specs.Places.{place-size, event-in, notice-in, notices-in, subscription-of, Kept, Deals, dealt-bytes};
-ghost use Rattle.region.specs.Region.{region-size, head-area, run-area, identifiers-area, tightenings-area, session-of, region-formed, Good, Stands, places-of, Moved, subscriptions-of, out-bytes, Steps, tick-goes-on, ending, Knows, Ruled, Hears};
+ghost use Rattle.region.specs.Region.{region-size, head-area, run-area, identifiers-area, tightenings-area, session-of};
+ghost use Rattle.region.specs.Region.{region-formed, Good, Stands, places-of, Moved, subscriptions-of, out-bytes, Steps};
+ghost use Rattle.region.specs.Region.{tick-goes-on, ending, Knows, Ruled, Hears};
 use notices::Dealt;
 use notices::Took;
 use session::Decision;
@@ -60,7 +62,8 @@ fn load(region: &[u8]) -> Session
 
 fn store(region: &mut [u8], x: Session)
     requires { ⌜ Good (now region) × Storable x ⌝ }
-    ensures { λ _. ⌜ Stands (now (region .exit)) x (run-of (run-area (now (region .entry)))) (identifiers-area (now (region .entry))) (tightenings-area (now (region .entry))) ⌝ }
+    ensures { λ _. ⌜ Stands (now (region .exit)) x (run-of (run-area (now (region .entry)))) (identifiers-area (now (region .entry)))
+        (tightenings-area (now (region .entry))) ⌝ }
 {
     head::store(&mut region[0..32], x);
 }
@@ -68,14 +71,17 @@ fn store(region: &mut [u8], x: Session)
 // More bytes of its run.
 fn lengthen(region: &mut [u8], bytes: &[u8])
     requires { ⌜ Good (now region) ⌝ }
-    ensures { λ _. ⌜ Stands (now (region .exit)) (head-of (head-area (now (region .entry)))) (longer (run-of (run-area (now (region .entry)))) (now (bytes .entry))) (identifiers-area (now (region .entry))) (tightenings-area (now (region .entry))) ⌝ }
+    ensures { λ _. ⌜ Stands (now (region .exit)) (head-of (head-area (now (region .entry))))
+        (longer (run-of (run-area (now (region .entry)))) (now (bytes .entry))) (identifiers-area (now (region .entry)))
+        (tightenings-area (now (region .entry))) ⌝ }
 {
     run::lengthen(&mut region[32..80], bytes);
 }
 
 fn clear_run(region: &mut [u8])
     requires { ⌜ Good (now region) ⌝ }
-    ensures { λ _. ⌜ Stands (now (region .exit)) (head-of (head-area (now (region .entry)))) empty-run (identifiers-area (now (region .entry))) (tightenings-area (now (region .entry))) ⌝ }
+    ensures { λ _. ⌜ Stands (now (region .exit)) (head-of (head-area (now (region .entry)))) empty-run
+        (identifiers-area (now (region .entry))) (tightenings-area (now (region .entry))) ⌝ }
 {
     run::clear(&mut region[32..80]);
 }
@@ -94,7 +100,10 @@ fn tick_kind(
 ) -> Dealt
     requires { ⌜ (at + copy-most (kind-at kind) ≤ length (now out)) × (s < 256) × (length (now settings) ≡ 33) × (kind < length kinds) ⌝ }
     requires { ⌜ Good (now region) × Kept kind x (places-of kind (now region)) ⌝ }
-    ensures { λ r. ⌜ (r .at ≤ at + copy-most (kind-at kind)) × Moved kind (now (region .entry)) (now (region .exit)) × Deals kind beats x (places-of kind (now (region .entry))) (r .next) (places-of kind (now (region .exit))) × Put (now (out .entry)) at (dealt-bytes kind s (settings-of (now (settings .entry))) beats x (places-of kind (now (region .entry)))) (r .at) (now (out .exit)) ⌝ }
+    ensures { λ r. ⌜ (r .at ≤ at + copy-most (kind-at kind)) × Moved kind (now (region .entry)) (now (region .exit))
+        × Deals kind beats x (places-of kind (now (region .entry))) (r .next) (places-of kind (now (region .exit)))
+        × Put (now (out .entry)) at (dealt-bytes kind s (settings-of (now (settings .entry))) beats x
+        (places-of kind (now (region .entry)))) (r .at) (now (out .exit)) ⌝ }
 {
     if kind == message::IDENTIFIERS {
         return notices::tick(&mut region[80..130], out, at, s, kind, x, settings);
@@ -114,7 +123,10 @@ fn acknowledge_kind(
 ) -> Dealt
     requires { ⌜ (at + copy-most (kind-at kind) ≤ length (now out)) × (s < 256) × (length (now settings) ≡ 33) × (kind < length kinds) ⌝ }
     requires { ⌜ Good (now region) × Kept kind x (places-of kind (now region)) ⌝ }
-    ensures { λ r. ⌜ (r .at ≤ at + copy-most (kind-at kind)) × Moved kind (now (region .entry)) (now (region .exit)) × Deals kind acks x (places-of kind (now (region .entry))) (r .next) (places-of kind (now (region .exit))) × Put (now (out .entry)) at (dealt-bytes kind s (settings-of (now (settings .entry))) acks x (places-of kind (now (region .entry)))) (r .at) (now (out .exit)) ⌝ }
+    ensures { λ r. ⌜ (r .at ≤ at + copy-most (kind-at kind)) × Moved kind (now (region .entry)) (now (region .exit))
+        × Deals kind acks x (places-of kind (now (region .entry))) (r .next) (places-of kind (now (region .exit)))
+        × Put (now (out .entry)) at (dealt-bytes kind s (settings-of (now (settings .entry))) acks x
+        (places-of kind (now (region .entry)))) (r .at) (now (out .exit)) ⌝ }
 {
     if kind == message::IDENTIFIERS {
         return notices::acknowledge(&mut region[80..130], out, at, s, kind, x, settings);
@@ -135,7 +147,12 @@ fn take_kind(
 ) -> Took
     requires { ⌜ (at + copy-most (kind-at kind) ≤ length (now out)) × (s < 256) × (length (now settings) ≡ 33) × (kind < length kinds) ⌝ }
     requires { ⌜ Good (now region) × Kept kind x (places-of kind (now region)) × (length (now place) ≡ place-size kind) ⌝ }
-    ensures { λ r. ⌜ (r .at ≤ at + copy-most (kind-at kind)) × Moved kind (now (region .entry)) (now (region .exit)) × Deals kind (news (notice-in kind (now (place .entry)))) x (places-of kind (now (region .entry))) (r .next) (places-of kind (now (region .exit))) × Put (now (out .entry)) at (dealt-bytes kind s (settings-of (now (settings .entry))) (news (notice-in kind (now (place .entry)))) x (places-of kind (now (region .entry)))) (r .at) (now (out .exit)) × (r .taken ≡ takes (room-of kind) (subscription-of kind x (places-of kind (now (region .entry))))) ⌝ }
+    ensures { λ r. ⌜ (r .at ≤ at + copy-most (kind-at kind)) × Moved kind (now (region .entry)) (now (region .exit))
+        × Deals kind (news (notice-in kind (now (place .entry)))) x (places-of kind (now (region .entry))) (r .next)
+        (places-of kind (now (region .exit))) × Put (now (out .entry)) at
+        (dealt-bytes kind s (settings-of (now (settings .entry))) (news (notice-in kind (now (place .entry)))) x
+        (places-of kind (now (region .entry)))) (r .at) (now (out .exit))
+        × (r .taken ≡ takes (room-of kind) (subscription-of kind x (places-of kind (now (region .entry))))) ⌝ }
 {
     if kind == message::IDENTIFIERS {
         return notices::take(&mut region[80..130], out, at, s, kind, x, settings, place);
@@ -155,7 +172,9 @@ fn tick_kinds(
     x: Session,
 ) -> usize
     requires { ⌜ (at + copies-most kinds ≤ length (now out)) × (s < 256) × (length (now settings) ≡ 33) × Good (now region) × Storable x ⌝ }
-    ensures { λ r. ⌜ (r ≤ at + copies-most kinds) × Steps s (dealt (settings-of (now (settings .entry))) (x .idle) (run-of (run-area (now (region .entry)))) (λ kind. beats) (subscriptions-of x (now (region .entry)))) (now (region .exit)) (now (out .entry)) at r (now (out .exit)) ⌝ }
+    ensures { λ r. ⌜ (r ≤ at + copies-most kinds) × Steps s
+        (dealt (settings-of (now (settings .entry))) (x .idle) (run-of (run-area (now (region .entry)))) (λ kind. beats)
+        (subscriptions-of x (now (region .entry)))) (now (region .exit)) (now (out .entry)) at r (now (out .exit)) ⌝ }
 {
     let i = x.identifiers;
     let i = tick_kind(region, out, at, s, message::IDENTIFIERS, i, settings);
@@ -185,7 +204,11 @@ fn tick_stays(
     x: Session,
 ) -> usize
     requires { ⌜ (at + copies-most kinds ≤ length (now out)) × (s < 256) × (length (now settings) ≡ 33) × Good (now region) × Storable x ⌝ }
-    ensures { λ r. ⌜ (r ≤ at + copies-most kinds) × Steps s (tick-goes-on (settings-of (now (settings .entry))) (run-of (run-area (now (region .entry)))) (notices-in identifiers (x .identifiers .held) (identifiers-area (now (region .entry)))) (notices-in tightenings (x .tightenings .held) (tightenings-area (now (region .entry)))) (x .phase) x) (now (region .exit)) (now (out .entry)) at r (now (out .exit)) ⌝ }
+    ensures { λ r. ⌜ (r ≤ at + copies-most kinds) × Steps s
+        (tick-goes-on (settings-of (now (settings .entry))) (run-of (run-area (now (region .entry))))
+        (notices-in identifiers (x .identifiers .held) (identifiers-area (now (region .entry))))
+        (notices-in tightenings (x .tightenings .held) (tightenings-area (now (region .entry)))) (x .phase) x) (now (region .exit))
+        (now (out .entry)) at r (now (out .exit)) ⌝ }
 {
     let phase = x.phase;
     match phase {
@@ -204,7 +227,9 @@ fn tick_stays(
 // A tick to session s.
 pub fn tick(region: &mut [u8], out: &mut [u8], at: usize, s: u64, settings: &[u8]) -> usize
     requires { ⌜ (at + copies-most kinds ≤ length (now out)) × (s < 256) × (length (now settings) ≡ 33) × Good (now region) ⌝ }
-    ensures { λ r. ⌜ (r ≤ at + copies-most kinds) × Steps s (step (shared-begun (settings-of (now (settings .entry))) 0) one-tick (session-of (now (region .entry)))) (now (region .exit)) (now (out .entry)) at r (now (out .exit)) ⌝ }
+    ensures { λ r. ⌜ (r ≤ at + copies-most kinds) × Steps s
+        (step (shared-begun (settings-of (now (settings .entry))) 0) one-tick (session-of (now (region .entry)))) (now (region .exit))
+        (now (out .entry)) at r (now (out .exit)) ⌝ }
 {
     let x = load(region);
     let idling = session::idled(x);
@@ -268,8 +293,13 @@ fn happened(
     kind: usize,
     place: &[u8],
 ) -> Told
-    requires { ⌜ (at + copy-most (kind-at kind) ≤ length (now out)) × (s < 256) × (length (now settings) ≡ 33) × Good (now region) × Storable x × (x .phase ≡ Phase.Started) × (kind < length kinds) × (length (now place) ≡ place-size kind) ⌝ }
-    ensures { λ r. ⌜ (r .at ≤ at + copy-most (kind-at kind)) × Steps s (dealt (settings-of (now (settings .entry))) (x .idle) (run-of (run-area (now (region .entry)))) (only kind (news (notice-in kind (now (place .entry))))) (subscriptions-of x (now (region .entry)))) (now (region .exit)) (now (out .entry)) at (r .at) (now (out .exit)) × (r .taken ≡ takes (room-of kind) (subscription-of kind (subscription-at x kind) (places-of kind (now (region .entry))))) ⌝ }
+    requires { ⌜ (at + copy-most (kind-at kind) ≤ length (now out)) × (s < 256) × (length (now settings) ≡ 33) × Good (now region)
+        × Storable x × (x .phase ≡ Phase.Started) × (kind < length kinds) × (length (now place) ≡ place-size kind) ⌝ }
+    ensures { λ r. ⌜ (r .at ≤ at + copy-most (kind-at kind))
+        × Steps s (dealt (settings-of (now (settings .entry))) (x .idle) (run-of (run-area (now (region .entry))))
+        (only kind (news (notice-in kind (now (place .entry))))) (subscriptions-of x (now (region .entry)))) (now (region .exit))
+        (now (out .entry)) at (r .at) (now (out .exit))
+        × (r .taken ≡ takes (room-of kind) (subscription-of kind (subscription-at x kind) (places-of kind (now (region .entry))))) ⌝ }
 {
     let sub = session::subscription_of(x, kind);
     let t = take_kind(region, out, at, s, kind, sub, settings, place);
@@ -291,8 +321,12 @@ pub fn event(
     kind: usize,
     place: &[u8],
 ) -> Told
-    requires { ⌜ (at + copy-most (kind-at kind) ≤ length (now out)) × (s < 256) × (length (now settings) ≡ 33) × Good (now region) × (kind < length kinds) × (length (now place) ≡ place-size kind) ⌝ }
-    ensures { λ r. ⌜ (r .at ≤ at + copy-most (kind-at kind)) × Steps s (step (shared-begun (settings-of (now (settings .entry))) 0) (event-of (event-in kind (now (place .entry)))) (session-of (now (region .entry)))) (now (region .exit)) (now (out .entry)) at (r .at) (now (out .exit)) × (r .taken ≡ takes-event kind (session-of (now (region .entry)))) ⌝ }
+    requires { ⌜ (at + copy-most (kind-at kind) ≤ length (now out)) × (s < 256) × (length (now settings) ≡ 33) × Good (now region)
+        × (kind < length kinds) × (length (now place) ≡ place-size kind) ⌝ }
+    ensures { λ r. ⌜ (r .at ≤ at + copy-most (kind-at kind))
+        × Steps s (step (shared-begun (settings-of (now (settings .entry))) 0) (event-of (event-in kind (now (place .entry))))
+        (session-of (now (region .entry)))) (now (region .exit)) (now (out .entry)) at (r .at) (now (out .exit))
+        × (r .taken ≡ takes-event kind (session-of (now (region .entry)))) ⌝ }
 {
     let x = load(region);
     let phase = x.phase;
@@ -342,8 +376,11 @@ fn acknowledged(
     x: Session,
     kind: usize,
 ) -> usize
-    requires { ⌜ (at + copy-most (kind-at kind) ≤ length (now out)) × (s < 256) × (length (now settings) ≡ 33) × Good (now region) × Storable x × (x .phase ≡ Phase.Started) × (kind < length kinds) ⌝ }
-    ensures { λ r. ⌜ (r ≤ at + copy-most (kind-at kind)) × Steps s (dealt (settings-of (now (settings .entry))) (x .idle) (run-of (run-area (now (region .entry)))) (only kind acks) (subscriptions-of x (now (region .entry)))) (now (region .exit)) (now (out .entry)) at r (now (out .exit)) ⌝ }
+    requires { ⌜ (at + copy-most (kind-at kind) ≤ length (now out)) × (s < 256) × (length (now settings) ≡ 33) × Good (now region)
+        × Storable x × (x .phase ≡ Phase.Started) × (kind < length kinds) ⌝ }
+    ensures { λ r. ⌜ (r ≤ at + copy-most (kind-at kind))
+        × Steps s (dealt (settings-of (now (settings .entry))) (x .idle) (run-of (run-area (now (region .entry)))) (only kind acks)
+        (subscriptions-of x (now (region .entry)))) (now (region .exit)) (now (out .entry)) at r (now (out .exit)) ⌝ }
 {
     let sub = session::subscription_of(x, kind);
     let t = acknowledge_kind(region, out, at, s, kind, sub, settings);
@@ -364,7 +401,11 @@ fn carry_out(
 ) -> usize
     requires { ⌜ (at + copies-most kinds ≤ length (now out)) × (s < 256) × (length (now settings) ≡ 33) × Good (now region) ⌝ }
     requires { ⌜ Storable x × Storable (after-so x d) × AcknowledgedIn (x .phase) d ⌝ }
-    ensures { λ r. ⌜ (r ≤ at + copies-most kinds) × Steps s (carried-out (settings-of (now (settings .entry))) x (notices-in identifiers (x .identifiers .held) (identifiers-area (now (region .entry)))) (notices-in tightenings (x .tightenings .held) (tightenings-area (now (region .entry)))) d) (now (region .exit)) (now (out .entry)) at r (now (out .exit)) ⌝ }
+    ensures { λ r. ⌜ (r ≤ at + copies-most kinds) × Steps s
+        (carried-out (settings-of (now (settings .entry))) x
+        (notices-in identifiers (x .identifiers .held) (identifiers-area (now (region .entry))))
+        (notices-in tightenings (x .tightenings .held) (tightenings-area (now (region .entry)))) d) (now (region .exit))
+        (now (out .entry)) at r (now (out .exit)) ⌝ }
 {
     clear_run(region);
     let Decision::Acknowledge { kind } = d else {
@@ -415,7 +456,8 @@ fn rule(
 ) -> Ruling
     requires { ⌜ (at + reply-most ≤ length (now out)) × (s < 256) × (length (now settings) ≡ 33) × (length (now run) ≤ run-kept)
         × (length (now place) ≡ 25) ⌝ }
-    ensures { λ r. ⌜ Ruled s (settings-of (now (settings .entry))) x (record { kept = now (run .entry); count = count }) (now (out .entry)) at (now (place .entry)) (r .decision) (r .at) (r .identified) (now (out .exit)) (now (place .exit)) ⌝ }
+    ensures { λ r. ⌜ Ruled s (settings-of (now (settings .entry))) x (record { kept = now (run .entry); count = count })
+        (now (out .entry)) at (now (place .entry)) (r .decision) (r .at) (r .identified) (now (out .exit)) (now (place .exit)) ⌝ }
 {
     let decision = session::decide(x, is_granted(settings), run, count);
     let data_field = frame::data_field(run);
@@ -438,8 +480,10 @@ fn rule_kept(
     x: Session,
     place: &mut [u8],
 ) -> Ruling
-    requires { ⌜ (at + reply-most ≤ length (now out)) × (s < 256) × (length (now settings) ≡ 33) × Good (now region) × (length (now place) ≡ 25) ⌝ }
-    ensures { λ r. ⌜ Ruled s (settings-of (now (settings .entry))) x (run-of (run-area (now (region .entry)))) (now (out .entry)) at (now (place .entry)) (r .decision) (r .at) (r .identified) (now (out .exit)) (now (place .exit)) ⌝ }
+    requires { ⌜ (at + reply-most ≤ length (now out)) × (s < 256) × (length (now settings) ≡ 33) × Good (now region)
+        × (length (now place) ≡ 25) ⌝ }
+    ensures { λ r. ⌜ Ruled s (settings-of (now (settings .entry))) x (run-of (run-area (now (region .entry)))) (now (out .entry)) at
+        (now (place .entry)) (r .decision) (r .at) (r .identified) (now (out .exit)) (now (place .exit)) ⌝ }
 {
     let area = &region[32..80];
     rule(
@@ -470,8 +514,10 @@ fn end_whole(
     bytes: &[u8],
     place: &mut [u8],
 ) -> Received
-    requires { ⌜ (at + session-most ≤ length (now out)) × (s < 256) × (length (now settings) ≡ 33) × Good (now region) × (length (now place) ≡ 25) × (run-of (run-area (now region)) ≡ empty-run) ⌝ }
-    ensures { λ r. ⌜ Hears s (settings-of (now (settings .entry))) (ending (now (bytes .entry))) (now (region .entry)) (now (out .entry)) at (now (place .entry)) (r .at) (r .identified) (now (region .exit)) (now (out .exit)) (now (place .exit)) ⌝ }
+    requires { ⌜ (at + session-most ≤ length (now out)) × (s < 256) × (length (now settings) ≡ 33) × Good (now region)
+        × (length (now place) ≡ 25) × (run-of (run-area (now region)) ≡ empty-run) ⌝ }
+    ensures { λ r. ⌜ Hears s (settings-of (now (settings .entry))) (ending (now (bytes .entry))) (now (region .entry))
+        (now (out .entry)) at (now (place .entry)) (r .at) (r .identified) (now (region .exit)) (now (out .exit)) (now (place .exit)) ⌝ }
 {
     let x = load(region);
     let r = rule(
@@ -502,8 +548,10 @@ fn end_kept(
     bytes: &[u8],
     place: &mut [u8],
 ) -> Received
-    requires { ⌜ (at + session-most ≤ length (now out)) × (s < 256) × (length (now settings) ≡ 33) × Good (now region) × (length (now place) ≡ 25) ⌝ }
-    ensures { λ r. ⌜ Hears s (settings-of (now (settings .entry))) (ending (now (bytes .entry))) (now (region .entry)) (now (out .entry)) at (now (place .entry)) (r .at) (r .identified) (now (region .exit)) (now (out .exit)) (now (place .exit)) ⌝ }
+    requires { ⌜ (at + session-most ≤ length (now out)) × (s < 256) × (length (now settings) ≡ 33) × Good (now region)
+        × (length (now place) ≡ 25) ⌝ }
+    ensures { λ r. ⌜ Hears s (settings-of (now (settings .entry))) (ending (now (bytes .entry))) (now (region .entry))
+        (now (out .entry)) at (now (place .entry)) (r .at) (r .identified) (now (region .exit)) (now (out .exit)) (now (place .exit)) ⌝ }
 {
     lengthen(region, bytes);
     let x = load(region);
@@ -526,8 +574,10 @@ fn end_run(
     bytes: &[u8],
     place: &mut [u8],
 ) -> Received
-    requires { ⌜ (at + session-most ≤ length (now out)) × (s < 256) × (length (now settings) ≡ 33) × Good (now region) × (length (now place) ≡ 25) ⌝ }
-    ensures { λ r. ⌜ Hears s (settings-of (now (settings .entry))) (ending (now (bytes .entry))) (now (region .entry)) (now (out .entry)) at (now (place .entry)) (r .at) (r .identified) (now (region .exit)) (now (out .exit)) (now (place .exit)) ⌝ }
+    requires { ⌜ (at + session-most ≤ length (now out)) × (s < 256) × (length (now settings) ≡ 33) × Good (now region)
+        × (length (now place) ≡ 25) ⌝ }
+    ensures { λ r. ⌜ Hears s (settings-of (now (settings .entry))) (ending (now (bytes .entry))) (now (region .entry))
+        (now (out .entry)) at (now (place .entry)) (r .at) (r .identified) (now (region .exit)) (now (out .exit)) (now (place .exit)) ⌝ }
 {
     if run::count(&region[32..80]) == 0 {
         return end_whole(region, out, at, s, settings, bytes, place);
@@ -548,7 +598,8 @@ pub fn receive(
 ) -> Received
     requires { ⌜ (at + session-most ≤ length (now out)) × (s < 256) × (length (now settings) ≡ 33) × Good (now region)
         × (length (now place) ≡ 25) × Ends (now bytes) end ⌝ }
-    ensures { λ r. ⌜ Hears s (settings-of (now (settings .entry))) (cut (now (bytes .entry))) (now (region .entry)) (now (out .entry)) at (now (place .entry)) (r .at) (r .identified) (now (region .exit)) (now (out .exit)) (now (place .exit)) ⌝ }
+    ensures { λ r. ⌜ Hears s (settings-of (now (settings .entry))) (cut (now (bytes .entry))) (now (region .entry)) (now (out .entry)) at
+        (now (place .entry)) (r .at) (r .identified) (now (region .exit)) (now (out .exit)) (now (place .exit)) ⌝ }
 {
     if end < bytes.len() {
         return end_run(region, out, at, s, settings, &bytes[0..end], place);

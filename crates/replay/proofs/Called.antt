@@ -109,7 +109,8 @@ module _ {c : Call} {t o : List ℕ} {r : Answer} {t′ o′ : List ℕ} (out : 
 
   formed-after : (k : ℕ) → r .number ≡ k → table-formed t ≡ false → table-formed t′ ≡ eqb k 0
   formed-after zero e f = out .formed e
-  formed-after (suc k) e f = ap table-formed (out .kept (λ (z : r .number ≡ 0). omega arith)) ∙ f ∙ sym (ne-eqb (suc k) 0 (λ (z : suc k ≡ 0). omega arith))
+  formed-after (suc k) e f =
+      ap table-formed (out .kept (λ (z : r .number ≡ 0). omega arith)) ∙ f ∙ sym (ne-eqb (suc k) 0 (λ (z : suc k ≡ 0). omega arith))
 
   as-unformed : table-formed t ≡ false → As c false (step (with-formed false) w c) r t′ o′
   as-unformed f =

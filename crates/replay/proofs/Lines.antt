@@ -16,7 +16,8 @@ use Rattle.replay.specs.Lines.{line-in, lines-in, text-of}
 use Rattle.replay.specs.Whole.{whole-size}
 use Rattle.replay.proofs.Sizes.{slices-first, slices-none}
 
-pub shown-next : (l : List ℕ) (i b : ℕ) → i < length l → b ≡ cond (eqb (getD l i 0) space) 0x5F (getD l i 0) → shown (drop i l) ≡ b ∷ shown (drop (i + 1) l)
+pub shown-next : (l : List ℕ) (i b : ℕ) → i < length l → b ≡ cond (eqb (getD l i 0) space) 0x5F (getD l i 0)
+    → shown (drop i l) ≡ b ∷ shown (drop (i + 1) l)
 shown-next l i b h e = ap shown (drop-next l i 0 h) ∙ ap (λ (x : ℕ). x ∷ shown (drop (i + 1) l)) (sym e)
 
 pub shown-length : (l : List ℕ) → length (shown l) ≡ length l

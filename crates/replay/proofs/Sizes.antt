@@ -24,7 +24,8 @@ module _ (bs : List ℕ) where
   unfolding whole-size
   size-too-long h = go (leb 4 (length bs)) (lt-leb payload payload-longest h)
     where
-      go : (b : Bool) → leb payload payload-longest ≡ false → 0 ≡ cond (b && leb payload payload-longest && leb (4 + payload) (length bs)) (4 + payload) 0
+      go : (b : Bool) → leb payload payload-longest ≡ false
+          → 0 ≡ cond (b && leb payload payload-longest && leb (4 + payload) (length bs)) (4 + payload) 0
       go true e = rw e
       go false e = refl
 
@@ -48,7 +49,8 @@ module _ (bs : List ℕ) where
   slices-next m h = go (leb 4 (length bs) && leb payload payload-longest && leb (4 + payload) (length bs)) h
     where
       go : (b : Bool) → 0 < cond b (4 + payload) 0
-          → elim b [ true ↦ take (4 + payload) bs ∷ slices m (drop (4 + payload) bs) | false ↦ [] ] ≡ take (cond b (4 + payload) 0) bs ∷ slices m (drop (cond b (4 + payload) 0) bs)
+          → elim b [ true ↦ take (4 + payload) bs ∷ slices m (drop (4 + payload) bs) | false ↦ [] ]
+          ≡ take (cond b (4 + payload) 0) bs ∷ slices m (drop (cond b (4 + payload) 0) bs)
       go true h = refl
       go false h = absurd (omega arith)
 
@@ -57,7 +59,8 @@ module _ (bs : List ℕ) where
   slices-none zero e = refl
   slices-none (suc m) e = go (leb 4 (length bs) && leb payload payload-longest && leb (4 + payload) (length bs)) e
     where
-      go : (b : Bool) → cond b (4 + payload) 0 ≡ 0 → _≡_ {A = List (List ℕ)} (elim b [ true ↦ take (4 + payload) bs ∷ slices m (drop (4 + payload) bs) | false ↦ [] ]) []
+      go : (b : Bool) → cond b (4 + payload) 0 ≡ 0
+          → _≡_ {A = List (List ℕ)} (elim b [ true ↦ take (4 + payload) bs ∷ slices m (drop (4 + payload) bs) | false ↦ [] ]) []
       go true e = absurd (omega arith)
       go false e = refl
 
@@ -69,7 +72,8 @@ slices-enough (suc m) zero bs h g =
     let e : whole-size bs ≡ 0 = sym (size-cut bs (omega arith)) in slices-none bs (suc m) e ∙ sym (slices-none bs 0 e)
 slices-enough (suc m) (suc n) bs h g = go (λ (ys : List ℕ). slices-enough m n ys) (whole-size bs) refl
   where
-    go : ((ys : List ℕ) → length ys ≤ m → length ys ≤ n → slices m ys ≡ slices n ys) → (k : ℕ) → whole-size bs ≡ k → slices (suc m) bs ≡ slices (suc n) bs
+    go : ((ys : List ℕ) → length ys ≤ m → length ys ≤ n → slices m ys ≡ slices n ys) → (k : ℕ) → whole-size bs ≡ k
+        → slices (suc m) bs ≡ slices (suc n) bs
     go shorter zero e = slices-none bs (suc m) e ∙ sym (slices-none bs (suc n) e)
     go shorter (suc k) e =
         let p : 0 < whole-size bs = omega arith in
@@ -78,7 +82,8 @@ slices-enough (suc m) (suc n) bs h g = go (λ (ys : List ℕ). slices-enough m n
         ∙ ap (λ (ss : List (List ℕ)). take (whole-size bs) bs ∷ ss) (shorter (drop (whole-size bs) bs) (omega arith) (omega arith))
         ∙ sym (slices-next bs n p)
 
-pub slices-first : (bs : List ℕ) (size : ℕ) → size ≡ whole-size bs → 0 < size → slices (length bs) bs ≡ take size bs ∷ slices (length (drop size bs)) (drop size bs)
+pub slices-first : (bs : List ℕ) (size : ℕ) → size ≡ whole-size bs → 0 < size
+    → slices (length bs) bs ≡ take size bs ∷ slices (length (drop size bs)) (drop size bs)
 slices-first bs size e h =
     let rest = drop (whole-size bs) bs in
     let p : 0 < whole-size bs = omega arith in

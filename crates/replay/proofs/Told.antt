@@ -34,11 +34,13 @@ record-length : (kind : ℕ) (payload : List ℕ) → length (house-record kind 
 unfolding in-bytes
 record-length kind payload = omega arith
 
-announced : (kind : ℕ) (payload more : List ℕ) → length payload ≤ output-least → little (places 1 2 (house-record kind payload ++ more)) ≡ length payload
+announced : (kind : ℕ) (payload more : List ℕ) → length payload ≤ output-least
+    → little (places 1 2 (house-record kind payload ++ more)) ≡ length payload
 unfolding in-bytes
 announced kind payload more few = omega arith
 
-record-size : (kind : ℕ) (payload more : List ℕ) → length (house-record kind payload) ≤ output-least → length (house-record kind payload) ≡ whole-size (house-record kind payload ++ more)
+record-size : (kind : ℕ) (payload more : List ℕ) → length (house-record kind payload) ≤ output-least
+    → length (house-record kind payload) ≡ whole-size (house-record kind payload ++ more)
 record-size kind payload more few =
     let b = record-length kind payload in
     let n = announced kind payload more (omega arith) in
@@ -66,7 +68,8 @@ frame-session : (s : ℕ) (frame : List ℕ) → s < session-count → digits 1 
 unfolding frame-record
 frame-session s frame h = session-in s (256 + s) (frame ++ NUL ∷ []) (omega arith)
 
-frame-line : (s : ℕ) (frame : List ℕ) → s < session-count → line-in (frame-record s frame) ≡ digits 1 s ++ (space ∷ 0x53 ∷ space ∷ []) ++ shown frame
+frame-line : (s : ℕ) (frame : List ℕ) → s < session-count
+    → line-in (frame-record s frame) ≡ digits 1 s ++ (space ∷ 0x53 ∷ space ∷ []) ++ shown frame
 unfolding line-in digits
 frame-line s frame h =
     let r = frame-record s frame in
@@ -106,7 +109,8 @@ module _ (s : ℕ) where
 
 -- ==== all of them
 
-lines-in-output : (es : List (Tagged Emission)) → Below session-count es → length (output es) ≤ output-least → lines-in (output es) ≡ map line-of es
+lines-in-output : (es : List (Tagged Emission)) → Below session-count es → length (output es) ≤ output-least
+    → lines-in (output es) ≡ map line-of es
 unfolding lines-in
 lines-in-output [] p h = refl
 lines-in-output (x ∷ xs) p h =
@@ -132,7 +136,8 @@ told-as q r o′ answer bytes fits below =
     (ap lines-in bytes ∙ lines-in-output (q .2) below (omega arith))
 
 -- THE LINES: what is printed for a call are the lines of what the model says of it
-pub told : {c : Call} {t o : List ℕ} {r : Answer} {t′ o′ : List ℕ} → Outcome c t o r t′ o′ → text-of r o′ ≡ printed (lines-of (model-answer r) ((contract.said c t o) .2))
+pub told : {c : Call} {t o : List ℕ} {r : Answer} {t′ o′ : List ℕ} → Outcome c t o r t′ o′
+    → text-of r o′ ≡ printed (lines-of (model-answer r) ((contract.said c t o) .2))
 unfolding step
 told {c = c} {t = t} {o = o} {r = r} {t′ = t′} {o′ = o′} out =
     told-as (contract.said c t o) r o′ (ap model-answer (out .answer)) (stands out .records) (out .fits)

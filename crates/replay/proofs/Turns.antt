@@ -33,13 +33,16 @@ module _ (kind : ℕ) (slice : List ℕ) where
   pub open-call : (kind ≡ 3 → ⊥) → within 16 31 kind ≡ true → open-session (kind - 16) ≡ call-of kind slice
   open-call h e = rw (ne-eqb kind 3 h, e)
 
-  pub hang-up-call : (kind ≡ 3 → ⊥) → within 16 31 kind ≡ false → within 32 47 kind ≡ true → hang-up-session (kind - 32) ≡ call-of kind slice
+  pub hang-up-call : (kind ≡ 3 → ⊥) → within 16 31 kind ≡ false → within 32 47 kind ≡ true
+      → hang-up-session (kind - 32) ≡ call-of kind slice
   hang-up-call h e f = rw (ne-eqb kind 3 h, e, f)
 
-  pub tick-call : (kind ≡ 3 → ⊥) → within 16 31 kind ≡ false → within 32 47 kind ≡ false → within 48 63 kind ≡ false → kind ≡ 64 → one-tick ≡ call-of kind slice
+  pub tick-call : (kind ≡ 3 → ⊥) → within 16 31 kind ≡ false → within 32 47 kind ≡ false → within 48 63 kind ≡ false → kind ≡ 64
+      → one-tick ≡ call-of kind slice
   tick-call h e f g k = rw (ne-eqb kind 3 h, e, f, g, eq-eqb kind 64 k)
 
-  pub tool-call : (kind ≡ 3 → ⊥) → within 16 31 kind ≡ false → within 32 47 kind ≡ false → within 48 63 kind ≡ false → (kind ≡ 64 → ⊥) → tool slice ≡ call-of kind slice
+  pub tool-call : (kind ≡ 3 → ⊥) → within 16 31 kind ≡ false → within 32 47 kind ≡ false → within 48 63 kind ≡ false → (kind ≡ 64 → ⊥)
+      → tool slice ≡ call-of kind slice
   tool-call h e f g k = rw (ne-eqb kind 3 h, e, f, g, ne-eqb kind 64 k)
 
 pub as-call : {c d : Call} {t o : List ℕ} {r : Answer} {t′ o′ : List ℕ} → c ≡ d → Outcome c t o r t′ o′ → Outcome d t o r t′ o′
@@ -50,7 +53,8 @@ nothing : (l : List ℕ) → length l ≡ 0 → [] ≡ l
 nothing [] e = refl
 nothing (x ∷ l) e = absurd (omega arith)
 
-pub started : {t o : List ℕ} {r : Answer} {t′ : List ℕ} (kind : ℕ) (slice : List ℕ) → kind ≡ 3 → Outcome (start slice) t [] r t′ [] → Outcome (call-of kind slice) t o r t′ o
+pub started : {t o : List ℕ} {r : Answer} {t′ : List ℕ} (kind : ℕ) (slice : List ℕ) → kind ≡ 3 → Outcome (start slice) t [] r t′ []
+    → Outcome (call-of kind slice) t o r t′ o
 unfolding step refusal
 started {t = t} {o = o} {r = r} kind slice e out =
     let n = so-long out in
@@ -69,17 +73,20 @@ started {t = t} {o = o} {r = r} kind slice e out =
 
 -- ==== received bytes are used up
 
-consumed-where-done : (w : World) (c : Call) (n : ℕ) → (answered w c n) .1 .number ≡ 0 → (answered w c n) .1 .consumed ≡ (does w c) .consumed
+consumed-where-done : (w : World) (c : Call) (n : ℕ) → (answered w c n) .1 .number ≡ 0
+    → (answered w c n) .1 .consumed ≡ (does w c) .consumed
 consumed-where-done w c zero e = refl
 consumed-where-done w c (suc n) e = absurd (omega arith)
 
-pub used-up : {s : ℕ} {t o : List ℕ} {r : Answer} {t′ o′ : List ℕ} (bs : List ℕ) → Outcome (bytes s bs) t o r t′ o′ → r .number ≡ 0 → 0 < length (drop (r .consumed) bs)
+pub used-up : {s : ℕ} {t o : List ℕ} {r : Answer} {t′ o′ : List ℕ} (bs : List ℕ) → Outcome (bytes s bs) t o r t′ o′ → r .number ≡ 0
+    → 0 < length (drop (r .consumed) bs)
     → length (drop (r .consumed) bs) < length bs
 unfolding step
 used-up {r = r} [] out e h = absurd (omega (arith, length-drop {A = ℕ} (r .consumed) []))
 used-up {s = s} {t = t} {o = o} {r = r} (b ∷ bs) out e h =
     let done = ap (λ (a : Answer). a .number) (sym (out .answer)) ∙ e in
-    let k : r .consumed ≡ consumed-by (cut (b ∷ bs)) = ap (λ (a : Answer). a .consumed) (out .answer) ∙ consumed-where-done (decode t) (bytes s (b ∷ bs)) (number t (length o) (bytes s (b ∷ bs))) done in
+    let k : r .consumed ≡ consumed-by (cut (b ∷ bs)) = ap (λ (a : Answer). a .consumed) (out .answer)
+    ∙ consumed-where-done (decode t) (bytes s (b ∷ bs)) (number t (length o) (bytes s (b ∷ bs))) done in
     let c = consumes b bs in
     let d = length-drop (r .consumed) (b ∷ bs) in
     omega arith
@@ -89,7 +96,8 @@ used-up {s = s} {t = t} {o = o} {r = r} (b ∷ bs) out e h =
 pub same-output : {c : Call} {t o : List ℕ} {r : Answer} {t′ o′ : List ℕ} → Outcome c t o r t′ o′ → length o′ ≡ length o
 same-output {c = c} {t = t} {o = o} out = ap length (out .output) ∙ length-sets o 0 (output ((said c t o) .2))
 
-pub fits-in : {c : Call} {t o : List ℕ} {r : Answer} {t′ o′ : List ℕ} → Outcome c t o r t′ o′ → (r .written ≤ length o′) × (r .written ≤ output-least)
+pub fits-in : {c : Call} {t o : List ℕ} {r : Answer} {t′ o′ : List ℕ} → Outcome c t o r t′ o′
+    → (r .written ≤ length o′) × (r .written ≤ output-least)
 fits-in out =
     let h = stands out .within in
     let e = same-output out in
@@ -109,5 +117,6 @@ fewer {rest = rest} least left r going e p out z = rw e (go (ltb least (length r
         omega arith
     go false q = omega arith
 
-pub no-more : (left rest : List ℕ) (n : ℕ) (going : Bool) → going ≡ true → (n ≡ 0 → ⊥) → cond (eqb n 0) (suc (length rest)) 0 < cond going (suc (length left)) 0
+pub no-more : (left rest : List ℕ) (n : ℕ) (going : Bool) → going ≡ true → (n ≡ 0 → ⊥)
+    → cond (eqb n 0) (suc (length rest)) 0 < cond going (suc (length left)) 0
 no-more left rest n going e h = rw (e, ne-eqb n 0 h) (omega arith)

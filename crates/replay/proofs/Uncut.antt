@@ -148,7 +148,8 @@ module _ (x : State) (s b : ℕ) (bs : List ℕ) where
         let more = map line-of ((later rest) .emissions) in
         record {
           number = ih .number;
-          world = ap (λ (y : State). y .world) on ∙ ih .world ∙ ap (λ (r : Upshot). r .world) read ∙ sym (ap (λ (r : Upshot). r .world) all);
+          world =
+              ap (λ (y : State). y .world) on ∙ ih .world ∙ ap (λ (r : Upshot). r .world) read ∙ sym (ap (λ (r : Upshot). r .world) all);
           lines =
               ap (λ (y : State). y .lines) on ∙ ih .lines
               ∙ ap₂ (λ (ls : List (List ℕ)) (r : Upshot). ls ++ (map line-of (r .emissions) ++ refusal-line (ih .number))) first-lines read

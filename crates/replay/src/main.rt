@@ -43,7 +43,8 @@ fn shown(frame: &[u8], lines: &mut [u8], at: usize) -> usize
 // The line of an output record: a frame has a payload, the order to close has none.
 fn line(slice: &[u8], lines: &mut [u8], at: usize) -> usize
     requires { ⌜ (4 ≤ length (now slice)) × (at + length (now slice) ≤ length (now lines)) ⌝ }
-    ensures { λ r. ⌜ Put (now (lines .entry)) at (line-in (now (slice .entry)) ++ 0x0A ∷ []) r (now (lines .exit)) × (r ≡ at + length (now (slice .entry))) ⌝ }
+    ensures { λ r. ⌜ Put (now (lines .entry)) at (line-in (now (slice .entry)) ++ 0x0A ∷ []) r (now (lines .exit))
+        × (r ≡ at + length (now (slice .entry))) ⌝ }
 {
     let session = text::little(slice, 2, 1);
     let a = text::put_digits(lines, at, 1, session);
@@ -79,7 +80,8 @@ fn whole(bytes: &[u8]) -> usize
 // The lines of the records in an output.
 fn show(output: &[u8], lines: &mut [u8], at: usize) -> usize
     requires { ⌜ at + length (now output) ≤ length (now lines) ⌝ }
-    ensures { λ r. ⌜ Put (now (lines .entry)) at (printed (lines-in (now (output .entry)))) r (now (lines .exit)) × (r ≤ at + length (now (output .entry))) ⌝ }
+    ensures { λ r. ⌜ Put (now (lines .entry)) at (printed (lines-in (now (output .entry)))) r (now (lines .exit))
+        × (r ≤ at + length (now (output .entry))) ⌝ }
 {
     let mut to = at;
     let mut left = output;
@@ -127,7 +129,8 @@ fn room(lines: &[u8], at: usize) -> usize
 
 // The lines of a call, behind those that wait.
 fn print(answer: Answer, output: &[u8], lines: &mut [u8], at: usize) -> usize
-    requires { ⌜ (answer .written ≤ length (now output)) × (answer .written ≤ output-least) × (at ≤ length (now lines)) × (output-least ≤ length (now lines)) ⌝ }
+    requires { ⌜ (answer .written ≤ length (now output)) × (answer .written ≤ output-least) × (at ≤ length (now lines))
+        × (output-least ≤ length (now lines)) ⌝ }
     ensures behind { λ r. ⌜ Behind (length (now (lines .entry))) (take at (now (lines .entry)))
         (text-of answer (now (output .entry))) (take r (now (lines .exit))) ⌝ }
     ensures within { λ r. ⌜ r ≤ length (now (lines .entry)) ⌝ }
@@ -178,7 +181,8 @@ fn feed(
 // The call that a record of any other kind stands for.
 fn call(table: &mut [u8], output: &mut [u8], kind: u64, slice: &[u8]) -> Answer
     requires { ⌜ within 48 63 kind ≡ false ⌝ }
-    ensures { λ r. ⌜ Outcome (call-of kind (now (slice .entry))) (now (table .entry)) (now (output .entry)) r (now (table .exit)) (now (output .exit)) ⌝ }
+    ensures { λ r. ⌜ Outcome (call-of kind (now (slice .entry))) (now (table .entry)) (now (output .entry)) r (now (table .exit))
+        (now (output .exit)) ⌝ }
 {
     if kind == 3 {
         return controller::start(table, slice);

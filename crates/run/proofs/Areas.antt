@@ -76,7 +76,8 @@ module _ (n more k m v : ℕ) (ek : k ≡ min 45 n) (em : m ≡ min (45 - k) mor
 
 pub lengthened : (a xs : List ℕ) (n k m v : ℕ) → Area a → n ≡ run-of a .count → n ≤ 10000 → k ≡ min 45 n → m ≡ min (45 - k) (length xs)
     → v ≡ min (10000 - n) (length xs)
-    → (run-of (sets (sets a (2 + k) (take m xs)) 0 (in-bytes 2 (n + v))) ≡ longer (run-of a) xs) × Area (sets (sets a (2 + k) (take m xs)) 0 (in-bytes 2 (n + v)))
+    → (run-of (sets (sets a (2 + k) (take m xs)) 0 (in-bytes 2 (n + v))) ≡ longer (run-of a) xs)
+    × Area (sets (sets a (2 + k) (take m xs)) 0 (in-bytes 2 (n + v)))
 unfolding run-of
 lengthened a xs n k m v h en hn ek em ev =
     let z = sets a (2 + k) (take m xs) in
@@ -89,10 +90,13 @@ lengthened a xs n k m v h en hn ek em ev =
     let lm : length (take m xs) ≡ m = length-take-le m xs (most (45 - k) (length xs) m em) in
     let room : k + length (take m xs) ≤ length l = rw (lm, ll) (le-trans room₀ (lit≤ tt)) in
     let e₁ : min 45 (n + v) ≡ k + length (take m xs) = of-which n (length xs) k m v ek em hn ev ∙ ap (λ (i : ℕ). k + i) (sym lm) in
-    let p₁ : take (min 45 (n + v)) (drop 2 z) ≡ take k l ++ take m xs = ap₂ take e₁ (drop-sets (take m xs) a 2 k) ∙ take-sets (take m xs) l k room in
+    let p₁ : take (min 45 (n + v)) (drop 2 z) ≡ take k l ++ take m xs = ap₂ take e₁ (drop-sets (take m xs) a 2 k)
+    ∙ take-sets (take m xs) l k room in
     let p₂ : take m xs ≡ take (45 - k) xs = ap (λ (i : ℕ). take i xs) em ∙ take-least (45 - k) xs in
-    let p₃ : take k l ++ take (45 - k) xs ≡ take 45 (take k l ++ xs) = ap (λ (i : ℕ). take k l ++ take (45 - i) xs) (sym lk) ∙ sym (take-over 45 (take k l) xs (rw lk (under k m room₀))) in
+    let p₃ : take k l ++ take (45 - k) xs ≡ take 45 (take k l ++ xs) = ap (λ (i : ℕ). take k l ++ take (45 - i) xs) (sym lk)
+    ∙ sym (take-over 45 (take k l) xs (rw lk (under k m room₀))) in
     let p : take (min 45 (n + v)) (drop 2 z) ≡ take 45 (take (min 45 (little (take 2 a))) l ++ xs) =
     p₁ ∙ ap (λ (t : List ℕ). take k l ++ t) p₂ ∙ p₃ ∙ ap (λ (i : ℕ). take 45 (take i l ++ xs)) (ek ∙ ap (min 45) en) in
-    let q : n + v ≡ min 10000 (little (take 2 a) + length xs) = total n (length xs) k m v ek em hn ev ∙ ap (λ (i : ℕ). min 10000 (i + length xs)) en in
+    let q : n + v ≡ min 10000 (little (take 2 a) + length xs) = total n (length xs) k m v ek em hn ev
+    ∙ ap (λ (i : ℕ). min 10000 (i + length xs)) en in
     (w .0 ∙ ap₂ {C = Run} (λ (i : ℕ) (t : List ℕ). record { kept = t; count = i }) q p, w .1)

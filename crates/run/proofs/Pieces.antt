@@ -22,7 +22,8 @@ at-NUL = record { bytes = []; ends = true }
 longer-by : ℕ → Piece → Piece
 longer-by b c = record { bytes = b ∷ c .bytes; ends = c .ends }
 
-cut-next : (bs : List ℕ) (i : ℕ) → i < length bs → cut (drop i bs) ≡ cond (eqb (getD bs i 0) 0) at-NUL (longer-by (getD bs i 0) (cut (drop (i + 1) bs)))
+cut-next : (bs : List ℕ) (i : ℕ) → i < length bs
+    → cut (drop i bs) ≡ cond (eqb (getD bs i 0) 0) at-NUL (longer-by (getD bs i 0) (cut (drop (i + 1) bs)))
 unfolding cut at-NUL longer-by
 cut-next bs i h = ap cut (drop-next bs i 0 h)
 
@@ -30,7 +31,8 @@ module _ (bs : List ℕ) (i : ℕ) (p : Passed bs i) where
   pub at-a-NUL : i < length bs → getD bs i 0 ≡ 0 → Ends bs i
   unfolding at-NUL
   at-a-NUL h z =
-      let e : cut (drop i bs) ≡ at-NUL = cut-next bs i h ∙ ap (λ (b : Bool). cond b at-NUL (longer-by (getD bs i 0) (cut (drop (i + 1) bs)))) (eq-eqb _ _ z) in
+      let e : cut (drop i bs) ≡ at-NUL = cut-next bs i h
+      ∙ ap (λ (b : Bool). cond b at-NUL (longer-by (getD bs i 0) (cut (drop (i + 1) bs)))) (eq-eqb _ _ z) in
       record {
         within = p .within;
         bytes = p .bytes ∙ ap (λ (c : Piece). take i bs ++ c .bytes) e ∙ append-nil (take i bs);
@@ -46,7 +48,8 @@ module _ (bs : List ℕ) (i : ℕ) (p : Passed bs i) where
         within = omega arith;
         bytes =
             p .bytes ∙ ap (λ (c : Piece). take i bs ++ c .bytes) e ∙ sym (append-assoc (take i bs) (getD bs i 0 ∷ []) _)
-            ∙ ap (λ (l : List ℕ). l ++ (cut (drop (i + 1) bs)) .bytes) (sym (take-suc bs i 0 h) ∙ ap (λ (n : ℕ). take n bs) (sym (add-one i)));
+            ∙ ap (λ (l : List ℕ). l ++ (cut (drop (i + 1) bs)) .bytes)
+            (sym (take-suc bs i 0 h) ∙ ap (λ (n : ℕ). take n bs) (sym (add-one i)));
         ends = p .ends ∙ ap (λ (c : Piece). c .ends) e;
       }
 

@@ -123,7 +123,8 @@ pub fn kept(area: &[u8]) -> &[u8]
 // More bytes of it.
 pub fn lengthen(area: &mut [u8], bytes: &[u8])
     requires { ⌜ Area (now area) ⌝ }
-    ensures { λ _. ⌜ (run-of (now (area .exit)) ≡ longer-run (run-of (now (area .entry))) (now (bytes .entry))) × Area (now (area .exit)) ⌝ }
+    ensures { λ _. ⌜ (run-of (now (area .exit)) ≡ longer-run (run-of (now (area .entry))) (now (bytes .entry)))
+        × Area (now (area .exit)) ⌝ }
 {
     let n = count(area);
     let k = least(KEPT, n);

@@ -28,7 +28,14 @@ module _ (c : Call) (t o a : List ℕ) where
   not-made-so = record { number = 10; world = decode t; to-answer = []; to-output = [] }
 
   abbrev made-so : Returned
-  made-so = record { number = ((said c t o) .1) .number; world = (said c t o) .0; to-answer = answer-bytes ((said c t o) .1); to-output = output ((said c t o) .2) }
+  made-so =
+      record {
+        number = ((said c t o) .1) .number;
+        world = (said c t o) .0;
+        to-answer = answer-bytes ((said c t o) .1);
+        to-output = output
+            ((said c t o) .2);
+      }
 
   -- the answer is too short: nothing is altered
   pub not-made : length a < answer-least → Exported c t o a 10 t o a
@@ -47,7 +54,8 @@ module _ (c : Call) (t o a : List ℕ) where
       }
 
   -- the call's outcome, with the answer y
-  pub made : {r : ℕ} {t′ o′ a′ : List ℕ} (y : Answer) → answer-least ≤ length a → Outcome c t o y t′ o′ → r ≡ y .number → a′ ≡ sets a 0 (answer-bytes (model-answer y))
+  pub made : {r : ℕ} {t′ o′ a′ : List ℕ} (y : Answer) → answer-least ≤ length a → Outcome c t o y t′ o′ → r ≡ y .number
+      → a′ ≡ sets a 0 (answer-bytes (model-answer y))
       → Exported c t o a r t′ o′ a′
   made {r} y h w er ea =
       let e : told c t o a ≡ made-so = ap (λ (b : Bool). cond b not-made-so made-so) (le-ltb (length a) answer-least h) in
@@ -58,7 +66,9 @@ module _ (c : Call) (t o a : List ℕ) where
         meaning = w .meaning ∙ sym (ap (λ (x : Returned). uncounted (x .world)) e);
         answer = ea ∙ ap (λ (x : model.Answer). sets a 0 (answer-bytes x)) same ∙ sym (ap (λ (x : Returned). sets a 0 (x .to-answer)) e);
         output = w .output ∙ sym (ap (λ (x : Returned). sets o 0 (x .to-output)) e);
-        fits = subst (λ (x : Returned). length (x .to-output) ≤ output-least) (sym e) (subst (λ (n : ℕ). n ≤ output-least) (so-long w) (w .fits));
+        fits =
+            subst (λ (x : Returned). length (x .to-output) ≤ output-least) (sym e)
+            (subst (λ (n : ℕ). n ≤ output-least) (so-long w) (w .fits));
         size = w .size;
         past = w .past;
         formed = λ q. w .formed (z q);

@@ -36,7 +36,8 @@ fn give(answer: &mut [u8], x: Answer) -> u64
 
 #[no_mangle]
 pub extern "C" fn serifladder_start(table: &mut [u8], settings: &[u8], answer: &mut [u8]) -> u64
-    ensures { λ r. ⌜ Exported (start-call (now (settings .entry))) (now (table .entry)) [] (now (answer .entry)) r (now (table .exit)) [] (now (answer .exit)) ⌝ }
+    ensures { λ r. ⌜ Exported (start-call (now (settings .entry))) (now (table .entry)) [] (now (answer .entry)) r (now (table .exit)) []
+        (now (answer .exit)) ⌝ }
 {
     if answer.len() < ANSWER_SIZE {
         return ANSWER_TOO_SHORT;
@@ -52,7 +53,8 @@ pub extern "C" fn serifladder_open(
     session: u64,
     answer: &mut [u8],
 ) -> u64
-    ensures { λ r. ⌜ Exported (open-session session) (now (table .entry)) (now (output .entry)) (now (answer .entry)) r (now (table .exit)) (now (output .exit)) (now (answer .exit)) ⌝ }
+    ensures { λ r. ⌜ Exported (open-session session) (now (table .entry)) (now (output .entry)) (now (answer .entry)) r (now (table .exit))
+        (now (output .exit)) (now (answer .exit)) ⌝ }
 {
     if answer.len() < ANSWER_SIZE {
         return ANSWER_TOO_SHORT;
@@ -68,7 +70,8 @@ pub extern "C" fn serifladder_hang_up(
     session: u64,
     answer: &mut [u8],
 ) -> u64
-    ensures { λ r. ⌜ Exported (hang-up-session session) (now (table .entry)) (now (output .entry)) (now (answer .entry)) r (now (table .exit)) (now (output .exit)) (now (answer .exit)) ⌝ }
+    ensures { λ r. ⌜ Exported (hang-up-session session) (now (table .entry)) (now (output .entry)) (now (answer .entry)) r
+        (now (table .exit)) (now (output .exit)) (now (answer .exit)) ⌝ }
 {
     if answer.len() < ANSWER_SIZE {
         return ANSWER_TOO_SHORT;
@@ -85,7 +88,8 @@ pub extern "C" fn serifladder_bytes(
     bytes: &[u8],
     answer: &mut [u8],
 ) -> u64
-    ensures { λ r. ⌜ Exported (bytes-call session (now (bytes .entry))) (now (table .entry)) (now (output .entry)) (now (answer .entry)) r (now (table .exit)) (now (output .exit)) (now (answer .exit)) ⌝ }
+    ensures { λ r. ⌜ Exported (bytes-call session (now (bytes .entry))) (now (table .entry)) (now (output .entry)) (now (answer .entry)) r
+        (now (table .exit)) (now (output .exit)) (now (answer .exit)) ⌝ }
 {
     if answer.len() < ANSWER_SIZE {
         return ANSWER_TOO_SHORT;
@@ -96,7 +100,8 @@ pub extern "C" fn serifladder_bytes(
 
 #[no_mangle]
 pub extern "C" fn serifladder_tick(table: &mut [u8], output: &mut [u8], answer: &mut [u8]) -> u64
-    ensures { λ r. ⌜ Exported one-tick (now (table .entry)) (now (output .entry)) (now (answer .entry)) r (now (table .exit)) (now (output .exit)) (now (answer .exit)) ⌝ }
+    ensures { λ r. ⌜ Exported one-tick (now (table .entry)) (now (output .entry)) (now (answer .entry)) r (now (table .exit))
+        (now (output .exit)) (now (answer .exit)) ⌝ }
 {
     if answer.len() < ANSWER_SIZE {
         return ANSWER_TOO_SHORT;
@@ -112,7 +117,8 @@ pub extern "C" fn serifladder_record(
     slice: &[u8],
     answer: &mut [u8],
 ) -> u64
-    ensures { λ r. ⌜ Exported (tool (now (slice .entry))) (now (table .entry)) (now (output .entry)) (now (answer .entry)) r (now (table .exit)) (now (output .exit)) (now (answer .exit)) ⌝ }
+    ensures { λ r. ⌜ Exported (tool (now (slice .entry))) (now (table .entry)) (now (output .entry)) (now (answer .entry)) r
+        (now (table .exit)) (now (output .exit)) (now (answer .exit)) ⌝ }
 {
     if answer.len() < ANSWER_SIZE {
         return ANSWER_TOO_SHORT;

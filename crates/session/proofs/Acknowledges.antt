@@ -9,7 +9,8 @@ use lib.Dec.{eqb}
 use lib.ListN.{length}
 use Rattle.model.specs.Kinds.{kinds}
 use Rattle.model.specs.Messages as model
-use Rattle.model.specs.Messages.{Entry, table, listed, entry-of, starts, stops, identifies, subscribes, unsubscribes, acknowledges, mirrors, error-of}
+use Rattle.model.specs.Messages.{Entry, table, listed, entry-of, starts, stops, identifies, subscribes, unsubscribes, acknowledges, mirrors}
+use Rattle.model.specs.Messages.{error-of}
 use Rattle.message.specs.Meaning.{standing-of, effect-listed, answered, error-number}
 use Rattle.frame.specs.declared.Header.{Header}
 use Rattle.frame.specs.declared.Header.the-variants.{Dropped, Message}
@@ -52,7 +53,8 @@ known-entry mid = known-listed table (tt, (tt, (tt, (tt, (omega arith, (tt, (tt,
 -- ==== what is decided
 
 module _ (mid : ℕ) where
-  accepted-known : (revision : ℕ) (no-acknowledge : Bool) (e : Option model.Effect) → Known e → AcknowledgedIn Started (accepted mid revision no-acknowledge e)
+  accepted-known : (revision : ℕ) (no-acknowledge : Bool) (e : Option model.Effect) → Known e
+      → AcknowledgedIn Started (accepted mid revision no-acknowledge e)
   accepted-known revision no-acknowledge none known = tt
   accepted-known revision no-acknowledge (some starts) known = tt
   accepted-known revision no-acknowledge (some stops) known = tt
@@ -81,7 +83,8 @@ module _ (mid : ℕ) where
   decided-known Opened revision no-acknowledge error = opened-known (error-number error) (eqb mid 1) (no-error error)
   decided-known Started revision no-acknowledge error =
       let effect = effect-listed (entry-of mid) in
-      started-known (no-error error) _ _ (accepted-known revision no-acknowledge effect (known-entry mid)) (refused-known (error-number error) (answered effect))
+      started-known (no-error error) _ _ (accepted-known revision no-acknowledge effect (known-entry mid))
+      (refused-known (error-number error) (answered effect))
 
 pub acknowledge-known : (x : Session) (granted : Bool) (h : Header) (bs : List ℕ) → AcknowledgedIn (x .phase) (decision x granted h bs)
 unfolding decision

@@ -28,14 +28,16 @@ use Rattle.frame.specs.declared.Header.the-variants.{Dropped, Message}
 use Rattle.session.specs.Meaning.{subscription-in, Holds, session-in, Sound, shifted, held-asked, copies}
 use Rattle.session.specs.Control.{unsubscribed, subscribed, session, still, acknowledged}
 use Rattle.session.specs.Decisions.{subscription-of, at-kind, with-subscription, standing, no-error, decided, decision, heard, after}
-use Rattle.session.specs.Effects.{decision-on, run-over, heard-message, dealt-to, replied, carried, next-of, carried-by-value, SoundAfter}
+use Rattle.session.specs.Effects.{decision-on, run-over, heard-message, dealt-to, replied, carried, next-of, carried-by-value}
+use Rattle.session.specs.Effects.{SoundAfter}
 use Rattle.session.specs.declared.Form.the-variants.{Not}
 use Rattle.session.specs.declared.Phase.{Phase}
 use Rattle.session.specs.declared.Phase.the-variants.{Closed, Opened, Started}
 use Rattle.session.specs.declared.Subscription.{Subscription}
 use Rattle.session.specs.declared.Session.{Session}
 use Rattle.session.specs.declared.Decision.{Decision}
-use Rattle.session.specs.declared.Decision.the-variants.{Nothing, Heard, Error, Start, Stop, Identify, Subscribe, Unsubscribe, Acknowledge, Mirror}
+use Rattle.session.specs.declared.Decision.the-variants.{Nothing, Heard, Error, Start, Stop, Identify, Subscribe, Unsubscribe}
+use Rattle.session.specs.declared.Decision.the-variants.{Acknowledge, Mirror}
 use Rattle.session.proofs.Notices.{acknowledge-right, subscribe-right, unsubscribe-right}
 use Rattle.session.proofs.Dealing.{dealt-one}
 use Rattle.session.proofs.Sessions.{nothing-held}
@@ -49,7 +51,8 @@ module _ (run : Run) (is ts : List Notice) (idle : ℕ) (i t : Subscription) whe
   over-right Opened = refl
   over-right Started = refl
 
-  heard-right : (p : Phase) → heard-message (session-in (session p idle i t) run is ts) ≡ session-in (heard (session p idle i t)) empty-run is ts
+  heard-right : (p : Phase)
+      → heard-message (session-in (session p idle i t) run is ts) ≡ session-in (heard (session p idle i t)) empty-run is ts
   heard-right Closed = refl
   heard-right Opened = refl
   heard-right Started = refl
@@ -156,10 +159,16 @@ module _ (st : Settings) (run : Run) (is ts : List Notice) (header : List ℕ) w
       × ((mid : ℕ) → Carries (session p idle i t) (Unsubscribe kind mid))
       × Carries (session p idle i t) (Acknowledge kind)
   unfolding after
-  dealt-carries Closed idle i t s kind =
-      (λ revision no-acknowledge mid. refl, λ mid. refl, rw (unstarted-next Closed idle i t is ts (s .subscribed .0) (s .subscribed .1) kind))
-  dealt-carries Opened idle i t s kind =
-      (λ revision no-acknowledge mid. refl, λ mid. refl, rw (unstarted-next Opened idle i t is ts (s .subscribed .0) (s .subscribed .1) kind))
+  dealt-carries Closed idle i t s kind = (
+    λ revision no-acknowledge mid. refl,
+    λ mid. refl,
+    rw (unstarted-next Closed idle i t is ts (s .subscribed .0) (s .subscribed .1) kind),
+  )
+  dealt-carries Opened idle i t s kind = (
+    λ revision no-acknowledge mid. refl,
+    λ mid. refl,
+    rw (unstarted-next Opened idle i t is ts (s .subscribed .0) (s .subscribed .1) kind),
+  )
   dealt-carries Started idle i t s kind = (
     λ revision no-acknowledge mid.
         ap (replied (frame-0005 mid))
@@ -186,7 +195,8 @@ module _ (st : Settings) (run : Run) (is ts : List Notice) (header : List ℕ) w
   carries p idle i t s Mirror = alike _ (heard-right run is ts idle i t p)
 
   -- `session::after` is the session that the model has after a decision
-  pub after-right : (x : Session) → Sound x is ts → (d : Decision) → carried st (session-in x run is ts) header d ≡ carried-by-value st x is ts header d
+  pub after-right : (x : Session) → Sound x is ts → (d : Decision)
+      → carried st (session-in x run is ts) header d ≡ carried-by-value st x is ts header d
   after-right x s d = carries (x .phase) (x .idle) (x .identifiers) (x .tightenings) s d
 
 -- ==== it is sound
@@ -210,7 +220,8 @@ module _ (is ts : List Notice) where
     started-sound s (Unsubscribe kind mid) =
         one-sound drops (λ x. unsubscribed) (λ x ns. []) (λ x ns. []) drops-answers idle i t is ts kind s
     started-sound s (Acknowledge kind) =
-        one-sound acks (λ x. (acknowledged x) .next) (λ x ns. shifted ((acknowledged x) .shift) ns) (λ x ns. next-of x ns) acks-answers idle i t is ts kind s
+        one-sound acks (λ x. (acknowledged x) .next) (λ x ns. shifted ((acknowledged x) .shift) ns)
+        (λ x ns. next-of x ns) acks-answers idle i t is ts kind s
     started-sound s Mirror = heard-sound s
 
     opened-sound : (mid n : ℕ) (b c : Bool) → Sound (session Opened idle i t) is ts
@@ -220,7 +231,8 @@ module _ (is ts : List Notice) where
     opened-sound mid n true false s = s
     opened-sound mid n true true s = nothing-held Started
 
-    decided-sound : (p : Phase) (mid revision : ℕ) (no-acknowledge : Bool) (error : Option messages.Error) → Sound (session p idle i t) is ts
+    decided-sound : (p : Phase) (mid revision : ℕ) (no-acknowledge : Bool) (error : Option messages.Error)
+        → Sound (session p idle i t) is ts
         → SoundAfter (session p idle i t) is ts (decided p mid revision no-acknowledge error)
     unfolding after
     decided-sound Closed mid revision no-acknowledge error s = s
@@ -229,7 +241,8 @@ module _ (is ts : List Notice) where
         started-sound s (decided Started mid revision no-acknowledge error)
 
   -- a decision of `session::decide` leaves a sound session
-  pub after-sound : (x : Session) → Sound x is ts → (granted : Bool) (h : Header) (bs : List ℕ) → SoundAfter x is ts (decision x granted h bs)
+  pub after-sound : (x : Session) → Sound x is ts → (granted : Bool) (h : Header) (bs : List ℕ)
+      → SoundAfter x is ts (decision x granted h bs)
   unfolding decision after
   after-sound x s granted Dropped bs = s
   after-sound x s granted (Message size mid revision no-acknowledge) bs =
@@ -239,11 +252,13 @@ module _ (is ts : List Notice) where
 
 -- ==== the two together: bytes that end a run
 
-module _ (st : Settings) (run : Run) (is ts : List Notice) (piece : Piece) (ends : piece .ends ≡ true) (x : Session) (s : Sound x is ts) where
+module _ (st : Settings) (run : Run) (is ts : List Notice) (piece : Piece) (ends : piece .ends ≡ true) (x : Session)
+    (s : Sound x is ts) where
   pub message-right :
       let r = longer run (piece .bytes) in
       let d = decision-on st x r in
-      (step (shared-begun st 0) (receives piece) (session-in x run is ts) ≡ carried-by-value st x is ts (take header-length (r .kept)) d) × SoundAfter x is ts d
+      (step (shared-begun st 0) (receives piece) (session-in x run is ts)
+      ≡ carried-by-value st x is ts (take header-length (r .kept)) d) × SoundAfter x is ts d
   message-right =
       let r = longer run (piece .bytes) in
       let d = decision-on st x r in (

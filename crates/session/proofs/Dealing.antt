@@ -59,7 +59,8 @@ module _ (st : Settings) (idle : ℕ) (run : Run) (x : Session) (is ts : List No
         → dealt st idle run (only kind d) (subscriptions-in x is ts)
         ≡ (
           started idle run
-              (subscriptions-in (with-subscription x kind (f (subscription-of x kind))) (at-kind kind identifiers (g (x .identifiers) is) is)
+              (subscriptions-in (with-subscription x kind (f (subscription-of x kind)))
+              (at-kind kind identifiers (g (x .identifiers) is) is)
               (at-kind kind tightenings (g (x .tightenings) ts) ts)),
           copies st kind (subscription-of x kind) (h (subscription-of x kind) (getD (is ∷ ts ∷ []) kind [])),
         )

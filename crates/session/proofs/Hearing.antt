@@ -16,12 +16,14 @@ use Rattle.model.specs.Runs as runs
 use Rattle.model.specs.Events.{Notice}
 use Rattle.model.specs.Kinds.{identifiers, tightenings}
 use Rattle.model.specs.Messages as model
-use Rattle.model.specs.Messages.{Entry, entry-of, starts, stops, identifies, subscribes, unsubscribes, acknowledges, mirrors, gets-reply, code, error-of}
+use Rattle.model.specs.Messages.{Entry, entry-of, starts, stops, identifies, subscribes, unsubscribes, acknowledges, mirrors, gets-reply}
+use Rattle.model.specs.Messages.{code, error-of}
 use Rattle.model.specs.Frames.{frame-0004}
 use Rattle.model.specs.Notices as notices
 use Rattle.model.specs.Session as sessions
 use Rattle.model.specs.Session.{closed, opened, started, subscribed-to, Emission, reply}
-use Rattle.model.specs.Hearing.{started-standing, opened-standing, message-error, carry-out, judged, begin, hear-opened, identifier-told, identifier-judged}
+use Rattle.model.specs.Hearing.{started-standing, opened-standing, message-error, carry-out, judged, begin, hear-opened, identifier-told}
+use Rattle.model.specs.Hearing.{identifier-judged}
 use Rattle.model.specs.Local.{end-run, end-run-opened, receives, step, identifier-run, announces}
 use Rattle.model.specs.Sharing.{shared-begun}
 use Rattle.message.specs.Meaning.{standing-of, effect-listed, error-number}
@@ -46,7 +48,8 @@ use Rattle.session.specs.declared.Decision.the-variants.{Nothing, Heard,
 -- ==== a decision from its parts
 
 module _ (x : Session) (granted : Bool) (bs : List ℕ) where
-  pub in-phase : {h : Header} {size mid revision : ℕ} {no-acknowledge : Bool} {error : Option model.Error} {s : Standing} {p : Phase} {d : Decision}
+  pub in-phase : {h : Header} {size mid revision : ℕ} {no-acknowledge : Bool} {error : Option model.Error} {s : Standing} {p : Phase}
+      {d : Decision}
       → h ≡ Message size mid revision no-acknowledge
       → error ≡ error-of (standing-of s) mid size revision bs
       → s ≡ standing x granted
@@ -62,14 +65,16 @@ module _ (x : Session) (granted : Bool) (bs : List ℕ) where
 
 -- ==== what the tests look at is what the model's look at
 
-form-subscribed : (f : Form) (revision clock : ℕ) (ns : List Notice) → is-subscribed f ≡ notices.is-subscribed (subscription-as f revision clock ns)
+form-subscribed : (f : Form) (revision clock : ℕ) (ns : List Notice)
+    → is-subscribed f ≡ notices.is-subscribed (subscription-as f revision clock ns)
 form-subscribed form.Not revision clock ns = refl
 form-subscribed form.Plain revision clock ns = refl
 form-subscribed form.Acknowledged revision clock ns = refl
 
 module _ (x : Session) (is ts : List Notice) where
   same-subscribed : (kind : ℕ)
-      → getD (is-subscribed (x .identifiers .form) ∷ is-subscribed (x .tightenings .form) ∷ []) kind false ≡ subscribed-to (subscriptions-in x is ts) kind
+      → getD (is-subscribed (x .identifiers .form) ∷ is-subscribed (x .tightenings .form) ∷ []) kind false
+      ≡ subscribed-to (subscriptions-in x is ts) kind
   same-subscribed zero = form-subscribed (x .identifiers .form) (x .identifiers .revision) (x .identifiers .clock) is
   same-subscribed (suc zero) = form-subscribed (x .tightenings .form) (x .tightenings .revision) (x .tightenings .clock) ts
   same-subscribed (suc (suc kind)) = refl
@@ -85,7 +90,8 @@ module _ (st : Settings) (m : runs.Message) (idle : ℕ) (run : Run) (subs : Lis
   abbrev carried-out : Decision → sessions.Session × List Emission
   carried-out d = carried st (started idle run subs) (m .header) d
 
-  by-effect : (e : model.Effect) → carry-out (shared-begun st 0) subs m e ≡ carried-out (accepted (m .mid) (m .revision) (m .no-acknowledge) (some e))
+  by-effect : (e : model.Effect)
+      → carry-out (shared-begun st 0) subs m e ≡ carried-out (accepted (m .mid) (m .revision) (m .no-acknowledge) (some e))
   by-effect starts = refl
   by-effect stops = refl
   by-effect (identifies n) = refl
@@ -95,12 +101,14 @@ module _ (st : Settings) (m : runs.Message) (idle : ℕ) (run : Run) (subs : Lis
   by-effect mirrors = refl
 
   by-answer : (n : ℕ) (answers : Bool)
-      → (started 0 empty-run subs, cond answers (reply (frame-0004 (m .mid) n) ∷ []) []) ≡ carried-out (cond answers (Error (m .mid) n) Heard)
+      → (started 0 empty-run subs, cond answers (reply (frame-0004 (m .mid) n) ∷ []) [])
+      ≡ carried-out (cond answers (Error (m .mid) n) Heard)
   by-answer n true = refl
   by-answer n false = refl
 
   by-error : (entry : Option Entry) (error : Option model.Error)
-      → judged (shared-begun st 0) subs m entry error ≡ carried-out (decided-started (m .mid) (m .revision) (m .no-acknowledge) (effect-listed entry) error)
+      → judged (shared-begun st 0) subs m entry error
+      ≡ carried-out (decided-started (m .mid) (m .revision) (m .no-acknowledge) (effect-listed entry) error)
   by-error none none = refl
   by-error none (some error) = refl
   by-error (some e) none = by-effect (e .effect)
@@ -139,7 +147,8 @@ same-error s s′ mid size revision bs p q e = rw (e, p, q)
 
 module _ (st : Settings) (m : runs.Message) (idle : ℕ) (run : Run) where
   begins : (error : Option model.Error)
-      → begin (shared-begun st 0) idle m error ≡ carried st (opened idle run) (m .header) (cond (no-error error) Start (Error (m .mid) (error-number error)))
+      → begin (shared-begun st 0) idle m error ≡ carried st (opened idle run) (m .header)
+      (cond (no-error error) Start (Error (m .mid) (error-number error)))
   begins none = refl
   begins (some error) = refl
 
@@ -152,7 +161,8 @@ module _ (st : Settings) (m : runs.Message) (idle : ℕ) (run : Run) where
         ≡ carried st (opened idle run) (m .header) (cond b (cond (no-error found) Start (Error (m .mid) (error-number found))) Nothing)
     by-mid false e = refl
     by-mid true e =
-        ap (begin (shared-begun st 0) idle m) (same-error (opened-standing (shared-begun st 0)) s (m .mid) (m .size) (m .revision) (m .data-field) refl unstarted (eqb-true (m .mid) 1 e))
+        ap (begin (shared-begun st 0) idle m) (same-error (opened-standing (shared-begun st 0)) s (m .mid) (m .size) (m .revision)
+        (m .data-field) refl unstarted (eqb-true (m .mid) 1 e))
         ∙ begins found
 
     hears-opened : hear-opened (shared-begun st 0) idle m ≡ carried st (opened idle run) (m .header) (decided-opened (m .mid) found)
@@ -189,9 +199,11 @@ module _ (st : Settings) (run : Run) (is ts : List Notice) (r : Run) where
     unfolding decision
     started-run false = refl
     started-run true =
-        rw (same-standing (session Started idle i t) is ts st) (by-error st (message-of r) idle run subs (entry-of (message-of r .mid)) error)
+        rw (same-standing (session Started idle i t) is ts st)
+        (by-error st (message-of r) idle run subs (entry-of (message-of r .mid)) error)
 
-    started-told : (b : Bool) → identifier-run (shared-begun st 0) subs (read-if b) ≡ announced (decided-if (session Started idle i t) b) (drop 20 (r .kept))
+    started-told : (b : Bool)
+        → identifier-run (shared-begun st 0) subs (read-if b) ≡ announced (decided-if (session Started idle i t) b) (drop 20 (r .kept))
     unfolding decision
     started-told false = refl
     started-told true =
@@ -207,7 +219,8 @@ module _ (st : Settings) (run : Run) (is ts : List Notice) (r : Run) where
     opened-told false = refl
     opened-told true =
         opened-tells (message-of r .mid)
-        (error-of (standing-of (standing (session Opened idle i t) (st .granted))) (message-of r .mid) (r .count) (message-of r .revision) (drop 20 (r .kept)))
+        (error-of (standing-of (standing (session Opened idle i t) (st .granted))) (message-of r .mid) (r .count) (message-of r .revision)
+        (drop 20 (r .kept)))
         (drop 20 (r .kept))
 
     closed-run : (b : Bool) → (closed, []) ≡ carried-if (session Closed idle i t) b
@@ -270,7 +283,8 @@ module _ (st : Settings) (run : Run) (is ts : List Notice) (piece : Piece) (more
 -- ==== what does something is a message, whose header is kept whole
 
 module _ (st : Settings) (x : Session) (r : Run) where
-  whole-if : (b : Bool) → is-message r ≡ b → (decision x (st .granted) (shown (cond b (some (message-of r)) none)) (drop 20 (r .kept)) ≡ Nothing → ⊥)
+  whole-if : (b : Bool) → is-message r ≡ b
+      → (decision x (st .granted) (shown (cond b (some (message-of r)) none)) (drop 20 (r .kept)) ≡ Nothing → ⊥)
       → header-length ≤ length (r .kept)
   unfolding decision
   whole-if false e ne = absurd (ne refl)

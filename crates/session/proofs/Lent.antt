@@ -12,7 +12,8 @@ use base.Fml.{Fml, ftrue, fat, fsep}
 use prog.Wp.{Heap}
 use ghost.Atoms.{Atoms, sem}
 use contract.Monad.{fact}
-use types.Kit.{Given, Item, Goal, Soaks, Seq, ‵, raw, some, later, _⊛_, _$_, _∵_, !, qed, by, move, keep, drop, use1, split, join, pick, fsplit, fjoin, fpick, fpack, frame, await, done}
+use types.Kit.{Given, Item, Goal, Soaks, Seq, ‵, raw, some, later, _⊛_, _$_, _∵_, !, qed, by, move, keep, drop, use1, split, join, pick}
+use types.Kit.{fsplit, fjoin, fpick, fpack, frame, await, done}
 use denote.RattleType.{RattleType}
 use denote.Laws.{Is, shows}
 use denote.Memory.{partAt, partOf, cellAt}
@@ -43,14 +44,16 @@ module _ {M : Type 1} (𝓤 : URA M) (H : Heap 𝓤) (A : Atoms 𝓤) (W : Given
 
   -- ==== a local that holds a clock, as what can be lent; and what came back, as a local
 
-  pub lies : (n b : ℕ) → n < 2 ^ 64 → ent 𝓤 ⟦ fat fullShare clock-laws.mir b 0 (cell n) ⟧ ⟦ partAt clock.the-row fullShare (clock-at n) b 0 ⟧
+  pub lies : (n b : ℕ) → n < 2 ^ 64
+      → ent 𝓤 ⟦ fat fullShare clock-laws.mir b 0 (cell n) ⟧ ⟦ partAt clock.the-row fullShare (clock-at n) b 0 ⟧
   unfolding partOf
   lies n b fits =
       qed W (‵ (fat fullShare clock-laws.mir b 0 (cell n)) ∷ []) ∵
       use1 W (‵ (cellAt fullShare (clock.the-row .mir) (cell n ∷ []) b 0)) (W .laws .at-raw fullShare clock-laws.mir b 0 (cell n)) $
       owned ! clock.the-row (Is clock.the-row) (struct.makes clock.the-type clock-laws.the-plain 𝓤 H A) (clock-at n) _ (is-clock n fits) $
       move ! (1 ∷ 0 ∷ []) $ fjoin ! $
-      fpack ! (List Val) (λ us. fsep (cellAt fullShare (clock.the-row .mir) us b 0) (clock.the-row .own (clock-at n) us)) (cell n ∷ []) $ done !
+      fpack ! (List Val) (λ us. fsep (cellAt fullShare (clock.the-row .mir) us b 0) (clock.the-row .own (clock-at n) us))
+      (cell n ∷ []) $ done !
 
   pub back : (h : Clock) (b : ℕ) → ent 𝓤 ⟦ partAt clock.the-row fullShare h b 0 ⟧ ⟦ fat fullShare clock-laws.mir b 0 (cell (h .ticks)) ⟧
   unfolding partOf

@@ -15,7 +15,8 @@ use Rattle.model.specs.Kinds.{Room, the-newest, up-to}
 use Rattle.model.specs.Notices.{acked, busy, beats, news, asks, drops, acks, next-one, clock-at, has-room, takes, act}
 use Rattle.model.specs.Notices as model
 use Rattle.session.specs.Meaning.{subscription-in, most-held, Holds, Stepped, Took, Becomes, held-asked}
-use Rattle.session.specs.Control.{subscription, unsubscribed, subscribed, beat-at, next-goes-out, by-beat, ticked, acknowledged, taken-busy, taken}
+use Rattle.session.specs.Control.{subscription, unsubscribed, subscribed, beat-at, next-goes-out, by-beat, ticked, acknowledged}
+use Rattle.session.specs.Control.{taken-busy, taken}
 use Rattle.session.specs.declared.Form.{Form}
 use Rattle.session.specs.declared.Form.the-variants.{Not, Plain, Acknowledged}
 use Rattle.session.specs.declared.Subscription.{Subscription}
@@ -121,7 +122,8 @@ module _ (most revision clock held : ℕ) (n m : Notice) (ns : List Notice) wher
   waits-behind h = by-room (leb most held) refl h
 
 module _ (n : Notice) where
-  takes-at : (room : Room) (f : Form) (revision clock held : ℕ) (ns : List Notice) → 0 < most-held room → (h : Holds room (subscription f revision clock held) ns)
+  takes-at : (room : Room) (f : Form) (revision clock held : ℕ) (ns : List Notice) → 0 < most-held room
+      → (h : Holds room (subscription f revision clock held) ns)
       → let x = subscription f revision clock held in
       Took room (act room (news n) (subscription-in x ns)) (takes room (subscription-in x ns)) n ns (taken room x)
   unfolding taken
@@ -149,7 +151,8 @@ module _ (room : Room) (revision : ℕ) (no-acknowledge : Bool) where
       Becomes room (act room (asks revision no-acknowledge) (subscription-in x ns)) (subscribed x revision no-acknowledge) (held-asked f ns)
   asks-at Not current clock held ns h = by-form no-acknowledge
     where
-      by-form : (b : Bool) → Becomes room (cond b (model.plain revision) (acked revision model.empty), []) (subscription (cond b Plain Acknowledged) revision 0 0) []
+      by-form : (b : Bool) → Becomes room (cond b (model.plain revision) (acked revision model.empty), [])
+          (subscription (cond b Plain Acknowledged) revision 0 0) []
       by-form true = record { acts = refl; holds = record { held = refl; clock = omega arith; fits = zero-le } }
       by-form false = record { acts = refl; holds = record { held = refl; clock = omega arith; fits = zero-le } }
   asks-at Plain current clock held ns h = record { acts = refl; holds = h }
@@ -157,7 +160,8 @@ module _ (room : Room) (revision : ℕ) (no-acknowledge : Bool) where
 
   -- `session::subscribed` is the model's subscribing
   pub subscribe-right : (x : Subscription) (ns : List Notice) → Holds room x ns
-      → Becomes room (act room (asks revision no-acknowledge) (subscription-in x ns)) (subscribed x revision no-acknowledge) (held-asked (x .form) ns)
+      → Becomes room (act room (asks revision no-acknowledge) (subscription-in x ns)) (subscribed x revision no-acknowledge)
+      (held-asked (x .form) ns)
   subscribe-right x ns h = asks-at (x .form) (x .revision) (x .clock) (x .held) ns h
 
 -- `session::unsubscribed` is the model's unsubscribing, whatever is held

@@ -57,7 +57,8 @@ pub hang-up-right : (st : Settings) (x : Session) (run : Run) (is ts : List Noti
     → step (shared-begun st 0) hang-up (session-in x run is ts) ≡ (session-in cleared empty-run [] [], [])
 hang-up-right st x run is ts = by-phase (x .phase)
   where
-    by-phase : (p : Phase) → step (shared-begun st 0) hang-up (session-in (session p (x .idle) (x .identifiers) (x .tightenings)) run is ts) ≡ (closed, [])
+    by-phase : (p : Phase)
+        → step (shared-begun st 0) hang-up (session-in (session p (x .idle) (x .identifiers) (x .tightenings)) run is ts) ≡ (closed, [])
     by-phase Closed = refl
     by-phase Opened = refl
     by-phase Started = refl
@@ -94,7 +95,8 @@ module _ (st : Settings) (run : Run) (is ts : List Notice) where
       (tick-right (room-of identifiers) i is (h .of-identifiers) .acts) (tick-right (room-of tightenings) t ts (h .of-tightenings) .acts)))
 
   -- a tick to a session is `session::idled`, and then `session::ticked` for each kind
-  pub tick-session-right : (x : Session) → Sound x is ts → step (shared-begun st 0) tick (session-in x run is ts) ≡ ticked-so st run is ts (idled x)
+  pub tick-session-right : (x : Session) → Sound x is ts
+      → step (shared-begun st 0) tick (session-in x run is ts) ≡ ticked-so st run is ts (idled x)
   tick-session-right x h = ticks (x .phase) (x .idle) (x .identifiers) (x .tightenings) h
 
 -- the forms stay
@@ -128,7 +130,8 @@ module _ (is ts : List Notice) where
         of-tightenings = h .of-tightenings;
       }
 
-  ticks-sound : (p : Phase) (idle : ℕ) (i t : Subscription) → Sound (session p idle i t) is ts → SoundTicked is ts (idled (session p idle i t))
+  ticks-sound : (p : Phase) (idle : ℕ) (i t : Subscription) → Sound (session p idle i t) is ts
+      → SoundTicked is ts (idled (session p idle i t))
   unfolding idled
   ticks-sound Closed idle i t h = steps-sound (session Closed idle i t) h
   ticks-sound Opened idle i t h = open-sound (session Opened idle i t) (leb idle-limit (idle + 1)) refl h

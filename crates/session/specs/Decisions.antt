@@ -21,7 +21,8 @@ use Rattle.session.specs.declared.Phase.the-variants.{Closed, Opened, St
 use Rattle.session.specs.declared.Subscription.{Subscription}
 use Rattle.session.specs.declared.Session.{Session}
 use Rattle.session.specs.declared.Decision.{Decision}
-use Rattle.session.specs.declared.Decision.the-variants.{Nothing, Heard, Error, Start, Stop, Identify, Subscribe, Unsubscribe, Acknowledge, Mirror}
+use Rattle.session.specs.declared.Decision.the-variants.{Nothing, Heard, Error, Start, Stop, Identify, Subscribe, Unsubscribe}
+use Rattle.session.specs.declared.Decision.the-variants.{Acknowledge, Mirror}
 
 -- ==== the subscriptions of a session, by kind
 

@@ -30,7 +30,8 @@ use Rattle.session.specs.declared.Taken.{Taken}
 use Rattle.session.specs.declared.Idling.{Idling}
 use Rattle.session.specs.declared.Idling.the-variants.{Stays, TimesOut}
 use Rattle.session.specs.declared.Decision.{Decision}
-use Rattle.session.specs.declared.Decision.the-variants.{Nothing, Heard, Error, Start, Stop, Identify, Subscribe, Unsubscribe, Acknowledge, Mirror}
+use Rattle.session.specs.declared.Decision.the-variants.{Nothing, Heard, Error, Start, Stop, Identify, Subscribe, Unsubscribe}
+use Rattle.session.specs.declared.Decision.the-variants.{Acknowledge, Mirror}
 
 -- ==== 01, "Notices and the clock": a tick
 

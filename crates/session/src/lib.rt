@@ -221,7 +221,8 @@ fn due_after(b: Beat) -> Due
 
 // The same as `beat_of`, in place: the clock is lent.
 pub fn advance(clock: &mut Clock) -> Due
-    ensures { λ r. ⌜ (now (clock .exit) ≡ clock-after (beat-at (now (clock .entry) .ticks))) × (r ≡ due-by (beat-at (now (clock .entry) .ticks))) ⌝ }
+    ensures { λ r. ⌜ (now (clock .exit) ≡ clock-after (beat-at (now (clock .entry) .ticks)))
+        × (r ≡ due-by (beat-at (now (clock .entry) .ticks))) ⌝ }
 {
     let beat = beat_of(clock.ticks);
     clock.ticks = ticks_after(beat);

@@ -70,7 +70,8 @@ pub fn start(area: &mut [u8], payload: &[u8])
 // An identifier comes in force.
 pub fn put_in_force(area: &mut [u8], identifier: &[u8])
     requires { ⌜ Area (now area) × (length (now identifier) ≡ 25) ⌝ }
-    ensures { λ _. ⌜ Holds (settings-part (now (area .entry))) (now (identifier .entry)) (last-of (now (area .entry))) (now (area .exit)) ⌝ }
+    ensures { λ _. ⌜ Holds (settings-part (now (area .entry))) (now (identifier .entry)) (last-of (now (area .entry)))
+        (now (area .exit)) ⌝ }
 {
     text::copy(identifier, area, IN_FORCE_AT);
 }

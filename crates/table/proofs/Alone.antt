@@ -21,7 +21,8 @@ use Rattle.table.proofs.Regions.{part, put, so-many-sessions, part-is, 
 
 -- ==== one moment has passed
 
-pub went-one : {t o t′ o′ : List ℕ} {at to : ℕ} {m : Moment} → Becomes t (uncounted (next (decode t) m)) t′ → Put o at (output (emits (decode t) m)) to o′
+pub went-one : {t o t′ o′ : List ℕ} {at to : ℕ} {m : Moment} → Becomes t (uncounted (next (decode t) m)) t′
+    → Put o at (output (emits (decode t) m)) to o′
     → Went t o at (m ∷ []) to t′ o′
 went-one {t} {m = m} b p = record { table = b; bytes = put-as (ap output (sym (append-nil (emits (decode t) m)))) p }
 
@@ -42,7 +43,8 @@ went-then {t} {t₁ = t₁} {m = m} {ms = ms} e a b =
         meaning = b .table .meaning ∙ ap (λ (z : World). uncounted (after z ms)) same;
       };
       bytes = put-as (sym (output-append (emits (decode t) m) (emitted w ms)))
-          (put-then (put-as (ap output (append-nil (emits (decode t) m))) (a .bytes)) (put-as (ap (λ (z : World). output (emitted z ms)) same) (b .bytes)));
+          (put-then (put-as (ap output (append-nil (emits (decode t) m))) (a .bytes))
+          (put-as (ap (λ (z : World). output (emitted z ms)) same) (b .bytes)));
     }
 
 -- ==== the region of session s becomes what the step leaves: the table has gone through the moment

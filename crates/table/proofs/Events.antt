@@ -20,7 +20,8 @@ use Rattle.notices.specs.Places.{event-in}
 use Rattle.shared.specs.Shared.{settings-part, in-force-of, last-of, Holds}
 use Rattle.region.specs.Region.{session-of, Good}
 use Rattle.table.specs.Table.{shared-area, regions, decode, Table, Becomes, noted}
-use Rattle.table.proofs.Regions.{part, put, region-at, length-regions, put-regions, front, front-size, front-past, front-shared, front-regions, front-table, table-means}
+use Rattle.table.proofs.Regions.{part, put, region-at, length-regions, put-regions, front, front-size, front-past, front-shared}
+use Rattle.table.proofs.Regions.{front-regions, front-table, table-means}
 use Rattle.table.proofs.Walks.{takers-next}
 
 -- ==== the room for so many bytes a session
@@ -46,7 +47,8 @@ takers-few kind s (x ∷ xs) =
     let few = at-most (takes kind x) (2 ^ s) in
     let rest : takers kind (suc s) xs + 2 ^ suc s ≤ 2 ^ (suc s + length xs) = takers-few kind (suc s) xs in
     let twice : 2 ^ suc s ≡ 2 ^ s * 2 = pow-suc 2 s in
-    let far : 2 ^ (s + suc (length xs)) ≡ 2 ^ (suc s + length xs) = ap (λ (n : ℕ). 2 ^ n) (add-suc s (length xs) ∙ sym (suc-add s (length xs))) in
+    let far : 2 ^ (s + suc (length xs)) ≡ 2 ^ (suc s + length xs) = ap (λ (n : ℕ). 2 ^ n)
+    (add-suc s (length xs) ∙ sym (suc-add s (length xs))) in
     omega arith
 
 pub takers-below : (kind : ℕ) (t : List ℕ) → takers kind 0 (decode t .sessions) < 2 ^ session-count
@@ -83,7 +85,8 @@ adds kind t₀ taken rest share bit s b e es eb h =
     omega (arith, e, es, takers-below kind t₀, sum-fits, share-fits b bit (bit-fits bit s eb h))
 
 -- a walk that adds them up: what is left to add is all of it
-pub taken-next : (kind : ℕ) (t r : List ℕ) (s taken share sum : ℕ) (b : Bool) → Table t → s < session-count → Good r → b ≡ takes kind (session-of (part t s))
+pub taken-next : (kind : ℕ) (t r : List ℕ) (s taken share sum : ℕ) (b : Bool) → Table t → s < session-count → Good r
+    → b ≡ takes kind (session-of (part t s))
     → share ≡ cond b (2 ^ s) 0 → taken + takers kind s (drop s (regions session-of t)) ≡ sum
     → taken + share + takers kind (s + 1) (drop (s + 1) (regions session-of (put t s r))) ≡ sum
 taken-next kind t r s taken share sum b h few g eb es e =
@@ -93,10 +96,12 @@ taken-next kind t r s taken share sum b h few g eb es e =
     let mine : share ≡ cond (takes kind (session-of (part t s))) (2 ^ s) 0 = es ∙ ap (λ (z : Bool). cond z (2 ^ s) 0) eb in
     omega (arith, next, new, mine, e)
 
-pub taken-all : (kind : ℕ) (t : List ℕ) (s taken sum : ℕ) → session-count ≤ s → taken + takers kind s (drop s (regions session-of t)) ≡ sum → taken ≡ sum
+pub taken-all : (kind : ℕ) (t : List ℕ) (s taken sum : ℕ) → session-count ≤ s → taken + takers kind s (drop s (regions session-of t)) ≡ sum
+    → taken ≡ sum
 taken-all kind t s taken sum h e =
     let n = length-regions session-of t in
-    sym (add-zero taken) ∙ ap (λ (l : List Session). taken + takers kind s l) (sym (drop-of-length-le (regions session-of t) {i = s} (omega arith))) ∙ e
+    sym (add-zero taken) ∙ ap (λ (l : List Session). taken + takers kind s l)
+    (sym (drop-of-length-le (regions session-of t) {i = s} (omega arith))) ∙ e
 
 -- ==== what is left to all sessions
 
@@ -111,15 +116,19 @@ front-means t a payload x n h k =
       table = front-table t a h (k .area);
       size = front-size t a l s;
       past = front-past t a l s;
-      meaning = table-means (front t a) payload x n (regions session-of t) (subst (Holds payload x n) (sym (front-shared t a l s)) k) (front-regions t a l s session-of);
+      meaning =
+          table-means (front t a) payload x n (regions session-of t) (subst (Holds payload x n) (sym (front-shared t a l s)) k)
+          (front-regions t a l s session-of);
     }
 
 module _ (t a : List ℕ) (kind : ℕ) (place : List ℕ) (h : Table t) where
-  pub noted-identifier : kind ≡ 0 → Holds (settings-part (shared-area t)) place (last-of (shared-area t)) a → Becomes t (noted (decode t) (event-in kind place)) (front t a)
+  pub noted-identifier : kind ≡ 0 → Holds (settings-part (shared-area t)) place (last-of (shared-area t)) a
+      → Becomes t (noted (decode t) (event-in kind place)) (front t a)
   unfolding decode
   noted-identifier e k = rw e (front-means t a _ _ _ h k)
 
-  pub noted-number : (n : ℕ) → kind ≡ 1 → n ≡ little (take 4 (drop 106 place)) → Holds (settings-part (shared-area t)) (in-force-of (shared-area t)) n a
+  pub noted-number : (n : ℕ) → kind ≡ 1 → n ≡ little (take 4 (drop 106 place))
+      → Holds (settings-part (shared-area t)) (in-force-of (shared-area t)) n a
       → Becomes t (noted (decode t) (event-in kind place)) (front t a)
   unfolding decode result-of
   noted-number n e f k =

@@ -22,7 +22,8 @@ use Rattle.table.proofs.Walks.{steps-with}
 
 -- ==== the session hears
 
-module _ (t : List ℕ) (s : ℕ) (bs : List ℕ) (table : Table t) (few : s < session-count) (st : Settings) (settings : st ≡ decode t .shared .settings)
+module _ (t : List ℕ) (s : ℕ) (bs : List ℕ) (table : Table t) (few : s < session-count) (st : Settings)
+    (settings : st ≡ decode t .shared .settings)
     {r o o′ : List ℕ} {at next : ℕ} (place : List ℕ) {known : Bool} {place′ : List ℕ} where
   pub heard : Hears s st (cut bs) (part t s) o at place next known r o′ place′
       → Went t o at (hears s (cut bs) ∷ []) next (put t s r) o′
@@ -49,16 +50,21 @@ module _ (place : List ℕ) {known : Bool} {place′ : List ℕ} where
   told-none none k e = refl
   told-none (some x) k e = absurd (true≢false (sym (k .0) ∙ e))
 
-  told-one : (x : Option (List ℕ)) → Knows x place known place′ → known ≡ true → happens (identified place′) ∷ [] ≡ happening (option-map identified x)
+  told-one : (x : Option (List ℕ)) → Knows x place known place′ → known ≡ true
+      → happens (identified place′) ∷ [] ≡ happening (option-map identified x)
   told-one none k e = absurd (true≢false (sym e ∙ k .0))
   told-one (some x) k e = ap (λ (z : List ℕ). happens (identified z) ∷ []) (k .1)
 
   module _ (t : List ℕ) (s : ℕ) (bs : List ℕ) {t₁ o o₁ : List ℕ} {at to : ℕ}
-      (k : Knows (announces (decode t .shared) (cut bs) (session-at (decode t) s)) place known place′) (w : Went t o at (hears s (cut bs) ∷ []) to t₁ o₁) where
+      (k : Knows (announces (decode t .shared) (cut bs) (session-at (decode t) s)) place known place′)
+      (w : Went t o at (hears s (cut bs) ∷ []) to t₁ o₁) where
     pub not-told : known ≡ false → Went t o at (moments (decode t) (bytes s bs)) to t₁ o₁
-    not-told e = subst (λ (ms : List Moment). Went t o at (hears s (cut bs) ∷ ms) to t₁ o₁) (sym (told-none (announces (decode t .shared) (cut bs) (session-at (decode t) s)) k e)) w
+    not-told e =
+        subst (λ (ms : List Moment). Went t o at (hears s (cut bs) ∷ ms) to t₁ o₁)
+        (sym (told-none (announces (decode t .shared) (cut bs) (session-at (decode t) s)) k e)) w
 
     pub all-told : {t₂ o₂ : List ℕ} {next : ℕ} → known ≡ true → Went t₁ o₁ to (happens (identified place′) ∷ []) next t₂ o₂
         → Went t o at (moments (decode t) (bytes s bs)) next t₂ o₂
     all-told {t₂} {o₂} {next} e v =
-        subst (λ (ms : List Moment). Went t o at (hears s (cut bs) ∷ ms) next t₂ o₂) (told-one (announces (decode t .shared) (cut bs) (session-at (decode t) s)) k e) (went-then (uncounted-yet t) w v)
+        subst (λ (ms : List Moment). Went t o at (hears s (cut bs) ∷ ms) next t₂ o₂)
+        (told-one (announces (decode t .shared) (cut bs) (session-at (decode t) s)) k e) (went-then (uncounted-yet t) w v)

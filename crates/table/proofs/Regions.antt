@@ -69,7 +69,9 @@ shared-good t h = record { size = length-shared t (h .size); formed = formed-par
 pub part-good : (t : List ℕ) (s : ℕ) → Table t → s < session-count → Good (part t s)
 part-good t s h b = record {
   size = length-part t s (h .size) b;
-  formed = sym (region-at region-formed t s true b) ∙ all-at (λ (b : Bool). b) (regions region-formed t) s true (formed-parts t h .1) (rw (length-regions region-formed t) b);
+  formed =
+      sym (region-at region-formed t s true b) ∙ all-at (λ (b : Bool). b) (regions region-formed t) s true (formed-parts t h .1)
+      (rw (length-regions region-formed t) b);
 }
 
 -- the parts of what is shared are as long as they are to be
@@ -93,7 +95,8 @@ module _ (t : List ℕ) where
       ∙ ap (λ (b : Bool). b && formed-from (s + 1)) (region-at region-formed t s true h)
 
   -- a loop that tests a region a turn: what is left of the test is all of it
-  pub formed-goes-on : (s : ℕ) → s < session-count → region-formed (part t s) ≡ true → formed-from s ≡ formed-from 0 → formed-from (s + 1) ≡ formed-from 0
+  pub formed-goes-on : (s : ℕ) → s < session-count → region-formed (part t s) ≡ true → formed-from s ≡ formed-from 0
+      → formed-from (s + 1) ≡ formed-from 0
   formed-goes-on s h e i = ap (λ (b : Bool). b && formed-from (s + 1)) (sym e) ∙ sym (formed-next s h) ∙ i
 
   pub formed-stops : (s : ℕ) → s < session-count → region-formed (part t s) ≡ false → formed-from s ≡ formed-from 0 → false ≡ formed-from 0
@@ -105,9 +108,15 @@ module _ (t : List ℕ) where
 
 -- ==== what makes a table, and what it means
 
-pub table-of : (t : List ℕ) → table-least ≤ length t → shared-formed (shared-area t) ≡ true → all (λ (b : Bool). b) (regions region-formed t) ≡ true → Table t
+pub table-of : (t : List ℕ) → table-least ≤ length t → shared-formed (shared-area t) ≡ true
+    → all (λ (b : Bool). b) (regions region-formed t) ≡ true → Table t
 unfolding table-formed
-table-of t h a b = record { size = h; formed = and-eq-true-iff (shared-formed (shared-area t)) (all (λ (b : Bool). b) (regions region-formed t)) .1 (a, b) }
+table-of t h a b =
+    record {
+      size = h;
+      formed = and-eq-true-iff (shared-formed (shared-area t)) (all (λ (b : Bool). b) (regions region-formed t)) .1
+          (a, b);
+    }
 
 pub table-means : (t payload x : List ℕ) (n : ℕ) (ss : List Session) → Holds payload x n (shared-area t) → regions session-of t ≡ ss
     → decode t ≡ record { shared = record { settings = settings-of payload; in-force = x; last = n; events = 0 }; sessions = ss }
@@ -118,7 +127,8 @@ table-means t payload x n ss h e = λ i. record {
 }
 
 -- what is shared, as the table means it
-pub holds-as-before : (t t′ : List ℕ) → Table t → shared-area t′ ≡ shared-area t → Holds (settings-part (shared-area t)) (in-force-of (shared-area t)) (last-of (shared-area t)) (shared-area t′)
+pub holds-as-before : (t t′ : List ℕ) → Table t → shared-area t′ ≡ shared-area t
+    → Holds (settings-part (shared-area t)) (in-force-of (shared-area t)) (last-of (shared-area t)) (shared-area t′)
 holds-as-before t t′ h e = record {
   area = subst Area (sym e) (shared-good t h);
   settings = ap settings-part e;
@@ -196,7 +206,8 @@ front-table t a h g =
     (ap (all (λ (b : Bool). b)) (front-regions t a l n region-formed) ∙ formed-parts t h .1)
 
 -- session s becomes what r means, and nothing else changes
-pub put-means : (t : List ℕ) (s : ℕ) (r : List ℕ) (ss : List Session) → Table t → s < session-count → Good r → set (regions session-of t) s (session-of r) ≡ ss
+pub put-means : (t : List ℕ) (s : ℕ) (r : List ℕ) (ss : List Session) → Table t → s < session-count → Good r
+    → set (regions session-of t) s (session-of r) ≡ ss
     → Becomes t (record { shared = decode t .shared; sessions = ss }) (put t s r)
 unfolding decode
 put-means t s r ss h b g e =

@@ -15,13 +15,15 @@ use Rattle.model.specs.World.{begun}
 use Rattle.shared.specs.Shared.{Holds}
 use Rattle.region.specs.Region.{session-of, region-formed, Good}
 use Rattle.table.specs.Table.{table-used, regions, Becomes}
-use Rattle.table.proofs.Regions.{length-regions, table-of, table-means, put, put-size, put-past, put-regions, front, front-size, front-past, front-shared, front-regions}
+use Rattle.table.proofs.Regions.{length-regions, table-of, table-means, put, put-size, put-past, put-regions, front, front-size}
+use Rattle.table.proofs.Regions.{front-past, front-shared, front-regions}
 
 -- the first s of a list are x: one more, and all of them
 module _ {A : Type 0} (x : A) where
   same-next : (l : List A) (s : ℕ) → s < length l → take s l ≡ replicate s x → take (s + 1) (set l s x) ≡ replicate (s + 1) x
   same-next l s h e =
-      ap (λ (n : ℕ). take n (set l s x)) (add-one s) ∙ take-suc-set l s x h ∙ ap (λ (z : List A). z ++ (x ∷ [])) e ∙ replicate-append-replicate s 1 x
+      ap (λ (n : ℕ). take n (set l s x)) (add-one s) ∙ take-suc-set l s x h ∙ ap (λ (z : List A). z ++ (x ∷ [])) e
+      ∙ replicate-append-replicate s 1 x
 
   same-all : (l : List A) (s : ℕ) → length l ≡ s → take s l ≡ replicate s x → l ≡ replicate s x
   same-all l s e h = sym (take-all s l (omega arith)) ∙ h
@@ -58,16 +60,19 @@ module _ (t₀ : List ℕ) (long : table-least ≤ length t₀) (t : List ℕ) (
       }
 
   -- all of them are, and a is what they share
-  pub closed-all : (payload a : List ℕ) → session-count ≤ s → Holds payload (spaces 25) (settings-of payload .last) a → Becomes t₀ (begun (settings-of payload) 0) (front t a)
+  pub closed-all : (payload a : List ℕ) → session-count ≤ s → Holds payload (spaces 25) (settings-of payload .last) a
+      → Becomes t₀ (begun (settings-of payload) 0) (front t a)
   closed-all payload a h k =
       let l = still-long in
       let n = k .area .size in
       let few = w .within in
       let e : s ≡ session-count = omega arith in
       let sessions : regions session-of (front t a) ≡ replicate session-count closed =
-      front-regions t a l n session-of ∙ same-all closed (regions session-of t) session-count (length-regions session-of t) (rw e at (w .sessions)) in
+      front-regions t a l n session-of ∙ same-all closed (regions session-of t) session-count (length-regions session-of t)
+      (rw e at (w .sessions)) in
       let formed : regions region-formed (front t a) ≡ replicate session-count true =
-      front-regions t a l n region-formed ∙ same-all true (regions region-formed t) session-count (length-regions region-formed t) (rw e at (w .formed)) in
+      front-regions t a l n region-formed ∙ same-all true (regions region-formed t) session-count (length-regions region-formed t)
+      (rw e at (w .formed)) in
       let holds = subst (Holds payload (spaces 25) (settings-of payload .last)) (sym (front-shared t a l n)) k in
       let size = front-size t a l n in
       record {

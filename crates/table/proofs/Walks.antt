@@ -22,7 +22,8 @@ use Rattle.model.proofs.Erase.{output-append}
 use Rattle.model.proofs.BySettings.{step-bare}
 use Rattle.shared.specs.Shared.{settings-part, in-force-of, last-of}
 use Rattle.table.specs.Table.{shared-area, table-used, regions, decode, Table, Becomes}
-use Rattle.table.proofs.Regions.{part, put, region-at, length-regions, put-size, put-past, put-shared, put-regions, put-table, table-means, holds-as-before}
+use Rattle.table.proofs.Regions.{part, put, region-at, length-regions, put-size, put-past, put-shared, put-regions, put-table}
+use Rattle.table.proofs.Regions.{table-means, holds-as-before}
 
 -- ==== the sessions from s on, one later: l are the sessions, of which x stands at s; y takes its place
 
@@ -33,14 +34,16 @@ module _ (l : List Session) (s : ℕ) (x y : Session) (h : s < length l) (at-s :
   from-s : drop s l ≡ x ∷ drop (suc s) l
   from-s = drop-cons l s closed h ∙ ap (λ (z : Session). z ∷ drop (suc s) l) at-s
 
-  sessions-next : (act : ℕ → Session → Session × List Emission) → y ≡ (act s x) .0 → take (s + 1) (set l s y) ++ row act (s + 1) (drop (s + 1) (set l s y)) ≡ take s l ++ row act s (drop s l)
+  sessions-next : (act : ℕ → Session → Session × List Emission) → y ≡ (act s x) .0
+      → take (s + 1) (set l s y) ++ row act (s + 1) (drop (s + 1) (set l s y)) ≡ take s l ++ row act s (drop s l)
   sessions-next act e =
       ap₂ _++_ (ap (λ (n : ℕ). take n (set l s y)) (add-one s) ∙ take-suc-set l s y h) (ap₂ (row act) (add-one s) behind)
       ∙ append-assoc (take s l) (y ∷ []) (row act (suc s) (drop (suc s) l))
       ∙ ap (λ (z : Session). take s l ++ (z ∷ row act (suc s) (drop (suc s) l))) e
       ∙ ap (λ (z : List Session). take s l ++ row act s z) (sym from-s)
 
-  output-next : (act : ℕ → Session → Session × List Emission) → output (said act s (drop s l)) ≡ out-bytes s ((act s x) .1) ++ output (said act (s + 1) (drop (s + 1) (set l s y)))
+  output-next : (act : ℕ → Session → Session × List Emission)
+      → output (said act s (drop s l)) ≡ out-bytes s ((act s x) .1) ++ output (said act (s + 1) (drop (s + 1) (set l s y)))
   output-next act =
       ap (λ (z : List Session). output (said act s z)) from-s ∙ output-append (tag s ((act s x) .1)) (said act (suc s) (drop (suc s) l))
       ∙ ap (λ (z : List ℕ). out-bytes s ((act s x) .1) ++ z) (sym (ap output (ap₂ (said act) (add-one s) behind)))
@@ -62,10 +65,12 @@ module _ (act : ℕ → Session → Session × List Emission) where
     pub bytes : Left o₀ at₀ (output (said act 0 (regions session-of t₀))) o at (output (said act s (drop s (regions session-of t))))
 
   pub walk-none : (t o : List ℕ) (at : ℕ) → Table t → Walk t o at t o at 0
-  walk-none t o at h = record { within = omega arith; table = h; size = refl; past = refl; shared = refl; sessions = refl; bytes = left-all o at _ }
+  walk-none t o at h =
+      record { within = omega arith; table = h; size = refl; past = refl; shared = refl; sessions = refl; bytes = left-all o at _ }
 
   module _ (t₀ o₀ : List ℕ) (at₀ : ℕ) (t o : List ℕ) (at s : ℕ) (w : Walk t₀ o₀ at₀ t o at s) where
-    pub walk-next : (r : List ℕ) (to : ℕ) (o′ : List ℕ) → s < session-count → Steps s (act s (session-of (part t s))) r o at to o′ → Walk t₀ o₀ at₀ (put t s r) o′ to (s + 1)
+    pub walk-next : (r : List ℕ) (to : ℕ) (o′ : List ℕ) → s < session-count → Steps s (act s (session-of (part t s))) r o at to o′
+        → Walk t₀ o₀ at₀ (put t s r) o′ to (s + 1)
     walk-next r to o′ h g =
         let k = w .table .size in
         let n = g .good .size in
@@ -102,7 +107,8 @@ module _ (act : ℕ → Session → Session × List Emission) where
     walked-bytes h = left-none (left-as (ap (λ (l : List Session). output (said act s l)) (no-more h .1)) (w .bytes))
 
 -- a walk with a moment is what the moment does to the sessions
-module _ (m : Moment) (t₀ o₀ : List ℕ) (at₀ : ℕ) (t o : List ℕ) (at s : ℕ) (start : Table t₀) (w : Walk (each (decode t₀) m) t₀ o₀ at₀ t o at s) (h : session-count ≤ s) where
+module _ (m : Moment) (t₀ o₀ : List ℕ) (at₀ : ℕ) (t o : List ℕ) (at s : ℕ) (start : Table t₀)
+    (w : Walk (each (decode t₀) m) t₀ o₀ at₀ t o at s) (h : session-count ≤ s) where
   pub walked : Becomes t₀ (record { shared = decode t₀ .shared; sessions = sessions-after (decode t₀) m }) t
       × Put o₀ at₀ (output (emits (decode t₀) m)) at o
   unfolding decode
@@ -111,14 +117,17 @@ module _ (m : Moment) (t₀ o₀ : List ℕ) (at₀ : ℕ) (t o : List ℕ) (at 
       table = w .table;
       size = w .size;
       past = w .past;
-      meaning = table-means t (settings-part (shared-area t₀)) (in-force-of (shared-area t₀)) (last-of (shared-area t₀)) (row (each (decode t₀) m) 0 (regions session-of t₀))
+      meaning =
+          table-means t (settings-part (shared-area t₀)) (in-force-of (shared-area t₀)) (last-of (shared-area t₀))
+          (row (each (decode t₀) m) 0 (regions session-of t₀))
           (holds-as-before t₀ t start (w .shared)) (walked-sessions (each (decode t₀) m) t₀ o₀ at₀ t o at s w h);
     },
     walked-bytes (each (decode t₀) m) t₀ o₀ at₀ t o at s w h,
   )
 
 -- a region's step, which is told the settings alone, is the session's
-pub steps-with : {r o o′ : List ℕ} {at to : ℕ} {st : Settings} (t : List ℕ) (s : ℕ) (l : Local) (x : Session) → st ≡ decode t .shared .settings
+pub steps-with : {r o o′ : List ℕ} {at to : ℕ} {st : Settings} (t : List ℕ) (s : ℕ) (l : Local) (x : Session)
+    → st ≡ decode t .shared .settings
     → Steps s (step (shared-begun st 0) l x) r o at to o′ → Steps s (step (decode t .shared) l x) r o at to o′
 unfolding decode
 steps-with {r} {o} {o′} {at} {to} t s l x e w =

@@ -10,7 +10,8 @@ ghost use Rattle.model.specs.Kinds.{kinds, session-most, event-most, receive-mo
 ghost use Rattle.model.specs.Runs.{cut};
 ghost use Rattle.model.specs.Session.{is-closed as is-closed-session};
 ghost use Rattle.model.specs.Local.{announces, event};
-ghost use Rattle.model.specs.World.{session-at, begun, uncounted, opens, hangs-up, hears, to-all, ticks, happens as happens-event, next, emits};
+ghost use Rattle.model.specs.World.{session-at, begun, uncounted, opens, hangs-up, hears, to-all, ticks, happens as happens-event, next};
+ghost use Rattle.model.specs.World.{emits};
 ghost use Rattle.model.specs.Calls.{bytes as call-bytes, moments, output, takers};
 ghost use Rattle.text.specs.Put.{Put};
 ghost use Rattle.run.specs.Area.{Ends};
@@ -130,7 +131,8 @@ fn settings_apart(table: &[u8]) -> [u8; 33]
 // A tick.
 pub fn tick(table: &mut [u8], out: &mut [u8], at: usize) -> usize
     requires { ⌜ Table (now table) × (at + tick-most ≤ length (now out)) ⌝ }
-    ensures { λ r. ⌜ (r ≤ at + tick-most) × Went (now (table .entry)) (now (out .entry)) at (ticks ∷ []) r (now (table .exit)) (now (out .exit)) ⌝ }
+    ensures { λ r. ⌜ (r ≤ at + tick-most)
+        × Went (now (table .entry)) (now (out .entry)) at (ticks ∷ []) r (now (table .exit)) (now (out .exit)) ⌝ }
 {
     let settings = settings_apart(table);
     let mut to = at;
@@ -158,8 +160,12 @@ fn share(taken: bool, bit: u64) -> u64
 
 // An event of that kind, whose notice is in `place`, to every session.
 fn tell(table: &mut [u8], out: &mut [u8], at: usize, kind: usize, place: &[u8]) -> Told
-    requires { ⌜ Table (now table) × (at + event-most kind ≤ length (now out)) × (kind < length kinds) × (length (now place) ≡ place-size kind) ⌝ }
-    ensures { λ r. ⌜ (r .at ≤ at + event-most kind) × (r .taken ≡ takers kind 0 (decode (now (table .entry)) .sessions)) × Becomes (now (table .entry)) (next (decode (now (table .entry))) (to-all (event (event-in kind (now (place .entry)))))) (now (table .exit)) × Put (now (out .entry)) at (output (emits (decode (now (table .entry))) (to-all (event (event-in kind (now (place .entry))))))) (r .at) (now (out .exit)) ⌝ }
+    requires { ⌜ Table (now table) × (at + event-most kind ≤ length (now out)) × (kind < length kinds)
+        × (length (now place) ≡ place-size kind) ⌝ }
+    ensures { λ r. ⌜ (r .at ≤ at + event-most kind) × (r .taken ≡ takers kind 0 (decode (now (table .entry)) .sessions))
+        × Becomes (now (table .entry)) (next (decode (now (table .entry))) (to-all (event (event-in kind (now (place .entry))))))
+        (now (table .exit)) × Put (now (out .entry)) at
+        (output (emits (decode (now (table .entry))) (to-all (event (event-in kind (now (place .entry))))))) (r .at) (now (out .exit)) ⌝ }
 {
     let settings = settings_apart(table);
     let mut to = at;
@@ -180,7 +186,8 @@ fn tell(table: &mut [u8], out: &mut [u8], at: usize, kind: usize, place: &[u8]) 
 // What the event leaves to all sessions: the identifier in force, or the last number.
 fn note(table: &mut [u8], kind: usize, place: &[u8])
     requires { ⌜ Table (now table) × (kind < length kinds) × (length (now place) ≡ place-size kind) ⌝ }
-    ensures { λ _. ⌜ Becomes (now (table .entry)) (noted (decode (now (table .entry))) (event-in kind (now (place .entry)))) (now (table .exit)) ⌝ }
+    ensures { λ _. ⌜ Becomes (now (table .entry)) (noted (decode (now (table .entry))) (event-in kind (now (place .entry))))
+        (now (table .exit)) ⌝ }
 {
     if kind == message::IDENTIFIERS {
         shared::put_in_force(&mut table[0..SHARED], place);
@@ -192,8 +199,12 @@ fn note(table: &mut [u8], kind: usize, place: &[u8])
 
 // An event of that kind, whose notice is in `place`.
 pub fn happens(table: &mut [u8], out: &mut [u8], at: usize, kind: usize, place: &[u8]) -> Told
-    requires { ⌜ Table (now table) × (at + event-most kind ≤ length (now out)) × (kind < length kinds) × (length (now place) ≡ place-size kind) ⌝ }
-    ensures { λ r. ⌜ (r .at ≤ at + event-most kind) × Went (now (table .entry)) (now (out .entry)) at (happens-event (event-in kind (now (place .entry))) ∷ []) (r .at) (now (table .exit)) (now (out .exit)) × (r .taken ≡ takers kind 0 (decode (now (table .entry)) .sessions)) × (r .taken < 2 ^ session-count) ⌝ }
+    requires { ⌜ Table (now table) × (at + event-most kind ≤ length (now out)) × (kind < length kinds)
+        × (length (now place) ≡ place-size kind) ⌝ }
+    ensures { λ r. ⌜ (r .at ≤ at + event-most kind)
+        × Went (now (table .entry)) (now (out .entry)) at (happens-event (event-in kind (now (place .entry))) ∷ []) (r .at)
+        (now (table .exit)) (now (out .exit)) × (r .taken ≡ takers kind 0 (decode (now (table .entry)) .sessions))
+        × (r .taken < 2 ^ session-count) ⌝ }
 {
     let told = tell(table, out, at, kind, place);
     note(table, kind, place);
@@ -212,8 +223,12 @@ fn hear(
     end: usize,
     place: &mut [u8],
 ) -> Received
-    requires { ⌜ Table (now table) × (s < session-count) × (at + session-most ≤ length (now out)) × (length (now place) ≡ 25) × Ends (now bytes) end ⌝ }
-    ensures { λ r. ⌜ (r .at ≤ at + session-most) × Went (now (table .entry)) (now (out .entry)) at (hears s (cut (now (bytes .entry))) ∷ []) (r .at) (now (table .exit)) (now (out .exit)) × Knows (announces (decode (now (table .entry)) .shared) (cut (now (bytes .entry))) (session-at (decode (now (table .entry))) s)) (now (place .entry)) (r .identified) (now (place .exit)) ⌝ }
+    requires { ⌜ Table (now table) × (s < session-count) × (at + session-most ≤ length (now out)) × (length (now place) ≡ 25)
+        × Ends (now bytes) end ⌝ }
+    ensures { λ r. ⌜ (r .at ≤ at + session-most) × Went (now (table .entry)) (now (out .entry)) at
+        (hears s (cut (now (bytes .entry))) ∷ []) (r .at) (now (table .exit)) (now (out .exit))
+        × Knows (announces (decode (now (table .entry)) .shared) (cut (now (bytes .entry))) (session-at (decode (now (table .entry))) s))
+        (now (place .entry)) (r .identified) (now (place .exit)) ⌝ }
 {
     let settings = settings_apart(table);
     let a = SHARED + s as usize * SIZE;
@@ -239,7 +254,8 @@ pub fn receive(
     end: usize,
 ) -> usize
     requires { ⌜ Table (now table) × (s < session-count) × (at + receive-most ≤ length (now out)) × Ends (now bytes) end ⌝ }
-    ensures { λ r. ⌜ (r ≤ at + receive-most) × Went (now (table .entry)) (now (out .entry)) at (moments (decode (now (table .entry))) (call-bytes s (now (bytes .entry)))) r (now (table .exit)) (now (out .exit)) ⌝ }
+    ensures { λ r. ⌜ (r ≤ at + receive-most) × Went (now (table .entry)) (now (out .entry)) at
+        (moments (decode (now (table .entry))) (call-bytes s (now (bytes .entry)))) r (now (table .exit)) (now (out .exit)) ⌝ }
 {
     let mut place = [0; 25];
     let heard = hear(table, out, at, s, bytes, end, &mut place);

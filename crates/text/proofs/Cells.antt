@@ -38,12 +38,14 @@ module _ {A : Type 0} (f : List ℕ → A) (k : ℕ) (ys : List ℕ) (len : leng
       ∙ ap (λ (z : List A). f (take k l) ∷ z) (cells-put n j (drop k l) d))
 
 -- the j-th of n cells
-pub cells-at : {A : Type 0} (f : List ℕ → A) (k n j : ℕ) (l : List ℕ) (d : A) → j < n → getD (cells f k n l) j d ≡ f (take k (drop (j * k) l))
+pub cells-at : {A : Type 0} (f : List ℕ → A) (k n j : ℕ) (l : List ℕ) (d : A) → j < n
+    → getD (cells f k n l) j d ≡ f (take k (drop (j * k) l))
 unfolding cells
 cells-at f k zero j l d h = absurd (omega arith)
 cells-at f k (suc n) zero l d h = rw zero-mul
 cells-at f k (suc n) (suc j) l d h =
-    cells-at f k n j (drop k l) d (omega arith) ∙ ap (λ (z : List ℕ). f (take k z)) (drop-drop (j * k) k l ∙ ap (λ (m : ℕ). drop m l) (add-comm k (j * k) ∙ sym (suc-mul j k)))
+    cells-at f k n j (drop k l) d (omega arith) ∙ ap (λ (z : List ℕ). f (take k z))
+    (drop-drop (j * k) k l ∙ ap (λ (m : ℕ). drop m l) (add-comm k (j * k) ∙ sym (suc-mul j k)))
 
 -- ---- cells from `base` on, one of which was lent as `&mut t[a..a + k]` with a at `base + j * k`
 module _ {A : Type 0} (f : List ℕ → A) (base k n j : ℕ) (t : List ℕ) where
@@ -66,12 +68,14 @@ unfolding cells
 length-cells f k zero l = refl
 length-cells f k (suc n) l = ap suc (length-cells f k n (drop k l))
 
-pub cells-snoc : {A : Type 0} (f : List ℕ → A) (k n : ℕ) (l : List ℕ) → cells f k (suc n) l ≡ cells f k n l ++ (f (take k (drop (n * k) l)) ∷ [])
+pub cells-snoc : {A : Type 0} (f : List ℕ → A) (k n : ℕ) (l : List ℕ)
+    → cells f k (suc n) l ≡ cells f k n l ++ (f (take k (drop (n * k) l)) ∷ [])
 unfolding cells
 cells-snoc f k zero l = rw zero-mul
 cells-snoc f k (suc n) l =
     ap (λ (z : List _). f (take k l) ∷ z) (cells-snoc f k n (drop k l))
-    ∙ ap (λ (z : List ℕ). f (take k l) ∷ (cells f k n (drop k l) ++ (f (take k z) ∷ []))) (drop-drop (n * k) k l ∙ ap (λ (m : ℕ). drop m l) (add-comm k (n * k) ∙ sym (suc-mul n k)))
+    ∙ ap (λ (z : List ℕ). f (take k l) ∷ (cells f k n (drop k l) ++ (f (take k z) ∷ [])))
+    (drop-drop (n * k) k l ∙ ap (λ (m : ℕ). drop m l) (add-comm k (n * k) ∙ sym (suc-mul n k)))
 
 pub cells-take : {A : Type 0} (f : List ℕ → A) (k n m : ℕ) (l : List ℕ) → n * k ≤ m → cells f k n (take m l) ≡ cells f k n l
 unfolding cells
@@ -109,14 +113,16 @@ cells-prefix f k (suc i) (suc n) l h = ap (λ (z : List _). f (take k l) ∷ z) 
 -- ---- a queue in cells, the oldest first
 module _ {A : Type 0} (f : List ℕ → A) (k : ℕ) (l : List ℕ) where
   -- one more, behind the first i: what stood there and behind is no more of it
-  pub cells-push : (i : ℕ) (p : List ℕ) → length p ≡ k → i * k + k ≤ length l → cells f k (suc i) (sets l (i * k) p) ≡ cells f k i l ++ (f p ∷ [])
+  pub cells-push : (i : ℕ) (p : List ℕ) → length p ≡ k → i * k + k ≤ length l
+      → cells f k (suc i) (sets l (i * k) p) ≡ cells f k i l ++ (f p ∷ [])
   cells-push i p e h =
       let new : take k (drop (i * k) (sets l (i * k) p)) ≡ p =
       ap (λ (m : ℕ). take k (drop (i * k) (sets l m p))) (sym (add-zero (i * k))) ∙ ap (take k) (drop-sets p l (i * k) 0)
       ∙ ap (λ (m : ℕ). take m (sets (drop (i * k) l) 0 p)) (sym e ∙ sym (zero-add (length p)))
       ∙ take-sets p (drop (i * k) l) 0 (rw length-drop (omega arith)) in
       let old : cells f k i (sets l (i * k) p) ≡ cells f k i l =
-      sym (cells-take f k i (i * k) (sets l (i * k) p) (omega arith)) ∙ ap (cells f k i) (take-sets-before p l (i * k) (i * k) (omega arith))
+      sym (cells-take f k i (i * k) (sets l (i * k) p) (omega arith))
+      ∙ ap (cells f k i) (take-sets-before p l (i * k) (i * k) (omega arith))
       ∙ cells-take f k i (i * k) l (omega arith) in
       cells-snoc f k i (sets l (i * k) p) ∙ ap₂ (λ (a : List A) (b : List ℕ). a ++ (f b ∷ [])) old new
 

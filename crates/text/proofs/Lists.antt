@@ -7,7 +7,8 @@ use native.Mathlib.Omega.{arith}
 use mathlib.Core.Bool.{Bool, true, false, _&&_, and-eq-true-iff}
 use mathlib.Core.List.{List, [], _∷_, _++_, append-assoc}
 use lib.ListN.{length, getD, set, take, drop, replicate, length-append, length-drop, length-set, drop-of-length-le}
-use lib.Seq.{sets, sets-eq, set-comm, drop-cons, drop-drop, drop-set-add, drop-set-lt, take-set-le, take-at, take-nil, length-take-le, take-append-add, getD-drop}
+use lib.Seq.{sets, sets-eq, set-comm, drop-cons, drop-drop, drop-set-add, drop-set-lt, take-set-le, take-at, take-nil, length-take-le}
+use lib.Seq.{take-append-add, getD-drop}
 use borrow.Rule.Slice.PartMut.{putMid, drop-put}
 use Rattle.model.specs.Bytes.{all}
 
@@ -101,12 +102,15 @@ drop-after l ys a k b e h g =
 -- ==== a run of stores, seen from before it, from its start and from past it
 pub drop-sets : (vs l : List ℕ) (n i : ℕ) → drop n (sets l (n + i) vs) ≡ sets (drop n l) i vs
 drop-sets [] l n i = refl
-drop-sets (v ∷ vs) l n i = ap (λ (m : ℕ). drop n (sets (set l (n + i) v) m vs)) (sym (add-suc n i)) ∙ drop-sets vs (set l (n + i) v) n (suc i) ∙ ap (λ (z : List ℕ). sets z (suc i) vs) (drop-set-add n l i v)
+drop-sets (v ∷ vs) l n i =
+    ap (λ (m : ℕ). drop n (sets (set l (n + i) v) m vs)) (sym (add-suc n i)) ∙ drop-sets vs (set l (n + i) v) n (suc i)
+    ∙ ap (λ (z : List ℕ). sets z (suc i) vs) (drop-set-add n l i v)
 
 pub take-sets : (vs l : List ℕ) (i : ℕ) → i + length vs ≤ length l → take (i + length vs) (sets l i vs) ≡ take i l ++ vs
 take-sets vs l i h =
     let g : i ≤ length l = omega arith in
-    ap (take (i + length vs)) (sets-eq vs l i h) ∙ take-at (take i l ++ vs) _ (i + length vs) (length-append (take i l) vs ∙ ap (λ (n : ℕ). n + length vs) (length-take-le i l g))
+    ap (take (i + length vs)) (sets-eq vs l i h) ∙ take-at (take i l ++ vs) _ (i + length vs)
+    (length-append (take i l) vs ∙ ap (λ (n : ℕ). n + length vs) (length-take-le i l g))
 
 pub take-sets-before : (vs l : List ℕ) (i n : ℕ) → n ≤ i → take n (sets l i vs) ≡ take n l
 take-sets-before [] l i n h = refl
@@ -139,7 +143,8 @@ drop-take (suc k) (suc m) (x ∷ l) h = rw suc-sub-suc (drop-take k m l (omega a
 
 -- what is left to move, an element later
 copy-step : (o l : List ℕ) (at from i n : ℕ) → i < n → from + n ≤ length l
-    → sets o (at + i) (take (n - i) (drop (from + i) l)) ≡ sets (set o (at + i) (getD l (from + i) 0)) (at + (i + 1)) (take (n - (i + 1)) (drop (from + (i + 1)) l))
+    → sets o (at + i) (take (n - i) (drop (from + i) l))
+    ≡ sets (set o (at + i) (getD l (from + i) 0)) (at + (i + 1)) (take (n - (i + 1)) (drop (from + (i + 1)) l))
 copy-step o l at from i n h k =
     let p : n - i ≡ suc (n - (i + 1)) = omega arith in
     let q : suc (at + i) ≡ at + (i + 1) = omega arith in
@@ -159,11 +164,16 @@ pub moved : (q₀ q : List ℕ) (to from n i : ℕ) → Moving q₀ q to from n 
 moved q₀ q to from n i m h le k =
     let far : to + i + (from - to) ≡ from + i = omega arith in
     let b : getD q (from + i) 0 ≡ getD q₀ (from + i) 0 =
-    ap (λ (j : ℕ). getD q j 0) (sym far) ∙ sym (getD-drop (to + i) q (from - to) 0) ∙ ap (λ (l : List ℕ). getD l (from - to) 0) (m .ahead) ∙ getD-drop (to + i) q₀ (from - to) 0 ∙ ap (λ (j : ℕ). getD q₀ j 0) far in
+    ap (λ (j : ℕ). getD q j 0) (sym far) ∙ sym (getD-drop (to + i) q (from - to) 0) ∙ ap (λ (l : List ℕ). getD l (from - to) 0) (m .ahead)
+    ∙ getD-drop (to + i) q₀ (from - to) 0 ∙ ap (λ (j : ℕ). getD q₀ j 0) far in
     let up : to + (i + 1) ≡ to + i + 1 = omega arith in
     record {
       within = omega arith;
       same = length-set q _ _ ∙ m .same;
-      left = m .left ∙ copy-step q q₀ to from i n h k ∙ ap (λ (x : ℕ). sets (set q (to + i) x) (to + (i + 1)) (take (n - (i + 1)) (drop (from + (i + 1)) q₀))) (sym b);
-      ahead = drop-set-lt (to + (i + 1)) q (to + i) _ (omega arith) ∙ ap (λ (j : ℕ). drop j q) up ∙ sym (drop-drop 1 (to + i) q) ∙ ap (drop 1) (m .ahead) ∙ drop-drop 1 (to + i) q₀ ∙ ap (λ (j : ℕ). drop j q₀) (sym up);
+      left =
+          m .left ∙ copy-step q q₀ to from i n h k
+          ∙ ap (λ (x : ℕ). sets (set q (to + i) x) (to + (i + 1)) (take (n - (i + 1)) (drop (from + (i + 1)) q₀))) (sym b);
+      ahead =
+          drop-set-lt (to + (i + 1)) q (to + i) _ (omega arith) ∙ ap (λ (j : ℕ). drop j q) up ∙ sym (drop-drop 1 (to + i) q)
+          ∙ ap (drop 1) (m .ahead) ∙ drop-drop 1 (to + i) q₀ ∙ ap (λ (j : ℕ). drop j q₀) (sym up);
     }

@@ -55,7 +55,8 @@ little-next l at i size h k f =
     ∙ ap (λ (m : ℕ). getD l (at + (i - 1)) 0 + 256 * little (take (size - i) (drop m l))) n
     ∙ omega arith
 
-pub decimal-next : (l : List ℕ) (i n : ℕ) → i < length l → decimal-from n (drop i l) ≡ decimal-from (n * 10 + (getD l i 0 - 0x30)) (drop (i + 1) l)
+pub decimal-next : (l : List ℕ) (i n : ℕ) → i < length l
+    → decimal-from n (drop i l) ≡ decimal-from (n * 10 + (getD l i 0 - 0x30)) (drop (i + 1) l)
 decimal-next l i n h = ap (decimal-from n) (drop-next l i 0 h)
 
 -- ==== bounds: a number of k digits to a base, and one digit more

@@ -15,7 +15,9 @@ put-nothing o at = record { output = refl; place = sym (add-zero at) }
 pub put-then : {o o₁ o₂ a b : List ℕ} {at r₁ r₂ : ℕ} → Put o at a r₁ o₁ → Put o₁ r₁ b r₂ o₂ → Put o at (a ++ b) r₂ o₂
 put-then {o} {o₁} {o₂} {a} {b} {at} {r₁} {r₂} p q = record {
   output = q .output ∙ ap₂ (λ (l : List ℕ) (n : ℕ). sets l n b) (p .output) (p .place) ∙ sets-sets a b o at;
-  place = q .place ∙ ap (λ (n : ℕ). n + length b) (p .place) ∙ add-assoc at (length a) (length b) ∙ ap (λ (n : ℕ). at + n) (sym (length-append a b));
+  place =
+      q .place ∙ ap (λ (n : ℕ). n + length b) (p .place) ∙ add-assoc at (length a) (length b)
+      ∙ ap (λ (n : ℕ). at + n) (sym (length-append a b));
 }
 
 -- the same bytes by another name
@@ -63,4 +65,5 @@ left-as {o} {bs} {o′} {xs} {ys} {at} {to} e l = subst (λ (z : List ℕ). Left
 
 pub scratch : {o o′ bs : List ℕ} {r : ℕ} → length o ≡ length bs → Put o 0 bs r o′ → o′ ≡ bs
 scratch {o} {o′} {bs} e p =
-    p .output ∙ sets-eq bs o 0 (omega arith) ∙ ap (λ (l : List ℕ). bs ++ l) (drop-of-length-le o {i = 0 + length bs} (omega arith)) ∙ append-nil bs
+    p .output ∙ sets-eq bs o 0 (omega arith) ∙ ap (λ (l : List ℕ). bs ++ l) (drop-of-length-le o {i = 0 + length bs} (omega arith))
+    ∙ append-nil bs

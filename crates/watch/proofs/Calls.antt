@@ -10,7 +10,8 @@ use lib.Dec.{eqb}
 use lib.ListN.{length, length-append}
 use borrow.Author.Tests.{eqb-true, eqb-false, eq-eqb, ne-eqb}
 use Rattle.watch.specs.Marks.{Seen, copies-among, Every}
-use Rattle.watch.specs.Course.{Queue, empty, busy, Eff, rest, lone, first, keep, wait, swap, wipe, over, pass, beat, again, quit, quit-pass}
+use Rattle.watch.specs.Course.{Queue, empty, busy, Eff, rest, lone, first, keep, wait, swap, wipe, over, pass, beat, again, quit}
+use Rattle.watch.specs.Course.{quit-pass}
 
 -- ==== the numbers in a queue
 

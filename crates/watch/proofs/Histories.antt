@@ -21,7 +21,8 @@ copies-append n [] ys = omega arith
 copies-append n (x ∷ xs) ys = go (eqb (x .id) n) (copies-append n xs ys)
   where
     go : (b : Bool) → copies-among n (xs ++ ys) ≡ copies-among n xs + copies-among n ys
-        → cond b (suc (copies-among n (xs ++ ys))) (copies-among n (xs ++ ys)) ≡ cond b (suc (copies-among n xs)) (copies-among n xs) + copies-among n ys
+        → cond b (suc (copies-among n (xs ++ ys))) (copies-among n (xs ++ ys))
+        ≡ cond b (suc (copies-among n xs)) (copies-among n xs) + copies-among n ys
     go true ih = omega arith
     go false ih = ih
 
@@ -203,7 +204,8 @@ module _ (n : ℕ) where
       go false (inr h) l ih = let y = ih d h l in omega (arith, copies-append n (m .sent) (all-sent ms))
 
 -- taken by this call, sent within 840 ticks
-pub taken-in-time : {k : ℕ} {q : Queue} (before : List Mark) (m : Mark) (later : List Mark) → Course false k q (before ++ m ∷ later) → Good q k
+pub taken-in-time : {k : ℕ} {q : Queue} (before : List Mark) (m : Mark) (later : List Mark) → Course false k q (before ++ m ∷ later)
+    → Good q k
     → m .took ≡ true → Stays (m ∷ later) → 840 ≤ tick-count later → 0 < copies (m .number) (m ∷ later)
 taken-in-time [] m later (call {k = k} {q′ = q′} e r f c) g t u l =
     subst (λ (n : ℕ). 0 < copies n (m ∷ later)) (sym e) (go (due-taken (rw t at f) g))

@@ -13,7 +13,9 @@ returns : tie.Need-returns
 returns c =
     let n = c .before .before in
     let a = n .before .before .before .before .before .args in
-    refuse (bytes (a .session) (a .slice .now)) (a .table .now) (a .output .now) (n .hang-up .ensures ∙ bytes-refused (a .table .now) (length (a .output .now)) (a .session) (a .slice .now)) (c .before .if1 .taken) (c .refused .ensures)
+    refuse (bytes (a .session) (a .slice .now)) (a .table .now) (a .output .now)
+    (n .hang-up .ensures ∙ bytes-refused (a .table .now) (length (a .output .now)) (a .session) (a .slice .now)) (c .before .if1 .taken)
+    (c .refused .ensures)
 
 receive-requires : tie.Need-receive-requires
 receive-requires c κs =
@@ -31,7 +33,8 @@ returns-2 c =
     let n = i .before in
     let a = n .before .before .before .before .before .args in
     finish (bytes (a .session) (a .slice .now)) (a .table .now) (a .output .now) (d .receive .result) (c .before .consumed .result) 0
-    (n .hang-up .ensures ∙ bytes-refused (a .table .now) (length (a .output .now)) (a .session) (a .slice .now)) (i .if1 .left) (c .done .ensures) (c .before .consumed .ensures) refl
+    (n .hang-up .ensures ∙ bytes-refused (a .table .now) (length (a .output .now)) (a .session) (a .slice .now)) (i .if1 .left)
+    (c .done .ensures) (c .before .consumed .ensures) refl
     (d .receive .ensures .1) (omega (arith, d .receive .ensures .0))
 
 pub bytes-spec : {M : Type 1} → statement M

@@ -13,7 +13,8 @@ returns : tie.Need-returns
 returns c =
     let n = c .before .before in
     let a = n .before .before .before .before .args in
-    refuse (hang-up-session (a .session)) (a .table .now) (a .output .now) (n .hang-up .ensures) (c .before .if1 .taken) (c .refused .ensures)
+    refuse (hang-up-session (a .session)) (a .table .now) (a .output .now) (n .hang-up .ensures) (c .before .if1 .taken)
+    (c .refused .ensures)
 
 hang-up-requires-2 : tie.Need-hang-up-requires-2
 hang-up-requires-2 c κs =
@@ -28,7 +29,8 @@ returns-2 c =
     let i = d .before .before in
     let n = i .before in
     let a = n .before .before .before .before .args in
-    finish (hang-up-session (a .session)) (a .table .now) (a .output .now) 0 0 0 (n .hang-up .ensures) (i .if1 .left) (c .done .ensures) refl refl
+    finish (hang-up-session (a .session)) (a .table .now) (a .output .now) 0 0 0 (n .hang-up .ensures) (i .if1 .left)
+    (c .done .ensures) refl refl
     (hung-up-quietly (a .table .now) (a .output .now) (a .session) (d .hang-up2 .ensures)) (omega arith)
 
 pub hang-up-spec : {M : Type 1} → statement M

@@ -28,7 +28,8 @@ returns-2 c =
     let i = d .before .before in
     let n = i .before in
     let a = n .before .before .before .before .args in
-    finish (open-session (a .session)) (a .table .now) (a .output .now) 0 0 0 (n .«open» .ensures) (i .if1 .left) (c .done .ensures) refl refl
+    finish (open-session (a .session)) (a .table .now) (a .output .now) 0 0 0 (n .«open» .ensures) (i .if1 .left)
+    (c .done .ensures) refl refl
     (opened-quietly (a .table .now) (a .output .now) (a .session) (d .open2 .ensures)) (omega arith)
 
 pub open-spec : {M : Type 1} → statement M

@@ -10,8 +10,11 @@ result-requires c κs =
     let k = c .before in
     let p = k .before .before in
     let s = p .before .before .before .before in
-    let a = s .args in
-    (s .pre .0 .0, tightening-size (a .kind) (a .slice .now) (s .pre .0 .2) (p .payload .ensures) (k .enum-told2 .given .1), s .pre .1 (k .enum-told2 .given .1))
+    let a = s .args in (
+      s .pre .0 .0,
+      tightening-size (a .kind) (a .slice .now) (s .pre .0 .2) (p .payload .ensures) (k .enum-told2 .given .1),
+      s .pre .1 (k .enum-told2 .given .1),
+    )
 
 happens-requires-2 : tie.Need-happens-requires-2
 happens-requires-2 c κs =
@@ -19,8 +22,13 @@ happens-requires-2 c κs =
     let p = k .before .before in
     let s = p .before .before .before .before in
     let a = s .args in
-    let h = s .pre .0 .1 in
-    (s .pre .0 .0, omega arith, omega arith, scan-size (a .kind) (a .slice .now) (s .pre .0 .2) (p .payload .ensures) (k .enum-told3 .given .1))
+    let h = s .pre .0 .1 in (
+      s .pre .0 .0,
+      omega arith,
+      omega arith,
+      scan-size (a .kind) (a .slice .now) (s .pre .0 .2) (p .payload .ensures)
+          (k .enum-told3 .given .1),
+    )
 
 returns : tie.Need-returns
 returns c =
@@ -36,7 +44,8 @@ returns-2 c =
     let p = k .before .before in
     let s = p .before .before .before .before in
     let a = s .args in
-    tightening-reported (a .kind) (a .slice .now) (s .pre .0 .2) (a .table .now) (a .output .now) (r .result .result) (k .enum-told2 .given .1) (p .payload .ensures)
+    tightening-reported (a .kind) (a .slice .now) (s .pre .0 .2) (a .table .now) (a .output .now) (r .result .result)
+    (k .enum-told2 .given .1) (p .payload .ensures)
     (r .result .ensures) (h .happens .ensures .0) (h .happens .ensures .1) (h .happens .ensures .2)
 
 returns-3 : tie.Need-returns-3

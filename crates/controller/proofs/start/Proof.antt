@@ -35,7 +35,9 @@ returns-2 c =
     let a = n .before .before .before .before .args in
     let p = start-passes (a .table .now) (a .settings .now) (sym (n .start .ensures) ∙ i .if1 .left) in
     finish (start (a .settings .now)) (a .table .now) [] 0 0 0 (n .start .ensures) (i .if1 .left) (c .done .ensures) refl refl
-    (started-quietly (a .table .now) [] (a .settings .now) (p .1) (subst (λ (bs : List ℕ). Becomes (a .table .now) (begun (settings-of bs) 0) (d .start2 .last .0)) (d .before .payload .ensures) (d .start2 .ensures)))
+    (started-quietly (a .table .now) [] (a .settings .now) (p .1)
+    (subst (λ (bs : List ℕ). Becomes (a .table .now) (begun (settings-of bs) 0) (d .start2 .last .0)) (d .before .payload .ensures)
+    (d .start2 .ensures)))
     (omega arith)
 
 pub start-spec : {M : Type 1} → statement M

@@ -15,7 +15,8 @@ returns c =
     let k = n .before .before in
     let a = k .before .before .before .before .args in
     refuse (tool (a .slice .now)) (a .table .now) (a .output .now)
-    (n .tool-record .ensures ∙ tool-refused (a .table .now) (length (a .output .now)) (k .tool-kind .result) (a .slice .now) (k .tool-kind .ensures))
+    (n .tool-record .ensures ∙ tool-refused (a .table .now) (length (a .output .now)) (k .tool-kind .result) (a .slice .now)
+    (k .tool-kind .ensures))
     (c .before .if1 .taken) (c .refused .ensures)
 
 report-requires : tie.Need-report-requires
@@ -36,7 +37,8 @@ returns-2 c =
     let a = k .before .before .before .before .args in
     let e = r .report .ensures in
     finish (tool (a .slice .now)) (a .table .now) (a .output .now) (r .report .result .at) 0 (r .report .result .taken)
-    (n .tool-record .ensures ∙ tool-refused (a .table .now) (length (a .output .now)) (k .tool-kind .result) (a .slice .now) (k .tool-kind .ensures))
+    (n .tool-record .ensures ∙ tool-refused (a .table .now) (length (a .output .now)) (k .tool-kind .result) (a .slice .now)
+    (k .tool-kind .ensures))
     (i .if1 .left) (c .done .ensures) refl (e .2) (e .1) (omega (arith, e .0))
 
 pub tool-record-spec : {M : Type 1} → statement M

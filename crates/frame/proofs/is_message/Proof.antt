@@ -11,7 +11,8 @@ returns-3 : tie.Need-returns-3
 returns-3 c =
     let t = c .before .before .before in
     let a = t .before .before .before .args in
-    no-length (a .run .now) (a .count) (t .before .if1 .left) (t .if2 .left) (sym (c .before .is-digits .ensures) ∙ not-true _ (c .if3 .taken))
+    no-length (a .run .now) (a .count) (t .before .if1 .left) (t .if2 .left)
+    (sym (c .before .is-digits .ensures) ∙ not-true _ (c .if3 .taken))
 
 decimal-requires : tie.Need-decimal-requires
 decimal-requires c κs =
@@ -23,7 +24,8 @@ returns-4 c =
     let d = c .before .before in
     let t = d .before .before .before in
     let a = t .before .before .before .args in
-    other-length (a .run .now) (a .count) (t .before .if1 .left) (t .if2 .left) (sym (d .before .is-digits .ensures) ∙ not-false _ (d .if3 .left))
+    other-length (a .run .now) (a .count) (t .before .if1 .left) (t .if2 .left)
+    (sym (d .before .is-digits .ensures) ∙ not-false _ (d .if3 .left))
     (λ e. c .if4 .taken (c .before .decimal .ensures .0 ∙ e))
 
 returns-5 : tie.Need-returns-5
@@ -43,7 +45,8 @@ returns-6 c =
     let d = o .before .before in
     let t = d .before .before .before in
     let a = t .before .before .before .args in
-    no-revision (a .run .now) (a .count) (t .before .if1 .left) (t .if2 .left) (sym (d .before .is-digits .ensures) ∙ not-false _ (d .if3 .left))
+    no-revision (a .run .now) (a .count) (t .before .if1 .left) (t .if2 .left)
+    (sym (d .before .is-digits .ensures) ∙ not-false _ (d .if3 .left))
     (sym (o .before .decimal .ensures .0) ∙ o .if4 .left)
     (sym (m .before .is-digits2 .ensures) ∙ not-false _ (m .if5 .left))
     (sym (c .before .is-revision .ensures) ∙ not-true _ (c .if6 .taken))
@@ -56,7 +59,8 @@ returns-7 c =
     let d = o .before .before in
     let t = d .before .before .before in
     let a = t .before .before .before .args in
-    by-flag (a .run .now) (a .count) (t .before .if1 .left) (t .if2 .left) (sym (d .before .is-digits .ensures) ∙ not-false _ (d .if3 .left))
+    by-flag (a .run .now) (a .count) (t .before .if1 .left) (t .if2 .left)
+    (sym (d .before .is-digits .ensures) ∙ not-false _ (d .if3 .left))
     (sym (o .before .decimal .ensures .0) ∙ o .if4 .left)
     (sym (m .before .is-digits2 .ensures) ∙ not-false _ (m .if5 .left))
     _

@@ -12,8 +12,11 @@ use Rattle.frame.proofs.put_0002.Tie as tie
 put-fields-requires : tie.Need-put-fields-requires
 unfolding layout-length
 put-fields-requires c κs =
-    let s = c .before .before .before .before .before .before .before in
-    (serves controller 33 (s .args .settings .now) (s .pre .2) refl, omega (arith, c .before .before .before .put-header .ensures .0), omega arith)
+    let s = c .before .before .before .before .before .before .before in (
+      serves controller 33 (s .args .settings .now) (s .pre .2) refl,
+      omega (arith, c .before .before .before .put-header .ensures .0),
+      omega arith,
+    )
 
 returns : tie.Need-returns
 returns c =

@@ -16,7 +16,8 @@ returns c =
     let d = e .before .before .before in
     let h = d .before .before .before in
     let a = h .before .before .before .args in
-    let f = built 26 4 1 32 _ (simp (length-append, digits-length)) refl (put-then (h .put-header .ensures .1) (put-then (d .put-digits .ensures .1) (e .put-digits2 .ensures .1))) in
+    let f = built 26 4 1 32 _ (simp (length-append, digits-length)) refl
+    (put-then (h .put-header .ensures .1) (put-then (d .put-digits .ensures .1) (e .put-digits2 .ensures .1))) in
     (search needs, put-as (ap (frame-record (a .s)) (f ∙ is-0004 (a .mid) (a .error))) (r .put-frame .ensures .1))
 
 pub put-0004-spec : {M : Type 1} → statement M

@@ -12,8 +12,11 @@ use Rattle.frame.proofs.put_0052_2.Tie as tie
 put-fields-requires : tie.Need-put-fields-requires
 unfolding layout-length
 put-fields-requires c κs =
-    let s = c .before .before .before .before .before .before .before .before in
-    (serves identifier-2 25 (s .args .identifier .now) (s .pre .0 .2) refl, omega (arith, c .before .before .before .put-header .ensures .0), omega arith)
+    let s = c .before .before .before .before .before .before .before .before in (
+      serves identifier-2 25 (s .args .identifier .now) (s .pre .0 .2) refl,
+      omega (arith, c .before .before .before .put-header .ensures .0),
+      omega arith,
+    )
 
 returns : tie.Need-returns
 returns c =
@@ -23,7 +26,8 @@ returns c =
     let b = h .before in
     let s = b .before .before .before .before in
     let a = s .args in
-    let f = built-0052-2 (a .no-acknowledge) (b .byte-12 .result) (b .byte-12 .ensures) (a .identifier .now) (s .pre .0 .2) (a .revision) (s .pre .1) refl (h .put-header .ensures .1) (g .put-fields .ensures .1) in
+    let f = built-0052-2 (a .no-acknowledge) (b .byte-12 .result) (b .byte-12 .ensures) (a .identifier .now) (s .pre .0 .2) (a .revision)
+    (s .pre .1) refl (h .put-header .ensures .1) (g .put-fields .ensures .1) in
     (search needs, put-as (ap (frame-record (a .s)) f) (r .put-frame .ensures .1))
 
 pub put-0052-2-spec : {M : Type 1} → statement M

@@ -40,8 +40,10 @@ put-value-requires c κs =
     let t = d .before .before in
     let s = t .before .before .before .before in
     let e = turn t in
-    let z = t .before .loop .inv .2 .size in
-    (all-at (served (length (s .args .source .now))) (s .args .rows .now) _ [] (s .pre .0) (t .loop-test .taken), omega (arith, d .put-digits .ensures .0))
+    let z = t .before .loop .inv .2 .size in (
+      all-at (served (length (s .args .source .now))) (s .args .rows .now) _ [] (s .pre .0) (t .loop-test .taken),
+      omega (arith, d .put-digits .ensures .0),
+    )
 
 loop-again : tie.Need-loop-again Inv-loop μ-loop
 loop-again c =

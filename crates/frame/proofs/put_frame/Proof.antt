@@ -12,7 +12,8 @@ returns c =
     let q = i .before .before .before .before in
     let p = q .before .before .before .before in (
       search needs,
-      put-as (frame-record-is _ _) (put-then (put-then (put-then (p .put-little .ensures .1) (q .put-little2 .ensures .1)) (i .copy .ensures)) (z .put-little3 .ensures .1)),
+      put-as (frame-record-is _ _) (put-then (put-then (put-then (p .put-little .ensures .1) (q .put-little2 .ensures .1))
+          (i .copy .ensures)) (z .put-little3 .ensures .1)),
     )
 
 pub put-frame-spec : {M : Type 1} → statement M

@@ -13,7 +13,9 @@ returns c =
     let q = i .before .before .before .before in
     let p = q .before .before .before .before in (
       search needs,
-      put-as (header-is _ _ _ _) (put-then (put-then (put-then (put-then (p .put-digits .ensures .1) (q .put-digits2 .ensures .1)) (i .put-digits3 .ensures .1)) (f .fill .ensures .1)) (g .fill2 .ensures .1)),
+      put-as (header-is _ _ _ _) (put-then (put-then
+          (put-then (put-then (p .put-digits .ensures .1) (q .put-digits2 .ensures .1)) (i .put-digits3 .ensures .1)) (f .fill .ensures .1))
+          (g .fill2 .ensures .1)),
     )
 
 pub put-header-spec : {M : Type 1} → statement M

@@ -13,7 +13,8 @@ use Rattle.frame.proofs.put_value.Tie as tie
 
 -- a text's bytes are in the source, and so are a number's
 module _ (c : tie.Then1) where
-  copied : let a = c .before .before .before .before .before .before .args in getD (a .row .now) 2 0 + getD (a .row .now) 0 0 ≤ length (a .source .now)
+  copied : let a =
+      c .before .before .before .before .before .before .args in getD (a .row .now) 2 0 + getD (a .row .now) 0 0 ≤ length (a .source .now)
   copied =
       let s = c .before .before .before .before .before .before in
       copied-fits (s .args .source .now) (s .args .row .now) (s .pre .0) (c .if1 .taken)
@@ -32,13 +33,17 @@ returns c =
     let row = s .args .row .now in
     let source = s .args .source .now in
     let w = add-sub-cancel-left (getD row 2 0) (getD row 0 0) in
-    let p = put-as (ap (λ (n : ℕ). take n (drop (getD row 2 0) source)) w ∙ value-copied source row (t .if1 .taken)) (c .before .before .copy .ensures) in
+    let p = put-as (ap (λ (n : ℕ). take n (drop (getD row 2 0) source)) w ∙ value-copied source row (t .if1 .taken))
+    (c .before .before .copy .ensures) in
     (p .place ∙ ap (λ (n : ℕ). s .args .at + n) (value-length source row (s .pre .0)), p)
 
 returns-2 : tie.Need-returns-2
 returns-2 c =
-    let s = c .before .before .before .before .before .before .before .before .before .before .before in
-    (search needs, put-as (value-blank (s .args .source .now) (s .args .row .now) (c .before .before .before .before .if2 .taken)) (c .before .before .fill .ensures .1))
+    let s = c .before .before .before .before .before .before .before .before .before .before .before in (
+      search needs,
+      put-as (value-blank (s .args .source .now) (s .args .row .now) (c .before .before .before .before .if2 .taken))
+          (c .before .before .fill .ensures .1),
+    )
 
 little-requires : tie.Need-little-requires
 little-requires c κs =
@@ -52,7 +57,8 @@ returns-3 c =
     let i = c .before .before .before .before .before in
     let s = i .before .before .before .before .before .before .before in (
       search needs,
-      put-as (value-number (s .args .source .now) (s .args .row .now) (i .before .if1 .left) (i .if2 .left) (c .before .before .before .little .ensures .0))
+      put-as (value-number (s .args .source .now) (s .args .row .now) (i .before .if1 .left) (i .if2 .left)
+          (c .before .before .before .little .ensures .0))
           (c .before .before .put-digits .ensures .1),
     )
 

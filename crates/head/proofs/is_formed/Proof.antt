@@ -39,17 +39,57 @@ is-formed-spec =
     (λ c. search needs)
     (λ c. rw (le-leb _ _ (c .before .before .if1 .left), le-ltb _ _ (c .if2 .taken)))
     (λ c. search needs)
-    (λ c. rw (le-leb _ _ (c .before .before .before .before .if1 .left), lt-ltb _ _ (c .before .before .if2 .left), lt-leb _ _ (c .if3 .taken)))
+    (λ c. rw (
+      le-leb _ _ (c .before .before .before .before .if1 .left),
+      lt-ltb _ _ (c .before .before .if2 .left),
+      lt-leb _ _ (c .if3 .taken),
+    ))
     (λ c. search needs)
-    (λ c. rw (le-leb _ _ (c .before .before .before .before .before .before .if1 .left), lt-ltb _ _ (c .before .before .before .before .if2 .left), le-leb _ _ (c .before .before .if3 .left), le-ltb _ _ (c .if4 .taken)))
+    (λ c. rw (
+      le-leb _ _ (c .before .before .before .before .before .before .if1 .left),
+      lt-ltb _ _ (c .before .before .before .before .if2 .left),
+      le-leb _ _ (c .before .before .if3 .left),
+      le-ltb _ _ (c .if4 .taken),
+    ))
     (λ c. search needs)
-    (λ c. rw (le-leb _ _ (c .before .before .before .before .before .before .before .before .if1 .left), lt-ltb _ _ (c .before .before .before .before .before .before .if2 .left), le-leb _ _ (c .before .before .before .before .if3 .left), lt-ltb _ _ (c .before .before .if4 .left), lt-leb _ _ (c .if5 .taken)))
+    (λ c. rw (
+      le-leb _ _ (c .before .before .before .before .before .before .before .before .if1 .left),
+      lt-ltb _ _ (c .before .before .before .before .before .before .if2 .left),
+      le-leb _ _ (c .before .before .before .before .if3 .left),
+      lt-ltb _ _ (c .before .before .if4 .left),
+      lt-leb _ _ (c .if5 .taken),
+    ))
     (λ c. search needs)
-    (λ c. rw (le-leb _ _ (c .before .before .before .before .before .before .before .before .before .before .if1 .left), lt-ltb _ _ (c .before .before .before .before .before .before .before .before .if2 .left), le-leb _ _ (c .before .before .before .before .before .before .if3 .left), lt-ltb _ _ (c .before .before .before .before .if4 .left), le-leb _ _ (c .before .before .if5 .left), lt-leb _ _ (c .if6 .taken)))
+    (λ c. rw (
+      le-leb _ _ (c .before .before .before .before .before .before .before .before .before .before .if1 .left),
+      lt-ltb _ _ (c .before .before .before .before .before .before .before .before .if2 .left),
+      le-leb _ _ (c .before .before .before .before .before .before .if3 .left),
+      lt-ltb _ _ (c .before .before .before .before .if4 .left),
+      le-leb _ _ (c .before .before .if5 .left),
+      lt-leb _ _ (c .if6 .taken),
+    ))
     (λ c. search needs)
-    (λ c. rw (le-leb _ _ (c .before .before .before .before .before .before .before .before .before .before .before .before .if1 .left), lt-ltb _ _ (c .before .before .before .before .before .before .before .before .before .before .if2 .left), le-leb _ _ (c .before .before .before .before .before .before .before .before .if3 .left), lt-ltb _ _ (c .before .before .before .before .before .before .if4 .left), le-leb _ _ (c .before .before .before .before .if5 .left), le-leb _ _ (c .before .before .if6 .left), le-ltb _ _ (c .if7 .taken)))
+    (λ c. rw (
+      le-leb _ _ (c .before .before .before .before .before .before .before .before .before .before .before .before .if1 .left),
+      lt-ltb _ _ (c .before .before .before .before .before .before .before .before .before .before .if2 .left),
+      le-leb _ _ (c .before .before .before .before .before .before .before .before .if3 .left),
+      lt-ltb _ _ (c .before .before .before .before .before .before .if4 .left),
+      le-leb _ _ (c .before .before .before .before .if5 .left),
+      le-leb _ _ (c .before .before .if6 .left),
+      le-ltb _ _ (c .if7 .taken),
+    ))
     (λ c. search needs)
-    (λ c. rw (le-leb _ _ (c .before .before .before .before .before .before .before .before .before .before .before .before .before .before .if1 .left), lt-ltb _ _ (c .before .before .before .before .before .before .before .before .before .before .before .before .if2 .left), le-leb _ _ (c .before .before .before .before .before .before .before .before .before .before .if3 .left), lt-ltb _ _ (c .before .before .before .before .before .before .before .before .if4 .left), le-leb _ _ (c .before .before .before .before .before .before .if5 .left), le-leb _ _ (c .before .before .before .before .if6 .left), lt-ltb _ _ (c .before .before .if7 .left), lt-leb _ _ (c .if8 .taken)))
+    (λ c. rw (
+      le-leb _ _
+          (c .before .before .before .before .before .before .before .before .before .before .before .before .before .before .if1 .left),
+      lt-ltb _ _ (c .before .before .before .before .before .before .before .before .before .before .before .before .if2 .left),
+      le-leb _ _ (c .before .before .before .before .before .before .before .before .before .before .if3 .left),
+      lt-ltb _ _ (c .before .before .before .before .before .before .before .before .if4 .left),
+      le-leb _ _ (c .before .before .before .before .before .before .if5 .left),
+      le-leb _ _ (c .before .before .before .before .if6 .left),
+      lt-ltb _ _ (c .before .before .if7 .left),
+      lt-leb _ _ (c .if8 .taken),
+    ))
     (λ c. search needs)
     (λ c. search needs)
     (λ c. search needs)

@@ -16,7 +16,8 @@ returns c =
     let s = h .before .before .before .before in
     rw (q .put-little2 .ensures .1 .output, p .put-little .ensures .1 .output, y .copy .ensures .output)
     (stores (s .args .head .now) (s .args .x) (h .phase-byte .result) (f .form-byte .result) (g .form-byte2 .result) (s .pre .0) (s .pre .1)
-    (h .phase-byte .ensures .0) (h .phase-byte .ensures .1) (f .form-byte .ensures .0) (f .form-byte .ensures .1) (g .form-byte2 .ensures .0) (g .form-byte2 .ensures .1)
+    (h .phase-byte .ensures .0) (h .phase-byte .ensures .1) (f .form-byte .ensures .0) (f .form-byte .ensures .1)
+    (g .form-byte2 .ensures .0) (g .form-byte2 .ensures .1)
     (omega (arith, g .before .struct-known3 .given .1)) (omega (arith, y .before .before .before .struct-known5 .given .1)))
 
 pub store-spec : {M : Type 1} → statement M

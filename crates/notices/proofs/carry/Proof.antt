@@ -26,7 +26,8 @@ returns c =
     let q = d .shift-down .last .0 in (
       ap (λ (n : ℕ). notices-in (a .kind) n q) (sym h) ∙ d .shift-down .ensures,
       omega arith,
-      put-as (nothing-sent (a .s) (settings-of (a .settings .now)) (a .step .next .revision) (a .step .send) (a .kind) (a .step .next .held) q (not-true _ (c .if1 .taken))) (put-nothing _ _),
+      put-as (nothing-sent (a .s) (settings-of (a .settings .now)) (a .step .next .revision) (a .step .send) (a .kind)
+          (a .step .next .held) q (not-true _ (c .if1 .taken))) (put-nothing _ _),
     )
 
 -- the first place is there
@@ -35,7 +36,8 @@ module _ (c : tie.After-place-size) where
   fits =
       let i = c .before .before in
       let s = i .before .before .before .before .before .before .before .before .before in
-      first-fits (c .place-size .result) (s .args .held) (length (s .args .places .now)) (rw (c .place-size .ensures) (s .pre .1 .0)) (was-some (s .args .held) (s .args .step) (s .pre .1 .1) (not-false _ (i .if1 .left)))
+      first-fits (c .place-size .result) (s .args .held) (length (s .args .places .now)) (rw (c .place-size .ensures) (s .pre .1 .0))
+      (was-some (s .args .held) (s .args .step) (s .pre .1 .1) (not-false _ (i .if1 .left)))
 
 returns-2 : tie.Need-returns-2
 returns-2 c =
@@ -50,7 +52,8 @@ returns-2 c =
     let b = not-false _ (i .if1 .left) in (
       ap (λ (n : ℕ). notices-in (a .kind) n q) (sym h) ∙ d .shift-down .ensures,
       p .put-copy .ensures .0,
-      put-as (first-sent (a .s) (settings-of (a .settings .now)) (a .step .next .revision) (a .step .send) (a .kind) (a .step .next .held) q (z .place-size .result) b (z .place-size .ensures) (s .pre .1 .1 .one b)) (p .put-copy .ensures .1),
+      put-as (first-sent (a .s) (settings-of (a .settings .now)) (a .step .next .revision) (a .step .send) (a .kind)
+          (a .step .next .held) q (z .place-size .result) b (z .place-size .ensures) (s .pre .1 .1 .one b)) (p .put-copy .ensures .1),
     )
 
 pub carry-spec : {M : Type 1} → statement M

@@ -8,7 +8,9 @@ use Rattle.notices.proofs.hold.Tie as tie
 
 module _ (c : tie.After-place-size) where
   fits : let s = c .before .before .before in s .args .i * c .place-size .result + c .place-size .result ≤ length (s .args .places .now)
-  fits = let s = c .before .before .before in place-fits (s .args .kind) (s .args .i) (c .place-size .result) (length (s .args .places .now)) (s .pre .0) (c .place-size .ensures) (s .pre .1)
+  fits =
+      let s = c .before .before .before in place-fits (s .args .kind) (s .args .i) (c .place-size .result) (length (s .args .places .now))
+      (s .pre .0) (c .place-size .ensures) (s .pre .1)
 
 copy-requires : tie.Need-copy-requires
 copy-requires c κs =
@@ -23,7 +25,8 @@ returns c =
     let z = y .before .before in
     let s = z .before .before .before in
     let a = s .args in
-    rw (y .copy .ensures .output) (held-at (a .kind) (a .i) (z .place-size .result) (a .places .now) (a .place .now) (z .place-size .ensures) (s .pre .2) (fits z))
+    rw (y .copy .ensures .output) (held-at (a .kind) (a .i) (z .place-size .result) (a .places .now) (a .place .now)
+    (z .place-size .ensures) (s .pre .2) (fits z))
 
 pub hold-spec : {M : Type 1} → statement M
 hold-spec =

@@ -20,7 +20,8 @@ module _ (c : tie.After-place-size) where
   fit : let s = c .before .before .before in c .place-size .result ≤ length (s .args .places .now)
   fit =
       let s = c .before .before .before in
-      first-fits (c .place-size .result) (s .args .held) (length (s .args .places .now)) (rw (c .place-size .ensures) (s .pre .0)) (one (c .before))
+      first-fits (c .place-size .result) (s .args .held) (length (s .args .places .now)) (rw (c .place-size .ensures) (s .pre .0))
+      (one (c .before))
 
 returns-2 : tie.Need-returns-2
 returns-2 c =
@@ -29,7 +30,8 @@ returns-2 c =
     let i = z .before in
     let s = i .before .before in
     let a = s .args in
-    rw (t .shift .ensures) (is-shifted (a .kind) (a .held) (a .places .now) (a .shift) (z .place-size .result) (not-false _ (i .if1 .left)) (z .place-size .ensures) (s .pre .0) (one i))
+    rw (t .shift .ensures) (is-shifted (a .kind) (a .held) (a .places .now) (a .shift) (z .place-size .result) (not-false _ (i .if1 .left))
+    (z .place-size .ensures) (s .pre .0) (one i))
 
 pub shift-down-spec : {M : Type 1} → statement M
 shift-down-spec =

@@ -42,7 +42,8 @@ module _ (c : tie.In-loop Inv-loop μ-loop) where
   size : item-length (item-of row) ≡ getD row 1 0
   size = row-length row ready
 
-  there : c .before .loop .at + getD row 1 0 + payload-length (items (drop (c .before .loop .k + 1) rows)) ≡ length (c .before .before .before .args .s .now)
+  there : c .before .loop .at + getD row 1 0 + payload-length (items (drop (c .before .loop .k + 1) rows))
+      ≡ length (c .before .before .before .args .s .now)
   there =
       let n = length-next rows (c .before .before .before .args .s .now) (c .before .loop .k) (c .loop-test .taken) in
       let e = size in
@@ -64,7 +65,8 @@ returns c =
     let s = t .before .before .before .args .s .now in
     let w = add-sub-cancel-left (l .at) (getD (row t) 1 0) in
     items-stop (rows t) s (l .k) (l .at) (getD (row t) 1 0) (t .loop-test .taken) (size t)
-    (ap (λ (n : ℕ). good-item (item-of (row t)) (take n (drop (l .at) s))) (sym w) ∙ sym (c .before .good-item .ensures) ∙ not-true _ (c .if1 .taken))
+    (ap (λ (n : ℕ). good-item (item-of (row t)) (take n (drop (l .at) s))) (sym w) ∙ sym (c .before .good-item .ensures)
+    ∙ not-true _ (c .if1 .taken))
     (l .inv .1)
 
 loop-again : tie.Need-loop-again Inv-loop μ-loop
@@ -75,7 +77,8 @@ loop-again c =
     let w = add-sub-cancel-left (l .at) (getD (row t) 1 0) in (
       there t,
       items-go-on (rows t) s (l .k) (l .at) (getD (row t) 1 0) (t .loop-test .taken) (size t)
-          (ap (λ (n : ℕ). good-item (item-of (row t)) (take n (drop (l .at) s))) (sym w) ∙ sym (c .before .good-item .ensures) ∙ not-false _ (c .if1 .left))
+          (ap (λ (n : ℕ). good-item (item-of (row t)) (take n (drop (l .at) s))) (sym w) ∙ sym (c .before .good-item .ensures)
+          ∙ not-false _ (c .if1 .left))
           (l .inv .1),
     )
 

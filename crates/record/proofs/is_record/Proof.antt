@@ -17,7 +17,8 @@ returns-2 c =
 returns-3 : tie.Need-returns-3
 returns-3 c =
     let a = c .before .before .before .before .before .args in
-    by-kind (a .kind) (a .slice .now) (ap (λ (n : ℕ). 4 + n) (sym (c .before .before .little .ensures .0)) ∙ c .before .if2 .left) (c .little2 .ensures .0)
+    by-kind (a .kind) (a .slice .now) (ap (λ (n : ℕ). 4 + n) (sym (c .before .before .little .ensures .0)) ∙ c .before .if2 .left)
+    (c .little2 .ensures .0)
 
 pub is-record-spec : {M : Type 1} → statement M
 is-record-spec =

@@ -20,13 +20,15 @@ returns : tie.Need-returns Inv-loop μ-loop
 returns c =
     let t = c .before .before .before in
     let l = t .before .loop in
-    time-stops (t .before .before .before .args .s .now) (l .i) (t .loop-test .taken) (sym (c .before .good-at .ensures) ∙ not-true _ (c .if1 .taken)) (l .inv)
+    time-stops (t .before .before .before .args .s .now) (l .i) (t .loop-test .taken)
+    (sym (c .before .good-at .ensures) ∙ not-true _ (c .if1 .taken)) (l .inv)
 
 loop-again : tie.Need-loop-again Inv-loop μ-loop
 loop-again c =
     let t = c .before .before .before in
     let l = t .before .loop in
-    time-goes-on (t .before .before .before .args .s .now) (l .i) (t .loop-test .taken) (sym (c .before .good-at .ensures) ∙ not-false _ (c .if1 .left)) (l .inv)
+    time-goes-on (t .before .before .before .args .s .now) (l .i) (t .loop-test .taken)
+    (sym (c .before .good-at .ensures) ∙ not-false _ (c .if1 .left)) (l .inv)
 
 returns-2 : tie.Need-returns-2 Inv-loop μ-loop
 returns-2 c = time-ends (c .before .before .before .args .s .now) (c .before .loop .i) (c .loop-test .left) (c .before .loop .inv)

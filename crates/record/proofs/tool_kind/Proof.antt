@@ -12,12 +12,18 @@ returns c = rw (sym (c .before .good-record .ensures) ∙ c .if1 .taken)
 returns-2 : tie.Need-returns-2
 unfolding read-tool
 returns-2 c =
-    rw (sym (c .before .before .before .before .good-record .ensures) ∙ c .before .before .before .if1 .left, sym (c .before .good-record2 .ensures) ∙ c .if2 .taken)
+    rw (
+      sym (c .before .before .before .before .good-record .ensures) ∙ c .before .before .before .if1 .left,
+      sym (c .before .good-record2 .ensures) ∙ c .if2 .taken,
+    )
 
 returns-3 : tie.Need-returns-3
 unfolding read-tool
 returns-3 c =
-    rw (sym (c .before .before .before .before .good-record .ensures) ∙ c .before .before .before .if1 .left, sym (c .before .good-record2 .ensures) ∙ c .if2 .left)
+    rw (
+      sym (c .before .before .before .before .good-record .ensures) ∙ c .before .before .before .if1 .left,
+      sym (c .before .good-record2 .ensures) ∙ c .if2 .left,
+    )
 
 pub tool-kind-spec : {M : Type 1} → statement M
 tool-kind-spec =

@@ -19,7 +19,8 @@ returns-2 : tie.Need-returns-2
 unfolding refusal
 returns-2 c =
     let a = c .before .before .before .before .args in
-    own-gives (a .table .now) (a .output) (hang-up-own (a .table .now) (a .session)) (c .before .before .tick .ensures) (c .before .if1 .left)
+    own-gives (a .table .now) (a .output) (hang-up-own (a .table .now) (a .session)) (c .before .before .tick .ensures)
+    (c .before .if1 .left)
     (rw (le-leb session-count (a .session) (c .if2 .taken)))
 
 is-closed-requires : tie.Need-is-closed-requires

@@ -21,7 +21,8 @@ acknowledge-kind-requires c κs =
       (p .0, p .1, p .2, p .6),
       (
         p .3,
-        subst (λ (z : Subscription). Kept (a .kind) z (places-of (a .kind) (a .region .now))) (sym (x .subscription-of .ensures)) (kept-kind (a .kind) (p .6) (a .region .now) (a .x) (p .3) (p .4)),
+        subst (λ (z : Subscription). Kept (a .kind) z (places-of (a .kind) (a .region .now))) (sym (x .subscription-of .ensures))
+            (kept-kind (a .kind) (p .6) (a .region .now) (a .x) (p .3) (p .4)),
       ),
     )
 
@@ -31,8 +32,12 @@ store-requires c κs =
     let s = t .before .before .before .before .before .before .before in
     let p = s .pre in
     let a = s .args in
-    let g = t .acknowledge-kind .ensures .1 .good in
-    (g, subst Storable (sym (c .with-subscription .ensures)) (storable-one (a .x) (p .5) (a .kind) (p .6) (t .acknowledge-kind .last .0) g (p .4) (t .acknowledge-kind .result .next) (t .acknowledge-kind .ensures .2 .kept)))
+    let g = t .acknowledge-kind .ensures .1 .good in (
+      g,
+      subst Storable (sym (c .with-subscription .ensures))
+          (storable-one (a .x) (p .5) (a .kind) (p .6) (t .acknowledge-kind .last .0) g (p .4) (t .acknowledge-kind .result .next)
+          (t .acknowledge-kind .ensures .2 .kept)),
+    )
 
 returns : tie.Need-returns
 returns c =
@@ -46,7 +51,8 @@ returns c =
       t .acknowledge-kind .ensures .0,
       one-stored (a .x) (p .5) (a .s) (settings-of (a .settings .now)) acks
           (a .region .now) (t .acknowledge-kind .last .0) (w .store .last .0) (t .acknowledge-kind .result .next)
-          (a .kind) (p .6) (x .subscription-of .result) (x .subscription-of .ensures) (y .with-subscription .result) (y .with-subscription .ensures)
+          (a .kind) (p .6) (x .subscription-of .result) (x .subscription-of .ensures) (y .with-subscription .result)
+          (y .with-subscription .ensures)
           (t .acknowledge-kind .ensures .1) (t .acknowledge-kind .ensures .2) (w .store .ensures) (t .acknowledge-kind .ensures .3),
     )
 

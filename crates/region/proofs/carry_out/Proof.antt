@@ -25,8 +25,11 @@ returns c =
     let l = m .before .before .before in
     let s = l .before .before .before .before .before in
     let a = s .args in
-    let p = s .pre in
-    (omega arith, quiet-so (a .s) (settings-of (a .settings .now)) (a .region .now) (l .clear-run .last .0) (a .x) (p .0 .3) (p .1 .0) (l .clear-run .ensures) (a .at) (a .d) (y .after .result) (m .match .keys2) (y .after .ensures) (w .store .ensures))
+    let p = s .pre in (
+      omega arith,
+      quiet-so (a .s) (settings-of (a .settings .now)) (a .region .now) (l .clear-run .last .0) (a .x) (p .0 .3) (p .1 .0)
+          (l .clear-run .ensures) (a .at) (a .d) (y .after .result) (m .match .keys2) (y .after .ensures) (w .store .ensures),
+    )
 
 acknowledged-requires : tie.Need-acknowledged-requires
 acknowledged-requires c κs =
@@ -36,7 +39,8 @@ acknowledged-requires c κs =
     let a = s .args in
     let p = s .pre in
     let known = subst (AcknowledgedIn (a .x .phase)) (d .d .given .1) (p .1 .2) in
-    let h = heard-storable (a .s) (settings-of (a .settings .now)) (a .region .now) (l .clear-run .last .0) (a .x) (p .0 .3) (p .1 .0) (l .clear-run .ensures) (known .0) (c .heard .result) (c .heard .ensures) in
+    let h = heard-storable (a .s) (settings-of (a .settings .now)) (a .region .now) (l .clear-run .last .0) (a .x) (p .0 .3) (p .1 .0)
+    (l .clear-run .ensures) (known .0) (c .heard .result) (c .heard .ensures) in
     (omega (arith, p .0 .0, copy-within _ (known .1)), p .0 .1, p .0 .2, l .clear-run .ensures .good, h .0, h .1, known .1)
 
 returns-2 : tie.Need-returns-2
@@ -50,7 +54,8 @@ returns-2 c =
     let p = s .pre in
     let known = subst (AcknowledgedIn (a .x .phase)) (d .d .given .1) (p .1 .2) in (
       omega (arith, k .acknowledged .ensures .0, copy-within _ (known .1)),
-      acknowledged-so (a .s) (settings-of (a .settings .now)) (a .region .now) (l .clear-run .last .0) (a .x) (p .0 .3) (p .1 .0) (l .clear-run .ensures)
+      acknowledged-so (a .s) (settings-of (a .settings .now)) (a .region .now) (l .clear-run .last .0) (a .x) (p .0 .3) (p .1 .0)
+          (l .clear-run .ensures)
           (known .0) _ (a .d) (h .heard .result) (h .heard .ensures) (d .d .given .1) (k .acknowledged .ensures .1),
     )
 

@@ -8,7 +8,8 @@ returns : tie.Need-returns
 returns c =
     let p = c .before .before in
     let s = p .before .before .before in
-    run-replaced (s .args .region .now) (p .clear .last .0) (s .pre) _ (p .clear .ensures .1 .size) (p .clear .ensures .0) (p .clear .ensures .1 .formed)
+    run-replaced (s .args .region .now) (p .clear .last .0) (s .pre) _ (p .clear .ensures .1 .size) (p .clear .ensures .0)
+    (p .clear .ensures .1 .formed)
 
 pub clear-run-spec : {M : Type 1} → statement M
 clear-run-spec =

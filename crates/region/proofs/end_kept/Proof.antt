@@ -19,7 +19,8 @@ carry-out-requires c κs =
     let a = s .args in
     let w = n .lengthen .ensures in
     let v = ruled-as _ _ _ (λ i. w .run i .kept) (λ i. w .run i .count) (u .rule-kept .ensures) in
-    let after = storable-after (a .s) (settings-of (a .settings .now)) (a .region .now) (p .3) (x .load .result) (x .load .ensures .0 ∙ w .head) (x .load .ensures .1) (a .bytes .now) v in
+    let after = storable-after (a .s) (settings-of (a .settings .now)) (a .region .now) (p .3) (x .load .result)
+    (x .load .ensures .0 ∙ w .head) (x .load .ensures .1) (a .bytes .now) v in
     let l = p .0 in
     let f = u .rule-kept .ensures .within in
     ((omega arith, p .1, p .2, w .good), (x .load .ensures .1, after .0, after .1))
@@ -35,7 +36,8 @@ returns c =
     let a = s .args in
     let w = n .lengthen .ensures in
     let v = ruled-as _ _ _ (λ i. w .run i .kept) (λ i. w .run i .count) (u .rule-kept .ensures) in
-    ends-so (a .s) (settings-of (a .settings .now)) (a .region .now) (p .3) (x .load .result) (x .load .ensures .0 ∙ w .head) (x .load .ensures .1) (a .bytes .now) v
+    ends-so (a .s) (settings-of (a .settings .now)) (a .region .now) (p .3) (x .load .result) (x .load .ensures .0 ∙ w .head)
+    (x .load .ensures .1) (a .bytes .now) v
     (n .lengthen .last .0) (w .identifiers) (w .tightenings) (y .carry-out .ensures .0) (y .carry-out .ensures .1)
 
 pub end-kept-spec : {M : Type 1} → statement M

@@ -32,8 +32,10 @@ carry-out-requires c κs =
     let a = s .args in
     let m : Run = longer (run-of (run-area (a .region .now))) (a .bytes .now) in
     let whole = ap (λ (z : Run). longer z (a .bytes .now)) (sym (p .5)) in
-    let v = ruled-as (k .kept-of .result .now) (n .count-of .result) m (k .kept-of .ensures ∙ ap (λ (z : Run). z .kept) whole) (n .count-of .ensures ∙ ap (λ (z : Run). z .count) whole) (u .rule .ensures) in
-    let after = storable-after (a .s) (settings-of (a .settings .now)) (a .region .now) (p .3) (x .load .result) (x .load .ensures .0) (x .load .ensures .1) (a .bytes .now) v in
+    let v = ruled-as (k .kept-of .result .now) (n .count-of .result) m (k .kept-of .ensures ∙ ap (λ (z : Run). z .kept) whole)
+    (n .count-of .ensures ∙ ap (λ (z : Run). z .count) whole) (u .rule .ensures) in
+    let after = storable-after (a .s) (settings-of (a .settings .now)) (a .region .now) (p .3) (x .load .result) (x .load .ensures .0)
+    (x .load .ensures .1) (a .bytes .now) v in
     let l = p .0 in
     let f = u .rule .ensures .within in
     ((omega arith, p .1, p .2, p .3), (x .load .ensures .1, after .0, after .1))
@@ -50,8 +52,10 @@ returns c =
     let a = s .args in
     let m : Run = longer (run-of (run-area (a .region .now))) (a .bytes .now) in
     let whole = ap (λ (z : Run). longer z (a .bytes .now)) (sym (p .5)) in
-    let v = ruled-as (k .kept-of .result .now) (n .count-of .result) m (k .kept-of .ensures ∙ ap (λ (z : Run). z .kept) whole) (n .count-of .ensures ∙ ap (λ (z : Run). z .count) whole) (u .rule .ensures) in
-    ends-so (a .s) (settings-of (a .settings .now)) (a .region .now) (p .3) (x .load .result) (x .load .ensures .0) (x .load .ensures .1) (a .bytes .now) v
+    let v = ruled-as (k .kept-of .result .now) (n .count-of .result) m (k .kept-of .ensures ∙ ap (λ (z : Run). z .kept) whole)
+    (n .count-of .ensures ∙ ap (λ (z : Run). z .count) whole) (u .rule .ensures) in
+    ends-so (a .s) (settings-of (a .settings .now)) (a .region .now) (p .3) (x .load .result) (x .load .ensures .0) (x .load .ensures .1)
+    (a .bytes .now) v
     (a .region .now) refl refl (y .carry-out .ensures .0) (y .carry-out .ensures .1)
 
 pub end-whole-spec : {M : Type 1} → statement M

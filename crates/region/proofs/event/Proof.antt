@@ -12,7 +12,8 @@ returns c =
     let l = c .before .before in
     let s = l .before .before .before .before .before .before in
     let a = s .args in
-    let t = told-closed (a .s) (a .kind) (settings-of (a .settings .now)) (a .region .now) (l .load .result) (l .load .ensures .0) (notice-in (a .kind) (a .place .now)) (a .at) (s .pre .3) (c .enum-told .given .1) in
+    let t = told-closed (a .s) (a .kind) (settings-of (a .settings .now)) (a .region .now) (l .load .result) (l .load .ensures .0)
+    (notice-in (a .kind) (a .place .now)) (a .at) (s .pre .3) (c .enum-told .given .1) in
     (omega arith, t .0, t .1)
 
 returns-2 : tie.Need-returns-2
@@ -20,7 +21,8 @@ returns-2 c =
     let l = c .before .before in
     let s = l .before .before .before .before .before .before in
     let a = s .args in
-    let t = told-opened (a .s) (a .kind) (settings-of (a .settings .now)) (a .region .now) (l .load .result) (l .load .ensures .0) (notice-in (a .kind) (a .place .now)) (a .at) (s .pre .3) (c .enum-told2 .given .1) in
+    let t = told-opened (a .s) (a .kind) (settings-of (a .settings .now)) (a .region .now) (l .load .result) (l .load .ensures .0)
+    (notice-in (a .kind) (a .place .now)) (a .at) (s .pre .3) (c .enum-told2 .given .1) in
     (omega arith, t .0, t .1)
 
 returns-3 : tie.Need-returns-3
@@ -36,7 +38,8 @@ returns-3 c =
     let n = notice-in (a .kind) (a .place .now) in
     let few = s .pre .4 in (
       h .happened .ensures .0,
-      told-started (a .s) (a .kind) st r x (l .load .ensures .0) n (t .enum-told3 .given .1) (kind-in (a .kind) few (a .place .now)) (h .happened .ensures .1),
+      told-started (a .s) (a .kind) st r x (l .load .ensures .0) n (t .enum-told3 .given .1) (kind-in (a .kind) few (a .place .now))
+          (h .happened .ensures .1),
       taken-started (a .s) (a .kind) st r x (l .load .ensures .0) n few (t .enum-told3 .given .1) (h .happened .ensures .2),
     )
 

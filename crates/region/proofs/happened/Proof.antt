@@ -22,7 +22,8 @@ take-kind-requires c κs =
       (p .0, p .1, p .2, p .6),
       (
         p .3,
-        subst (λ (z : Subscription). Kept (a .kind) z (places-of (a .kind) (a .region .now))) (sym (x .subscription-of .ensures)) (kept-kind (a .kind) (p .6) (a .region .now) (a .x) (p .3) (p .4)),
+        subst (λ (z : Subscription). Kept (a .kind) z (places-of (a .kind) (a .region .now))) (sym (x .subscription-of .ensures))
+            (kept-kind (a .kind) (p .6) (a .region .now) (a .x) (p .3) (p .4)),
         p .7,
       ),
     )
@@ -33,8 +34,12 @@ store-requires c κs =
     let s = t .before .before .before .before .before .before .before .before in
     let p = s .pre in
     let a = s .args in
-    let g = t .take-kind .ensures .1 .good in
-    (g, subst Storable (sym (c .with-subscription .ensures)) (storable-one (a .x) (p .5) (a .kind) (p .6) (t .take-kind .last .0) g (p .4) (t .take-kind .result .next) (t .take-kind .ensures .2 .kept)))
+    let g = t .take-kind .ensures .1 .good in (
+      g,
+      subst Storable (sym (c .with-subscription .ensures))
+          (storable-one (a .x) (p .5) (a .kind) (p .6) (t .take-kind .last .0) g (p .4) (t .take-kind .result .next)
+          (t .take-kind .ensures .2 .kept)),
+    )
 
 returns : tie.Need-returns
 returns c =
@@ -48,9 +53,11 @@ returns c =
       t .take-kind .ensures .0,
       one-stored (a .x) (p .5) (a .s) (settings-of (a .settings .now)) (news (notice-in (a .kind) (a .place .now)))
           (a .region .now) (t .take-kind .last .0) (w .store .last .0) (t .take-kind .result .next)
-          (a .kind) (p .6) (x .subscription-of .result) (x .subscription-of .ensures) (y .with-subscription .result) (y .with-subscription .ensures)
+          (a .kind) (p .6) (x .subscription-of .result) (x .subscription-of .ensures) (y .with-subscription .result)
+          (y .with-subscription .ensures)
           (t .take-kind .ensures .1) (t .take-kind .ensures .2) (w .store .ensures) (t .take-kind .ensures .3),
-      t .take-kind .ensures .4 ∙ ap (λ (z : Subscription). takes (room-of (a .kind)) (subscription-of (a .kind) z (places-of (a .kind) (a .region .now)))) (x .subscription-of .ensures),
+      t .take-kind .ensures .4 ∙ ap (λ (z : Subscription). takes (room-of (a .kind))
+          (subscription-of (a .kind) z (places-of (a .kind) (a .region .now)))) (x .subscription-of .ensures),
     )
 
 pub happened-spec : {M : Type 1} → statement M

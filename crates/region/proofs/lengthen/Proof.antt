@@ -8,7 +8,8 @@ returns : tie.Need-returns
 returns c =
     let p = c .before .before in
     let s = p .before .before .before .before in
-    run-replaced (s .args .region .now) (p .lengthen .last .0) (s .pre) _ (p .lengthen .ensures .1 .size) (p .lengthen .ensures .0) (p .lengthen .ensures .1 .formed)
+    run-replaced (s .args .region .now) (p .lengthen .last .0) (s .pre) _ (p .lengthen .ensures .1 .size) (p .lengthen .ensures .0)
+    (p .lengthen .ensures .1 .formed)
 
 pub lengthen-spec : {M : Type 1} → statement M
 lengthen-spec =

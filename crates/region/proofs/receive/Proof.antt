@@ -23,7 +23,8 @@ returns-2 c =
     let s = t .before .before .before .before .before .before in
     let a = s .args in
     let e = piece-goes-on (a .bytes .now) (a .end) (s .pre .5) (t .if1 .left) in
-    goes-on (a .s) (settings-of (a .settings .now)) (a .region .now) (n .lengthen .last .0) (a .out .now) (a .at) (a .place .now) (a .bytes .now) (cut (a .bytes .now)) (e .0) (e .1) (n .lengthen .ensures)
+    goes-on (a .s) (settings-of (a .settings .now)) (a .region .now) (n .lengthen .last .0) (a .out .now) (a .at) (a .place .now)
+    (a .bytes .now) (cut (a .bytes .now)) (e .0) (e .1) (n .lengthen .ensures)
 
 pub receive-spec : {M : Type 1} → statement M
 receive-spec =

@@ -28,43 +28,61 @@ returns-3 : tie.Need-returns-3
 returns-3 c =
     let p = c .before .before in
     let a = p .before .before .before .before .before .before .before .before .args in
-    let l = p .put-0004 .ensures .0 in
-    (omega arith, one-reply (a .s) (settings-of (a .settings .now)) (take 20 (a .run .now)) (a .d) _ (p .before .before .before .d .given .1) _ refl (p .put-0004 .ensures .1))
+    let l = p .put-0004 .ensures .0 in (
+      omega arith,
+      one-reply (a .s) (settings-of (a .settings .now)) (take 20 (a .run .now)) (a .d) _
+          (p .before .before .before .d .given .1) _ refl (p .put-0004 .ensures .1),
+    )
 
 returns-4 : tie.Need-returns-4
 returns-4 c =
     let p = c .before .before in
     let a = p .before .before .before .before .before .before .before .args in
-    let l = p .put-0002 .ensures .0 in
-    (omega arith, one-reply (a .s) (settings-of (a .settings .now)) (take 20 (a .run .now)) (a .d) _ (p .before .before .enum-told3 .given .1) _ refl (p .put-0002 .ensures .1))
+    let l = p .put-0002 .ensures .0 in (
+      omega arith,
+      one-reply (a .s) (settings-of (a .settings .now)) (take 20 (a .run .now)) (a .d) _
+          (p .before .before .enum-told3 .given .1) _ refl (p .put-0002 .ensures .1),
+    )
 
 returns-5 : tie.Need-returns-5
 returns-5 c =
     let p = c .before .before in
     let a = p .before .before .before .before .before .before .before .before .args in
-    let l = p .put-0005 .ensures .0 in
-    (omega arith, one-reply (a .s) (settings-of (a .settings .now)) (take 20 (a .run .now)) (a .d) _ (p .before .before .before .d2 .given .1) _ refl (p .put-0005 .ensures .1))
+    let l = p .put-0005 .ensures .0 in (
+      omega arith,
+      one-reply (a .s) (settings-of (a .settings .now)) (take 20 (a .run .now)) (a .d) _
+          (p .before .before .before .d2 .given .1) _ refl (p .put-0005 .ensures .1),
+    )
 
 returns-6 : tie.Need-returns-6
 returns-6 c =
     let p = c .before .before in
     let a = p .before .before .before .before .before .before .before .before .args in
-    let l = p .put-00052 .ensures .0 in
-    (omega arith, one-reply (a .s) (settings-of (a .settings .now)) (take 20 (a .run .now)) (a .d) _ (p .before .before .before .d3 .given .1) _ refl (p .put-00052 .ensures .1))
+    let l = p .put-00052 .ensures .0 in (
+      omega arith,
+      one-reply (a .s) (settings-of (a .settings .now)) (take 20 (a .run .now)) (a .d) _
+          (p .before .before .before .d3 .given .1) _ refl (p .put-00052 .ensures .1),
+    )
 
 returns-7 : tie.Need-returns-7
 returns-7 c =
     let p = c .before .before in
     let a = p .before .before .before .before .before .before .before .before .args in
-    let l = p .put-00053 .ensures .0 in
-    (omega arith, one-reply (a .s) (settings-of (a .settings .now)) (take 20 (a .run .now)) (a .d) _ (p .before .before .before .d4 .given .1) _ refl (p .put-00053 .ensures .1))
+    let l = p .put-00053 .ensures .0 in (
+      omega arith,
+      one-reply (a .s) (settings-of (a .settings .now)) (take 20 (a .run .now)) (a .d) _
+          (p .before .before .before .d4 .given .1) _ refl (p .put-00053 .ensures .1),
+    )
 
 returns-8 : tie.Need-returns-8
 returns-8 c =
     let p = c .before .before in
     let a = p .before .before .before .before .before .before .before .before .args in
-    let l = p .put-00054 .ensures .0 in
-    (omega arith, one-reply (a .s) (settings-of (a .settings .now)) (take 20 (a .run .now)) (a .d) _ (p .before .before .before .d5 .given .1) _ refl (p .put-00054 .ensures .1))
+    let l = p .put-00054 .ensures .0 in (
+      omega arith,
+      one-reply (a .s) (settings-of (a .settings .now)) (take 20 (a .run .now)) (a .d) _
+          (p .before .before .before .d5 .given .1) _ refl (p .put-00054 .ensures .1),
+    )
 
 returns-9 : tie.Need-returns-9
 returns-9 c =
@@ -75,8 +93,11 @@ returns-10 : tie.Need-returns-10
 returns-10 c =
     let p = c .before .before in
     let a = p .before .before .before .before .before .before .before .args in
-    let l = p .put-9999 .ensures .0 in
-    (omega arith, one-reply (a .s) (settings-of (a .settings .now)) (take 20 (a .run .now)) (a .d) _ (p .before .before .enum-told5 .given .1) _ refl (p .put-9999 .ensures .1))
+    let l = p .put-9999 .ensures .0 in (
+      omega arith,
+      one-reply (a .s) (settings-of (a .settings .now)) (take 20 (a .run .now)) (a .d) _
+          (p .before .before .enum-told5 .given .1) _ refl (p .put-9999 .ensures .1),
+    )
 
 pub reply-spec : {M : Type 1} → statement M
 reply-spec =

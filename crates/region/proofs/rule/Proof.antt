@@ -42,7 +42,9 @@ returns c =
       decides = ruled (settings-of (a .settings .now)) (a .x) (a .run .now) (a .count) (g .is-granted .ensures) (d .decide .ensures);
       within = y .reply .ensures .0;
       bytes = y .reply .ensures .1;
-      knows = subst (λ (bs : List ℕ). Knows (announced (d .decide .result) bs) (a .place .now) (n .announce .result) (n .announce .last .0)) (f .data-field .ensures) (n .announce .ensures);
+      knows =
+          subst (λ (bs : List ℕ). Knows (announced (d .decide .result) bs) (a .place .now) (n .announce .result) (n .announce .last .0))
+          (f .data-field .ensures) (n .announce .ensures);
     }
 
 pub rule-spec : {M : Type 1} → statement M

@@ -24,7 +24,8 @@ returns c =
     let n = r .before .before in
     let k = n .before in
     let s = k .before .before .before .before .before .before .before in
-    ruled-as (k .kept .result .now) (n .count .result) (run-of (run-area (s .args .region .now))) (k .kept .ensures) (n .count .ensures .0) (r .rule .ensures)
+    ruled-as (k .kept .result .now) (n .count .result) (run-of (run-area (s .args .region .now))) (k .kept .ensures) (n .count .ensures .0)
+    (r .rule .ensures)
 
 pub rule-kept-spec : {M : Type 1} → statement M
 rule-kept-spec =

@@ -16,7 +16,8 @@ use Rattle.head.specs.Head.{head-of, head-formed}
 use Rattle.head.specs.Head as head
 use Rattle.run.specs.Area.{run-of, run-formed}
 use Rattle.run.specs.Area as run
-use Rattle.region.specs.Region.{region-size, head-area, run-area, identifiers-area, tightenings-area, meaning, session-of, region-formed, Good}
+use Rattle.region.specs.Region.{region-size, head-area, run-area, identifiers-area, tightenings-area, meaning, session-of}
+use Rattle.region.specs.Region.{region-formed, Good}
 use Rattle.region.proofs.Both.{cleared-storable}
 use Rattle.region.proofs.start.Statement.{statement}
 use Rattle.region.proofs.start.Tie as tie
@@ -34,7 +35,9 @@ cleared-there r h n s e g k =
     let b : run-area r₂ ≡ n = area-same 32 48 r₁ n (k .size) fits₁ in (
       record {
         size = same-len-mid 32 48 r₁ n (k .size ∙ sym (mid-len 32 80 r₁ fits₁)) ∙ l;
-        formed = and-eq-true-iff (head-formed (head-area r₂)) (run-formed (run-area r₂)) .1 (ap head-formed a ∙ g .formed, ap run-formed b ∙ k .formed);
+        formed =
+            and-eq-true-iff (head-formed (head-area r₂)) (run-formed (run-area r₂)) .1
+            (ap head-formed a ∙ g .formed, ap run-formed b ∙ k .formed);
       },
       ap (λ (x : Session). meaning x (run-of (run-area r₂)) (identifiers-area r₂) (tightenings-area r₂)) (ap head-of a ∙ e),
     )
@@ -50,7 +53,8 @@ returns c =
     let h = k .before .before .before .before in
     let x = h .before in
     let s = x .before .before .before in
-    cleared-there (s .args .region .now) (h .store .last .0) (k .clear .last .0) (s .pre) (h .store .ensures .0 ∙ x .cleared .ensures) (h .store .ensures .1) (k .clear .ensures .1)
+    cleared-there (s .args .region .now) (h .store .last .0) (k .clear .last .0) (s .pre) (h .store .ensures .0 ∙ x .cleared .ensures)
+    (h .store .ensures .1) (k .clear .ensures .1)
 
 pub start-spec : {M : Type 1} → statement M
 start-spec =

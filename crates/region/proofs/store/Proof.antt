@@ -9,7 +9,8 @@ returns : tie.Need-returns
 returns c =
     let p = c .before .before in
     let s = p .before .before .before in
-    head-replaced (s .args .region .now) (p .store .last .0) (s .pre .0) (s .args .x) (p .store .ensures .1 .size) (p .store .ensures .0) (p .store .ensures .1 .formed)
+    head-replaced (s .args .region .now) (p .store .last .0) (s .pre .0) (s .args .x) (p .store .ensures .1 .size) (p .store .ensures .0)
+    (p .store .ensures .1 .formed)
 
 pub store-spec : {M : Type 1} → statement M
 store-spec =

@@ -9,7 +9,8 @@ use Rattle.model.specs.Records.{settings-of}
 use Rattle.model.specs.Kinds.{room-of}
 use Rattle.model.specs.Notices.{beats, acks, news, takes}
 use Rattle.notices.specs.Places.{notice-in, subscription-of, Kept}
-use Rattle.region.proofs.Areas.{identifiers-replaced, tightenings-replaced, places-of-identifiers, places-of-tightenings, moved-0, moved-1, dealt-there, put-there, size-0, size-1}
+use Rattle.region.proofs.Areas.{identifiers-replaced, tightenings-replaced, places-of-identifiers, places-of-tightenings, moved-0}
+use Rattle.region.proofs.Areas.{moved-1, dealt-there, put-there, size-0, size-1}
 use Rattle.region.proofs.take_kind.Statement.{statement}
 use Rattle.region.proofs.take_kind.Tie as tie
 
@@ -17,8 +18,16 @@ take-requires : tie.Need-take-requires
 take-requires c κs =
     let i = c .before .before in
     let s = i .before .before .before .before .before in
-    let a = s .args in
-    ((s .pre .0 .0, s .pre .0 .1, s .pre .0 .2, subst (λ (z : List ℕ). Kept (a .kind) (a .x) z) (sym (places-of-identifiers (a .kind) (a .region .now) (i .if1 .taken))) (s .pre .1 .1)), (s .pre .0 .3, s .pre .1 .2))
+    let a = s .args in (
+      (
+        s .pre .0 .0,
+        s .pre .0 .1,
+        s .pre .0 .2,
+        subst (λ (z : List ℕ). Kept (a .kind) (a .x) z)
+            (sym (places-of-identifiers (a .kind) (a .region .now) (i .if1 .taken))) (s .pre .1 .1),
+      ),
+      (s .pre .0 .3, s .pre .1 .2),
+    )
 
 returns : tie.Need-returns
 returns c =
@@ -34,17 +43,28 @@ returns c =
     let q = sym (identifiers-replaced r ys (s .pre .1 .0) n .identifiers) ∙ places-of-identifiers (a .kind) (putMid 80 50 r ys) e in (
       y .take .ensures .0,
       moved-0 (a .kind) r ys (s .pre .1 .0) e n,
-      dealt-there (a .kind) (news (notice-in (a .kind) (a .place .now))) (a .x) (y .take .result .next) _ _ r (putMid 80 50 r ys) p q (y .take .ensures .1),
-      put-there (a .kind) (news (notice-in (a .kind) (a .place .now))) (a .x) (y .take .result .next) _ _ r (putMid 80 50 r ys) p q (a .s) (settings-of (a .settings .now)) (y .take .ensures .2),
-      subst (λ (z : List ℕ). y .take .result .taken ≡ takes (room-of (a .kind)) (subscription-of (a .kind) (a .x) z)) p (y .take .ensures .3),
+      dealt-there (a .kind) (news (notice-in (a .kind) (a .place .now))) (a .x) (y .take .result .next) _ _ r (putMid 80 50 r ys) p q
+          (y .take .ensures .1),
+      put-there (a .kind) (news (notice-in (a .kind) (a .place .now))) (a .x) (y .take .result .next) _ _ r (putMid 80 50 r ys) p q (a .s)
+          (settings-of (a .settings .now)) (y .take .ensures .2),
+      subst (λ (z : List ℕ). y .take .result .taken ≡ takes (room-of (a .kind)) (subscription-of (a .kind) (a .x) z)) p
+          (y .take .ensures .3),
     )
 
 take-requires-2 : tie.Need-take-requires-2
 take-requires-2 c κs =
     let i = c .before .before in
     let s = i .before .before .before .before .before in
-    let a = s .args in
-    ((s .pre .0 .0, s .pre .0 .1, s .pre .0 .2, subst (λ (z : List ℕ). Kept (a .kind) (a .x) z) (sym (places-of-tightenings (a .kind) (a .region .now) (i .if1 .left))) (s .pre .1 .1)), (s .pre .0 .3, s .pre .1 .2))
+    let a = s .args in (
+      (
+        s .pre .0 .0,
+        s .pre .0 .1,
+        s .pre .0 .2,
+        subst (λ (z : List ℕ). Kept (a .kind) (a .x) z)
+            (sym (places-of-tightenings (a .kind) (a .region .now) (i .if1 .left))) (s .pre .1 .1),
+      ),
+      (s .pre .0 .3, s .pre .1 .2),
+    )
 
 returns-2 : tie.Need-returns-2
 returns-2 c =
@@ -62,9 +82,12 @@ returns-2 c =
     let q = sym (tightenings-replaced r ys (s .pre .1 .0) n .tightenings) ∙ places-of-tightenings (a .kind) (putMid 136 880 r ys) h in (
       y .take2 .ensures .0,
       moved-1 (a .kind) r ys (s .pre .1 .0) e n,
-      dealt-there (a .kind) (news (notice-in (a .kind) (a .place .now))) (a .x) (y .take2 .result .next) _ _ r (putMid 136 880 r ys) p q (y .take2 .ensures .1),
-      put-there (a .kind) (news (notice-in (a .kind) (a .place .now))) (a .x) (y .take2 .result .next) _ _ r (putMid 136 880 r ys) p q (a .s) (settings-of (a .settings .now)) (y .take2 .ensures .2),
-      subst (λ (z : List ℕ). y .take2 .result .taken ≡ takes (room-of (a .kind)) (subscription-of (a .kind) (a .x) z)) p (y .take2 .ensures .3),
+      dealt-there (a .kind) (news (notice-in (a .kind) (a .place .now))) (a .x) (y .take2 .result .next) _ _ r (putMid 136 880 r ys) p q
+          (y .take2 .ensures .1),
+      put-there (a .kind) (news (notice-in (a .kind) (a .place .now))) (a .x) (y .take2 .result .next) _ _ r (putMid 136 880 r ys) p q
+          (a .s) (settings-of (a .settings .now)) (y .take2 .ensures .2),
+      subst (λ (z : List ℕ). y .take2 .result .taken ≡ takes (room-of (a .kind)) (subscription-of (a .kind) (a .x) z)) p
+          (y .take2 .ensures .3),
     )
 
 pub take-kind-spec : {M : Type 1} → statement M

@@ -33,8 +33,11 @@ returns c =
     let d = i .before .before in
     let l = d .before in
     let s = l .before .before .before .before .before in
-    let a = s .args in
-    (t .tick-stays .ensures .0, tick-stays-so (a .s) (settings-of (a .settings .now)) (a .region .now) (l .load .result) (l .load .ensures .0) (l .load .ensures .1) _ (sym (d .idled .ensures) ∙ i .idling .given .1) (t .tick-stays .ensures .1))
+    let a = s .args in (
+      t .tick-stays .ensures .0,
+      tick-stays-so (a .s) (settings-of (a .settings .now)) (a .region .now) (l .load .result)
+          (l .load .ensures .0) (l .load .ensures .1) _ (sym (d .idled .ensures) ∙ i .idling .given .1) (t .tick-stays .ensures .1),
+    )
 
 returns-2 : tie.Need-returns-2
 returns-2 c =
@@ -49,9 +52,11 @@ returns-2 c =
     let r = a .region .now in
     let n = p .put-close .ensures .0 in (
       omega arith,
-      times-out (a .s) (settings-of (a .settings .now)) r (l .load .result) (l .load .ensures .0) (l .load .ensures .1) (run-of (run-area r)) (identifiers-area r) (tightenings-area r)
+      times-out (a .s) (settings-of (a .settings .now)) r (l .load .result) (l .load .ensures .0) (l .load .ensures .1)
+          (run-of (run-area r)) (identifiers-area r) (tightenings-area r)
           (sym (d .idled .ensures) ∙ e .enum-told .given .1)
-          (subst (λ (z : Session). Stands (w .store .last .0) z (run-of (run-area r)) (identifiers-area r) (tightenings-area r)) (x .cleared .ensures) (w .store .ensures))
+          (subst (λ (z : Session). Stands (w .store .last .0) z (run-of (run-area r)) (identifiers-area r) (tightenings-area r))
+          (x .cleared .ensures) (w .store .ensures))
           (p .put-close .ensures .1),
     )
 

@@ -9,7 +9,8 @@ use Rattle.model.specs.Records.{settings-of}
 use Rattle.model.specs.Kinds.{room-of}
 use Rattle.model.specs.Notices.{beats, acks, news, takes}
 use Rattle.notices.specs.Places.{notice-in, subscription-of, Kept}
-use Rattle.region.proofs.Areas.{identifiers-replaced, tightenings-replaced, places-of-identifiers, places-of-tightenings, moved-0, moved-1, dealt-there, put-there, size-0, size-1}
+use Rattle.region.proofs.Areas.{identifiers-replaced, tightenings-replaced, places-of-identifiers, places-of-tightenings, moved-0}
+use Rattle.region.proofs.Areas.{moved-1, dealt-there, put-there, size-0, size-1}
 use Rattle.region.proofs.tick_kind.Statement.{statement}
 use Rattle.region.proofs.tick_kind.Tie as tie
 
@@ -17,8 +18,14 @@ tick-requires : tie.Need-tick-requires
 tick-requires c κs =
     let i = c .before .before in
     let s = i .before .before .before .before in
-    let a = s .args in
-    (s .pre .0 .0, s .pre .0 .1, s .pre .0 .2, subst (λ (z : List ℕ). Kept (a .kind) (a .x) z) (sym (places-of-identifiers (a .kind) (a .region .now) (i .if1 .taken))) (s .pre .1 .1), s .pre .0 .3)
+    let a = s .args in (
+      s .pre .0 .0,
+      s .pre .0 .1,
+      s .pre .0 .2,
+      subst (λ (z : List ℕ). Kept (a .kind) (a .x) z)
+          (sym (places-of-identifiers (a .kind) (a .region .now) (i .if1 .taken))) (s .pre .1 .1),
+      s .pre .0 .3,
+    )
 
 returns : tie.Need-returns
 returns c =
@@ -35,15 +42,22 @@ returns c =
       y .tick .ensures .0,
       moved-0 (a .kind) r ys (s .pre .1 .0) e n,
       dealt-there (a .kind) beats (a .x) (y .tick .result .next) _ _ r (putMid 80 50 r ys) p q (y .tick .ensures .1),
-      put-there (a .kind) beats (a .x) (y .tick .result .next) _ _ r (putMid 80 50 r ys) p q (a .s) (settings-of (a .settings .now)) (y .tick .ensures .2),
+      put-there (a .kind) beats (a .x) (y .tick .result .next) _ _ r (putMid 80 50 r ys) p q (a .s) (settings-of (a .settings .now))
+          (y .tick .ensures .2),
     )
 
 tick-requires-2 : tie.Need-tick-requires-2
 tick-requires-2 c κs =
     let i = c .before .before in
     let s = i .before .before .before .before in
-    let a = s .args in
-    (s .pre .0 .0, s .pre .0 .1, s .pre .0 .2, subst (λ (z : List ℕ). Kept (a .kind) (a .x) z) (sym (places-of-tightenings (a .kind) (a .region .now) (i .if1 .left))) (s .pre .1 .1), s .pre .0 .3)
+    let a = s .args in (
+      s .pre .0 .0,
+      s .pre .0 .1,
+      s .pre .0 .2,
+      subst (λ (z : List ℕ). Kept (a .kind) (a .x) z)
+          (sym (places-of-tightenings (a .kind) (a .region .now) (i .if1 .left))) (s .pre .1 .1),
+      s .pre .0 .3,
+    )
 
 returns-2 : tie.Need-returns-2
 returns-2 c =
@@ -62,7 +76,8 @@ returns-2 c =
       y .tick2 .ensures .0,
       moved-1 (a .kind) r ys (s .pre .1 .0) e n,
       dealt-there (a .kind) beats (a .x) (y .tick2 .result .next) _ _ r (putMid 136 880 r ys) p q (y .tick2 .ensures .1),
-      put-there (a .kind) beats (a .x) (y .tick2 .result .next) _ _ r (putMid 136 880 r ys) p q (a .s) (settings-of (a .settings .now)) (y .tick2 .ensures .2),
+      put-there (a .kind) beats (a .x) (y .tick2 .result .next) _ _ r (putMid 136 880 r ys) p q (a .s) (settings-of (a .settings .now))
+          (y .tick2 .ensures .2),
     )
 
 pub tick-kind-spec : {M : Type 1} → statement M

@@ -26,7 +26,8 @@ tick-kind-requires c κs =
 
 -- the places of the tightenings are as they were
 module _ (c : tie.After-tick-kind) where
-  still : let s = c .before .before .before .before .before .before .before in tightenings-area (c .tick-kind .last .0) ≡ tightenings-area (s .args .region .now)
+  still : let s = c .before .before .before .before .before .before .before in tightenings-area (c .tick-kind .last .0)
+      ≡ tightenings-area (s .args .region .now)
   still = c .tick-kind .ensures .1 .other
 
 tick-kind-requires-2 : tie.Need-tick-kind-requires-2
@@ -35,15 +36,23 @@ tick-kind-requires-2 c κs =
     let s = i .before .before .before .before .before .before .before in
     let p = s .pre in
     let l = p .0 in
-    let n = i .tick-kind .ensures .0 in
-    ((omega arith, p .1, p .2, omega arith), (i .tick-kind .ensures .1 .good, kept-tightenings (i .tick-kind .last .0) (s .args .x) (i .tick-kind .ensures .1 .good) (p .4)))
+    let n = i .tick-kind .ensures .0 in (
+      (omega arith, p .1, p .2, omega arith),
+      (
+        i .tick-kind .ensures .1 .good,
+        kept-tightenings (i .tick-kind .last .0) (s .args .x) (i .tick-kind .ensures .1 .good) (p .4),
+      ),
+    )
 
 store-requires : tie.Need-store-requires
 store-requires c κs =
     let t = c .before .before .before .before .before .before .before in
     let i = t .before .before .before .before .before .before .before .before in
-    let s = i .before .before .before .before .before .before .before in
-    (t .tick-kind2 .ensures .1 .good, storable-kept (s .args .x .idle) _ _ _ _ (s .pre .4 .idle) (i .tick-kind .ensures .2 .kept) (t .tick-kind2 .ensures .2 .kept))
+    let s = i .before .before .before .before .before .before .before in (
+      t .tick-kind2 .ensures .1 .good,
+      storable-kept (s .args .x .idle) _ _ _ _ (s .pre .4 .idle) (i .tick-kind .ensures .2 .kept)
+          (t .tick-kind2 .ensures .2 .kept),
+    )
 
 returns : tie.Need-returns
 returns c =
@@ -67,10 +76,14 @@ returns c =
       both-dealt (a .s) st (a .x .idle) (run-of (run-area r)) (λ kind. beats)
           (subscription-of 0 (a .x .identifiers) (identifiers-area r)) (subscription-of 1 (a .x .tightenings) (tightenings-area r))
           (w .store .last .0) x y (identifiers-area r₂) (tightenings-area r₂)
-          (subst (λ (n : Run). Stands (w .store .last .0) (record { phase = Started; idle = a .x .idle; identifiers = x; tightenings = y }) n (identifiers-area r₂) (tightenings-area r₂)) same (w .store .ensures))
+          (subst (λ (n : Run). Stands (w .store .last .0)
+          (record { phase = Started; idle = a .x .idle; identifiers = x; tightenings = y }) n (identifiers-area r₂)
+          (tightenings-area r₂)) same (w .store .ensures))
           (ap (subscription-of 0 x) (m .other) ∙ i .tick-kind .ensures .2 .becomes)
-          (t .tick-kind2 .ensures .2 .becomes ∙ ap (λ (z : List ℕ). (act (room-of 1) beats (subscription-of 1 (a .x .tightenings) z)) .0) stay)
-          (put-then (i .tick-kind .ensures .3) (put-as (ap (dealt-bytes 1 (a .s) st beats (a .x .tightenings)) stay) (t .tick-kind2 .ensures .3))),
+          (t .tick-kind2 .ensures .2 .becomes
+          ∙ ap (λ (z : List ℕ). (act (room-of 1) beats (subscription-of 1 (a .x .tightenings) z)) .0) stay)
+          (put-then (i .tick-kind .ensures .3) (put-as (ap (dealt-bytes 1 (a .s) st beats (a .x .tightenings)) stay)
+          (t .tick-kind2 .ensures .3))),
     )
 
 pub tick-kinds-spec : {M : Type 1} → statement M

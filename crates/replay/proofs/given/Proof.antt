@@ -16,7 +16,9 @@ little-requires : tie.Need-little-requires
 little-requires c κs = let p = c .before .before .before .before .pre .2 in (omega arith, omega arith)
 
 sub-feed : tie.Need-sub-feed
-sub-feed c = at-least 48 63 (c .before .before .before .before .before .little .result) (sym (c .before .before .before .before .is-within .ensures) ∙ c .before .before .before .if1 .taken)
+sub-feed c =
+    at-least 48 63 (c .before .before .before .before .before .little .result)
+    (sym (c .before .before .before .before .is-within .ensures) ∙ c .before .before .before .if1 .taken)
 
 feed-requires : tie.Need-feed-requires
 feed-requires c κs = let p = c .before .before .before .before .before .before .before .before .before .before .before .pre in (p .0, p .1)

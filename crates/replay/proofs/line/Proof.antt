@@ -15,8 +15,10 @@ returns c =
     let n = c .before .before .before .before .before .before .before .before .before .before in
     let s = c .before .before .before .before .before .before .before .before .before .before .before .before .before in
     let a = s .args in
-    let both = put-then (c .before .before .before .before .before .before .before .before .put-digits .ensures .1) (c .before .before .copy .ensures) in
-    let all = put-as (close-line (a .slice .now) (n .little .result) (n .little .ensures .0) (c .before .before .before .before .before .if1 .taken)) both in
+    let both = put-then (c .before .before .before .before .before .before .before .before .put-digits .ensures .1)
+    (c .before .before .copy .ensures) in
+    let all = put-as (close-line (a .slice .now) (n .little .result) (n .little .ensures .0)
+    (c .before .before .before .before .before .if1 .taken)) both in
     (all, all .place ∙ ap (λ (k : ℕ). a .at + k) (line-length (a .slice .now) (s .pre .0)))
 
 copy-requires-3 : tie.Need-copy-requires-3

@@ -37,7 +37,8 @@ loop-holds c =
     (refl, refl, refl, omega arith, omega arith, w .1, w .2, w .0, begins)
 
 slice-aggregate-given : tie.Need-slice-aggregate-given Inv-loop μ-loop
-slice-aggregate-given c = let l = c .before .before .before .before .before .loop in sym (length-take-le (l .size) (l .left .now) (l .inv .5))
+slice-aggregate-given c =
+    let l = c .before .before .before .before .before .loop in sym (length-take-le (l .size) (l .left .now) (l .inv .5))
 
 given-requires : tie.Need-given-requires Inv-loop μ-loop
 given-requires c κs =

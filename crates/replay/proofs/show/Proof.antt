@@ -67,7 +67,8 @@ loop-again c =
     let n = length-take-le (l .size) (l .left .now) few in
     let r = k .ensures .1 in
     let rest = take-all (length (l .left .now) - l .size) (drop (l .size) (l .left .now)) (simp length-drop (omega arith)) in (
-      left-as (ap (λ (z : List ℕ). printed (lines-in z)) (sym rest)) (left-put (left-as (lines-next (l .left .now) (l .size) (l .inv .2) some) (l .inv .0)) (k .ensures .0)),
+      left-as (ap (λ (z : List ℕ). printed (lines-in z)) (sym rest))
+          (left-put (left-as (lines-next (l .left .now) (l .size) (l .inv .2) some) (l .inv .0)) (k .ensures .0)),
       omega arith,
       w .0,
       w .1,

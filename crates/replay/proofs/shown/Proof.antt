@@ -26,7 +26,8 @@ loop-again c =
     let a = c .before .before .before .before .before .before .args in (
       omega arith,
       simp length-set (l .inv .1),
-      written (l .lines) (a .at) (l .i) (c .shown-byte .result) (shown-next (a .frame .now) (l .i) (c .shown-byte .result) h (c .shown-byte .ensures)) (l .inv .2),
+      written (l .lines) (a .at) (l .i) (c .shown-byte .result)
+          (shown-next (a .frame .now) (l .i) (c .shown-byte .result) h (c .shown-byte .ensures)) (l .inv .2),
     )
 
 returns : tie.Need-returns Inv-loop μ-loop

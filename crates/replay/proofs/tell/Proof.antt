@@ -17,8 +17,12 @@ returns c =
     let third = c .before .before .copy2 .ensures in
     let p = first .place in
     let q = second .0 in
-    let r = third .place in
-    (put-as (refused-text (a .answer) (a .output .now) (c .before .before .before .before .before .before .before .before .before .before .before .before .before .before .if1 .taken)) (put-then (put-then first (second .1)) third), omega arith)
+    let r = third .place in (
+      put-as (refused-text (a .answer) (a .output .now)
+          (c .before .before .before .before .before .before .before .before .before .before .before .before .before .before .if1 .taken))
+          (put-then (put-then first (second .1)) third),
+      omega arith,
+    )
 
 slice-aggregate-show : tie.Need-slice-aggregate-show
 slice-aggregate-show c =

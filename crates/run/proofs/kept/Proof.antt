@@ -5,7 +5,8 @@ use Rattle.run.proofs.kept.Statement.{statement}
 use Rattle.run.proofs.kept.Tie as tie
 
 returns : tie.Need-returns
-returns c = kept-is (c .before .before .before .before .args .area .now) _ _ (c .before .before .count .ensures .0) (c .before .least .ensures)
+returns c =
+    kept-is (c .before .before .before .before .args .area .now) _ _ (c .before .before .count .ensures .0) (c .before .least .ensures)
 
 pub kept-spec : {M : Type 1} → statement M
 kept-spec =

@@ -15,7 +15,8 @@ returns c =
     let n = k .before in
     let s = n .before .before .before .before in
     rw (p .put-little .ensures .1 .output, y .copy .ensures .output, sub-zero)
-    (lengthened (s .args .area .now) (s .args .bytes .now) (n .count .result) (k .least .result) (m .least2 .result) (v .least3 .result) (s .pre) (n .count .ensures .0) (n .count .ensures .1) (k .least .ensures) (m .least2 .ensures) (v .least3 .ensures))
+    (lengthened (s .args .area .now) (s .args .bytes .now) (n .count .result) (k .least .result) (m .least2 .result) (v .least3 .result)
+    (s .pre) (n .count .ensures .0) (n .count .ensures .1) (k .least .ensures) (m .least2 .ensures) (v .least3 .ensures))
 
 pub lengthen-spec : {M : Type 1} → statement M
 lengthen-spec =

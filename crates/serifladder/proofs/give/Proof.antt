@@ -11,7 +11,8 @@ returns c =
     let w = d .before .before .before .before in
     let b = w .before .before .before .before in
     let n = b .before .before .before .before in
-    let all-four = put-then (put-then (put-then (n .put-little .ensures .1) (b .put-little2 .ensures .1)) (w .put-little3 .ensures .1)) (d .put-little4 .ensures .1) in
+    let all-four = put-then (put-then (put-then (n .put-little .ensures .1) (b .put-little2 .ensures .1)) (w .put-little3 .ensures .1))
+    (d .put-little4 .ensures .1) in
     (refl, all-four .output)
 
 pub give-spec : {M : Type 1} → statement M

@@ -16,7 +16,8 @@ returns-2 c =
     let k = g .before .before .before .before .before .before in
     let i = k .before .before .before in
     let a = i .before .before .before .before .args in
-    made (hang-up-session (a .session)) (a .table .now) (a .output .now) (a .answer .now) (k .hang-up .result) (i .if1 .left) (k .hang-up .ensures) (g .give .ensures .0) (g .give .ensures .1)
+    made (hang-up-session (a .session)) (a .table .now) (a .output .now) (a .answer .now) (k .hang-up .result) (i .if1 .left)
+    (k .hang-up .ensures) (g .give .ensures .0) (g .give .ensures .1)
 
 pub serifladder-hang-up-spec : {M : Type 1} → statement M
 serifladder-hang-up-spec =

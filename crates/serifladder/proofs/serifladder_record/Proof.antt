@@ -16,7 +16,8 @@ returns-2 c =
     let k = g .before .before .before .before .before .before in
     let i = k .before .before .before in
     let a = i .before .before .before .before .before .args in
-    made (tool (a .slice .now)) (a .table .now) (a .output .now) (a .answer .now) (k .tool-record .result) (i .if1 .left) (k .tool-record .ensures) (g .give .ensures .0) (g .give .ensures .1)
+    made (tool (a .slice .now)) (a .table .now) (a .output .now) (a .answer .now) (k .tool-record .result) (i .if1 .left)
+    (k .tool-record .ensures) (g .give .ensures .0) (g .give .ensures .1)
 
 pub serifladder-record-spec : {M : Type 1} → statement M
 serifladder-record-spec =

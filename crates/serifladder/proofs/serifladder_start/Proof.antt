@@ -17,7 +17,8 @@ returns-2 c =
     let k = g .before .before .before .before in
     let i = k .before .before in
     let a = i .before .before .before .before .args in
-    made (start (a .settings .now)) (a .table .now) [] (a .answer .now) (k .start .result) (i .if1 .left) (k .start .ensures) (g .give .ensures .0) (g .give .ensures .1)
+    made (start (a .settings .now)) (a .table .now) [] (a .answer .now) (k .start .result) (i .if1 .left) (k .start .ensures)
+    (g .give .ensures .0) (g .give .ensures .1)
 
 pub serifladder-start-spec : {M : Type 1} → statement M
 serifladder-start-spec =

@@ -16,7 +16,8 @@ returns-2 c =
     let k = g .before .before .before .before .before .before in
     let i = k .before .before .before in
     let a = i .before .before .before .before .args in
-    made one-tick (a .table .now) (a .output .now) (a .answer .now) (k .tick .result) (i .if1 .left) (k .tick .ensures) (g .give .ensures .0) (g .give .ensures .1)
+    made one-tick (a .table .now) (a .output .now) (a .answer .now) (k .tick .result) (i .if1 .left) (k .tick .ensures)
+    (g .give .ensures .0) (g .give .ensures .1)
 
 pub serifladder-tick-spec : {M : Type 1} → statement M
 serifladder-tick-spec =

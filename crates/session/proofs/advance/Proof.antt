@@ -16,8 +16,10 @@ use prog.Wp.{Heap, Calls, Loops, WpFn, Tables}
 use ghost.Atoms.{Atoms, sem}
 use contract.Monad.{Fun, fact}
 use contract.Running.{givenOf, tables, tablesOf}
-use types.Kit.{Given, ‵, raw, _⊛_, _$_, _∵_, !, qed, by, move, keep, drop, use1, split, join, rewrite, fsplit, fsplit3, fjoin, fjoin3, feqI, suffices, frame, done}
-use types.Run.{look, init, store, forget, stop, hop, fld, from, load, of-opd, and-then, no-more, assigns, land, returns, enter, alloc1, alloc0, params1, pass1, pass0, free1, free0}
+use types.Kit.{Given, ‵, raw, _⊛_, _$_, _∵_, !, qed, by, move, keep, drop, use1, split, join, rewrite, fsplit, fsplit3, fjoin, fjoin3, feqI}
+use types.Kit.{suffices, frame, done}
+use types.Run.{look, init, store, forget, stop, hop, fld, from, load, of-opd, and-then, no-more, assigns, land, returns, enter, alloc1}
+use types.Run.{alloc0, params1, pass1, pass0, free1, free0}
 use types.Part.{whole, sub, look-in, store-in}
 use types.SemTy.{Body}
 use sound.WpLaws.{FmC, fmOf, WpFn-mono}
@@ -82,7 +84,8 @@ module _ {M : Type 1} (𝓤 : URA M) (H : Heap 𝓤) (A : Atoms 𝓤) (mem : Mem
   abbrev DueAfter : Contract 𝓤
   DueAfter = tripleOf 𝓤 H A due-after.signature (due-after.spec 𝓤 H A mem run)
 
-  beat-said : (n : ℕ) (r : Beat) → ent 𝓤 (ensured 𝓤 H A beat-of.ended (beat-of.clauses 𝓤 H A mem run) tt (n, tt) tt r) (fact 𝓤 (r ≡ beat-at n))
+  beat-said : (n : ℕ) (r : Beat)
+      → ent 𝓤 (ensured 𝓤 H A beat-of.ended (beat-of.clauses 𝓤 H A mem run) tt (n, tt) tt r) (fact 𝓤 (r ≡ beat-at n))
   beat-said n r = exE 𝓤 _ (λ ws. snd∗ 𝓤 (sem 𝓤 H A (lasts beat-of.ended tt (n, tt) ws)) (fact 𝓤 (r ≡ beat-at n)))
 
   ticks-said : (b : Beat) (r : ℕ) → ent 𝓤 (ensured 𝓤 H A ticks-after.ended (ticks-after.clauses 𝓤 H A mem run) tt (b, tt) tt r)
@@ -133,7 +136,8 @@ module _ {M : Type 1} (𝓤 : URA M) (H : Heap 𝓤) (A : Atoms 𝓤) (W : Given
 
   -- ==== the walk
 
-  module _ (C : Calls 𝓤 H) (Λ : Loops 𝓤 H) (fm : FmC 𝓤 H (W .laws) C) (known-beat-of : Triple 𝓤 (C #session·beat-of) (BeatOf 𝓤 H A at-mem run))
+  module _ (C : Calls 𝓤 H) (Λ : Loops 𝓤 H) (fm : FmC 𝓤 H (W .laws) C)
+      (known-beat-of : Triple 𝓤 (C #session·beat-of) (BeatOf 𝓤 H A at-mem run))
       (known-ticks-after : Triple 𝓤 (C #session·ticks-after) (TicksAfter 𝓤 H A at-mem run))
       (known-due-after : Triple 𝓤 (C #session·due-after) (DueAfter 𝓤 H A at-mem run)) where
     walk : ent 𝓤 (onEntry 𝓤 H A advance.signature (κ, tt) (q, tt) x at) (WpFn 𝓤 H C Λ code.function (vptr b o ∷ []) Post)
@@ -176,7 +180,8 @@ module _ {M : Type 1} (𝓤 : URA M) (H : Heap 𝓤) (A : Atoms 𝓤) (W : Given
         land ! (from ! (stop !)) (init ! 12 refl (enum.lawful due.the-type due-laws.the-laws 𝓤 H A W tt .typed d _ is-d .0)) $ drop ! $
         -- the borrow is closed at the new clock
         move ! (1 ∷ []) $ drop ! $
-        owned ! clock.the-row (Is clock.the-row) (struct.makes clock.the-type clock-laws.the-plain 𝓤 H A) (clock-at m) _ (is-clock m (is-m .1)) $
+        owned ! clock.the-row (Is clock.the-row) (struct.makes clock.the-type clock-laws.the-plain 𝓤 H A) (clock-at m) _
+        (is-clock m (is-m .1)) $
         move ! (1 ∷ 0 ∷ []) $ closes ! tt clock.the-row (clock-at m) (cell m ∷ []) b o $
         returns ! (look ! 9 refl) $ forget ! 3 refl $ forget ! 5 refl $ forget ! 7 refl $ forget ! 9 refl $
         move ! (9 ∷ 10 ∷ []) $ free1 ! $ move ! (7 ∷ 8 ∷ []) $ free1 ! $ move ! (5 ∷ 6 ∷ []) $ free1 ! $ move ! (3 ∷ 4 ∷ []) $ free1 ! $
@@ -216,6 +221,7 @@ advance-spec 𝓤 H 𝓜 𝓖 𝓡 =
     (advance-meets 𝓤 H (𝓖 .A) (givenOf 𝓤 H 𝓜 𝓖) (𝓜 .mem) (𝓡 .run) (tablesOf 𝓤 H 𝓜 (tables 𝓤 H 𝓜 𝓡 code.env))
     (cited 𝓤 H (BeatOf 𝓤 H (𝓖 .A) (𝓜 .mem) (𝓡 .run)) 𝓜 𝓡 code.env #session·beat-of beat-of-def.routine code.calls-session·beat-of
     (beat-of-thm.met 𝓤 H 𝓜 𝓖 𝓡))
-    (cited 𝓤 H (TicksAfter 𝓤 H (𝓖 .A) (𝓜 .mem) (𝓡 .run)) 𝓜 𝓡 code.env #session·ticks-after ticks-after-def.routine code.calls-session·ticks-after (ticks-after-thm.met 𝓤 H 𝓜 𝓖 𝓡))
+    (cited 𝓤 H (TicksAfter 𝓤 H (𝓖 .A) (𝓜 .mem)
+    (𝓡 .run)) 𝓜 𝓡 code.env #session·ticks-after ticks-after-def.routine code.calls-session·ticks-after (ticks-after-thm.met 𝓤 H 𝓜 𝓖 𝓡))
     (cited 𝓤 H (DueAfter 𝓤 H (𝓖 .A) (𝓜 .mem) (𝓡 .run)) 𝓜 𝓡 code.env #session·due-after due-after-def.routine code.calls-session·due-after
     (due-after-thm.met 𝓤 H 𝓜 𝓖 𝓡)))

@@ -14,4 +14,8 @@ after-acknowledge-spec =
     (λ c κs. search needs)
     (λ c.
     c .with-subscription .ensures
-    ∙ rw (c .before .heard .ensures, c .before .before .before .acknowledged .ensures, c .before .before .before .before .subscription-of .ensures)))
+    ∙ rw (
+      c .before .heard .ensures,
+      c .before .before .before .acknowledged .ensures,
+      c .before .before .before .before .subscription-of .ensures,
+    )))

@@ -17,9 +17,11 @@ use prog.Wp.{Heap, Calls, Loops, WpFn, Tables}
 use ghost.Atoms.{Atoms, sem}
 use contract.Monad.{Fun, fact}
 use contract.Running.{givenOf, tables, tablesOf}
-use types.Kit.{Given, ‵, raw, some, later, _⊛_, _$_, _∵_, !, qed, by, move, keep, use1, use2, use3, split, join, pick, fjoin, suffices, frame, await, done}
+use types.Kit.{Given, ‵, raw, some, later, _⊛_, _$_, _∵_, !, qed, by, move, keep, use1, use2, use3, split, join, pick, fjoin, suffices}
+use types.Kit.{frame, await, done}
 use types.Tokens.{lft-new, lft-end}
-use types.Run.{look, init, forget, stop, fld, from, load, of-opd, addr, and-then, no-more, assigns, land, returns, enter, alloc1, alloc0, params1, pass1, pass0, free1, free0, well-typed}
+use types.Run.{look, init, forget, stop, fld, from, load, of-opd, addr, and-then, no-more, assigns, land, returns, enter, alloc1, alloc0}
+use types.Run.{params1, pass1, pass0, free1, free0, well-typed}
 use types.Part.{whole, sub, look-in, agg}
 use types.SemTy.{Body}
 use sound.WpLaws.{FmC, fmOf, WpFn-mono}
@@ -128,7 +130,8 @@ module _ {M : Type 1} (𝓤 : URA M) (H : Heap 𝓤) (A : Atoms 𝓤) (W : Given
   lent-at α δ b = MutRef (named 0) (α ∷ []) clock.the-row .own (record { ptr = (b, 0); name = δ; now = clock-at n }) (vptr b 0 ∷ [])
 
   abbrev to-advance : ℕ → GName → ℕ → Advance 𝓤 H A at-mem run .Ghost
-  to-advance α δ b = (((α ∷ [], tt), (fullShare, tt), tt, (record { ptr = (b, 0); name = δ; now = clock-at n }, tt), (vptr b 0 ∷ [], tt)), tt)
+  to-advance α δ b =
+      (((α ∷ [], tt), (fullShare, tt), tt, (record { ptr = (b, 0); name = δ; now = clock-at n }, tt), (vptr b 0 ∷ [], tt)), tt)
 
   advance-given : (α : ℕ) (δ : GName) (b : ℕ) → ent 𝓤 (sep 𝓤 (A .lft (α ∷ []) fullShare) (sem 𝓤 H A (lent-at α δ b)))
       (Advance 𝓤 H A at-mem run .pre (to-advance α δ b))
@@ -150,7 +153,8 @@ module _ {M : Type 1} (𝓤 : URA M) (H : Heap 𝓤) (A : Atoms 𝓤) (W : Given
 
   -- ==== the walk
 
-  module _ (C : Calls 𝓤 H) (Λ : Loops 𝓤 H) (fm : FmC 𝓤 H (W .laws) C) (known-advance : Triple 𝓤 (C #session·advance) (Advance 𝓤 H A at-mem run))
+  module _ (C : Calls 𝓤 H) (Λ : Loops 𝓤 H) (fm : FmC 𝓤 H (W .laws) C)
+      (known-advance : Triple 𝓤 (C #session·advance) (Advance 𝓤 H A at-mem run))
       (known-done-at : Triple 𝓤 (C #session·done-at) (DoneAt 𝓤 H A at-mem run)) where
     walk : Is subscription.the-row x (held ∷ []) → Holds (hasTy subscription-laws.mir held) × WT held → n < 2 ^ 64
         → ent 𝓤 (onEntry 𝓤 H A beaten.signature tt tt (x, tt) (held ∷ [], tt)) (WpFn 𝓤 H C Λ code.function (held ∷ []) Post)
@@ -173,7 +177,8 @@ module _ {M : Type 1} (𝓤 : URA M) (H : Heap 𝓤) (A : Atoms 𝓤) (W : Given
         calls-at ! fm (Advance 𝓤 H A at-mem run) known-advance (to-advance α δ l₂)
         (and-then ! (load ! (from ! (stop !)) (look ! 4 refl)) (no-more !)) (λ v.
         use1 W (later (some (λ (d : Due). ((‵ (flft (α ∷ []) fullShare) ⊛ ‵ ftrue) ⊛ ‵ (due.the-row .own d (v ∷ [])))
-        ⊛ some (λ (last : Clock × Unit {0}). (‵ (fres δ (clock.the-row .coded .code (last .0))) ⊛ ‵ ftrue) ⊛ raw (fact 𝓤 (Said (last .0) d))))))
+        ⊛ some (λ (last : Clock × Unit {0}). (‵ (fres δ (clock.the-row .coded .code (last .0))) ⊛ ‵ ftrue) ⊛ raw
+        (fact 𝓤 (Said (last .0) d))))))
         (id⊢ 𝓤 _) $ await ! tt $ pick ! (λ d. split ! $ move ! (1 ∷ []) $
         pick ! (λ last. split ! $ move ! (1 ∷ []) $ heard ! (Said (last .0) d) (λ said.
         split ! $ move ! (2 ∷ []) $ split ! $ split ! $
@@ -189,7 +194,8 @@ module _ {M : Type 1} (𝓤 : URA M) (H : Heap 𝓤) (A : Atoms 𝓤) (W : Given
         (init ! 4 refl (tt, wt .1 .0)) $
         -- what is done
         owned ! u64 (Is u64) (uint-makes 𝓤 H A W w64) (last .0 .ticks) _ (refl, wt .1 .0 .fits) $
-        owned ! subscription.the-row (Is subscription.the-row) (struct.makes subscription.the-type subscription-laws.the-plain 𝓤 H A) x _ is $
+        owned ! subscription.the-row (Is subscription.the-row)
+        (struct.makes subscription.the-type subscription-laws.the-plain 𝓤 H A) x _ is $
         use3 W (raw (DoneAt 𝓤 H A at-mem run .pre (to-done-at (last .0 .ticks) d v))) (done-at-given (last .0 .ticks) d v) $
         calls-at ! fm (DoneAt 𝓤 H A at-mem run) known-done-at (to-done-at (last .0 .ticks) d v)
         (and-then ! (load ! (from ! (stop !)) (look ! 11 refl)) (and-then ! (load ! (from ! (stop !)) (look ! 4 refl))
@@ -223,7 +229,8 @@ beaten-meets : {M : Type 1} (𝓤 : URA M) (H : Heap 𝓤) (A : Atoms 𝓤) → 
 beaten-meets 𝓤 H A W mem run 𝓣 known-advance known-done-at =
     walk-meets 𝓤 H A beaten.ended stayed W (goes-none 𝓤 H A W 0 (λ _. subscription.the-row) yes (λ κs x f. refl), tt)
     (beaten.clauses 𝓤 H A mem run) (WpFn 𝓤 H (𝓣 .C) (𝓣 .Λ) code.function)
-    (WpFn-mono 𝓤 H (W .laws) 𝓣 code.function) (beaten-walks 𝓤 H A W mem run (𝓣 .C) (𝓣 .Λ) (fmOf 𝓤 H (W .laws) 𝓣) known-advance known-done-at)
+    (WpFn-mono 𝓤 H (W .laws) 𝓣 code.function) (beaten-walks 𝓤 H A W mem run (𝓣 .C) (𝓣 .Λ)
+    (fmOf 𝓤 H (W .laws) 𝓣) known-advance known-done-at)
 
 pub beaten-spec : {M : Type 1} → stated.statement M
 unfolding code.routine tablesOf

@@ -12,5 +12,9 @@ decide-opened-spec =
     (λ c κs. search needs)
     (λ c. rw (c .before .before .match .keys1, sym (c .before .is-fine .ensures) ∙ c .if1 .taken))
     (λ c κs. search needs)
-    (λ c. rw (c .before .before .before .match .keys1, sym (c .before .before .is-fine .ensures) ∙ c .before .if1 .left, c .error-code .ensures))
+    (λ c. rw (
+      c .before .before .before .match .keys1,
+      sym (c .before .before .is-fine .ensures) ∙ c .before .if1 .left,
+      c .error-code .ensures,
+    ))
     (λ c. rw (ne-eqb _ _ (c .match .rest .1))))

@@ -14,7 +14,8 @@ returns c =
     let n = p .before .before in
     let s = n .before .before .before in
     rw (f .fill .ensures .1 .output, y .copy .ensures .output, q .put-little2 .ensures .1 .output, p .put-little .ensures .1 .output)
-    (started (s .args .area .now) (s .args .payload .now) (n .little .result) (s .pre .0) (s .pre .1) (n .little .ensures .0) (omega (arith, n .little .ensures .1)))
+    (started (s .args .area .now) (s .args .payload .now) (n .little .result) (s .pre .0) (s .pre .1) (n .little .ensures .0)
+    (omega (arith, n .little .ensures .1)))
 
 pub start-spec : {M : Type 1} → statement M
 start-spec =

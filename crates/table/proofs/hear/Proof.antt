@@ -20,7 +20,8 @@ returns c =
     let x = k .before .before .before .before .before in
     let s = x .before .before .before .before .before .before in
     let a = s .args in
-    let w = heard (a .table .now) (a .s) (a .bytes .now) (s .pre .0) (s .pre .1) (settings-of (x .settings-apart .result)) (x .settings-apart .ensures) (a .place .now) (k .receive .ensures) in
+    let w = heard (a .table .now) (a .s) (a .bytes .now) (s .pre .0) (s .pre .1) (settings-of (x .settings-apart .result))
+    (x .settings-apart .ensures) (a .place .now) (k .receive .ensures) in
     (k .receive .ensures .within, w .0, w .1)
 
 pub hear-spec : {M : Type 1} → statement M

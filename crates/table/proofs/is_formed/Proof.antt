@@ -27,14 +27,16 @@ returns-2 c =
     let i = t .before .before in
     let s = i .before .before .before .before in
     rw (sym (i .before .is-formed .ensures) ∙ not-false _ (i .if1 .left))
-    (formed-stops (s .args .table .now) (l .s) (t .loop-test .taken) (sym (c .before .is-formed2 .ensures) ∙ not-true _ (c .if2 .taken)) (l .inv))
+    (formed-stops (s .args .table .now) (l .s) (t .loop-test .taken) (sym (c .before .is-formed2 .ensures) ∙ not-true _ (c .if2 .taken))
+    (l .inv))
 
 loop-again : tie.Need-loop-again Inv-loop μ-loop
 loop-again c =
     let t = c .before .before .before in
     let l = t .before .loop in
     let s = t .before .before .before .before .before .before in
-    formed-goes-on (s .args .table .now) (l .s) (t .loop-test .taken) (sym (c .before .is-formed2 .ensures) ∙ not-false _ (c .if2 .left)) (l .inv)
+    formed-goes-on (s .args .table .now) (l .s) (t .loop-test .taken) (sym (c .before .is-formed2 .ensures) ∙ not-false _ (c .if2 .left))
+    (l .inv)
 
 returns-3 : tie.Need-returns-3 Inv-loop μ-loop
 unfolding table-formed
@@ -42,7 +44,8 @@ returns-3 c =
     let l = c .before .loop in
     let i = c .before .before in
     let s = i .before .before .before .before in
-    rw (sym (i .before .is-formed .ensures) ∙ not-false _ (i .if1 .left)) (formed-ends (s .args .table .now) (l .s) (c .loop-test .left) (l .inv))
+    rw (sym (i .before .is-formed .ensures) ∙ not-false _ (i .if1 .left))
+    (formed-ends (s .args .table .now) (l .s) (c .loop-test .left) (l .inv))
 
 pub is-formed-spec : {M : Type 1} → statement M
 is-formed-spec =

@@ -20,7 +20,8 @@ returns c =
     let k = c .before .before in
     let i = k .before .before in
     let a = i .before .before .before in
-    noted-identifier (a .args .table .now) (k .put-in-force .last .0) (a .args .kind) (a .args .place .now) (a .pre .0) (i .if1 .taken) (k .put-in-force .ensures)
+    noted-identifier (a .args .table .now) (k .put-in-force .last .0) (a .args .kind) (a .args .place .now) (a .pre .0) (i .if1 .taken)
+    (k .put-in-force .ensures)
 
 -- it is a tightening
 module _ (c : tie.Else1) where
@@ -47,7 +48,8 @@ returns-2 c =
     let k = c .before .before in
     let l = k .before .before in
     let a = l .before .before .before .before in
-    noted-number (a .args .table .now) (k .put-last .last .0) (a .args .kind) (a .args .place .now) (a .pre .0) (l .little .result) (second (l .before)) (l .little .ensures .0) (k .put-last .ensures)
+    noted-number (a .args .table .now) (k .put-last .last .0) (a .args .kind) (a .args .place .now) (a .pre .0) (l .little .result)
+    (second (l .before)) (l .little .ensures .0) (k .put-last .ensures)
 
 pub note-spec : {M : Type 1} → statement M
 note-spec =

@@ -22,7 +22,8 @@ returns c =
     let t = s .args .table .now in
     let n = s .args .s in
     became-alone t n opening (s .pre .0) (s .pre .1) (k .«open» .last .0) (k .«open» .ensures .0)
-    (k .«open» .ensures .1 ∙ opened-fresh (decode t .shared) (session-of (part t n)) (ap is-closed (sym (part-is t n (s .pre .1))) ∙ s .pre .2))
+    (k .«open» .ensures .1 ∙ opened-fresh (decode t .shared) (session-of (part t n))
+    (ap is-closed (sym (part-is t n (s .pre .1))) ∙ s .pre .2))
 
 pub open-spec : {M : Type 1} → statement M
 open-spec =

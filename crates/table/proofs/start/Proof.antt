@@ -18,7 +18,8 @@ loop-again c =
     let t = k .before .before in
     let l = t .before .loop in
     let s = t .before .before .before .before in
-    closed-next (s .args .table .now) (s .pre .0) (l .table) (l .s) (l .inv) (k .start .last .0) (t .loop-test .taken) (k .start .ensures .0) (k .start .ensures .1)
+    closed-next (s .args .table .now) (s .pre .0) (l .table) (l .s) (l .inv) (k .start .last .0) (t .loop-test .taken)
+    (k .start .ensures .0) (k .start .ensures .1)
 
 returns : tie.Need-returns Inv-loop μ-loop
 returns c =
@@ -26,7 +27,8 @@ returns c =
     let t = k .before .before in
     let l = t .before .loop in
     let s = t .before .before .before .before in
-    closed-all (s .args .table .now) (s .pre .0) (l .table) (l .s) (l .inv) (s .args .payload .now) (k .start2 .last .0) (t .loop-test .left) (k .start2 .ensures)
+    closed-all (s .args .table .now) (s .pre .0) (l .table) (l .s) (l .inv) (s .args .payload .now) (k .start2 .last .0)
+    (t .loop-test .left) (k .start2 .ensures)
 
 pub start-spec : {M : Type 1} → statement M
 start-spec =

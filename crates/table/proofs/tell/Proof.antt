@@ -58,9 +58,11 @@ loop-again c =
     let room = l .inv .1 in
     let few = t .loop-test .taken in
     let r = k .event .last .0 in
-    let g = steps-with (a .table .now) (l .s) (event (event-in (a .kind) (a .place .now))) (session-of (part (l .table) (l .s))) (p .settings-apart .ensures)
+    let g = steps-with (a .table .now) (l .s) (event (event-in (a .kind) (a .place .now))) (session-of (part (l .table) (l .s)))
+    (p .settings-apart .ensures)
     (k .event .ensures .1) in (
-      walk-next (each (decode (a .table .now)) (to-all (event (event-in (a .kind) (a .place .now))))) (a .table .now) (a .out .now) (a .at) (l .table) (l .out) (l .to) (l .s) w
+      walk-next (each (decode (a .table .now)) (to-all (event (event-in (a .kind) (a .place .now))))) (a .table .now) (a .out .now) (a .at)
+          (l .table) (l .out) (l .to) (l .s) w
           r (k .event .result .at) _ few g,
       room-next (copy-most (kind-at (a .kind))) (a .at) (l .to) (k .event .result .at) (l .s) room (k .event .ensures .0),
       bit-next (l .bit) (l .s) (l .inv .2),
@@ -75,8 +77,13 @@ returns c =
     let s = c .before .before .before .before .before .before .before in
     let a = s .args in
     let w = l .inv .0 in
-    let e = walked (to-all (event (event-in (a .kind) (a .place .now)))) (a .table .now) (a .out .now) (a .at) (l .table) (l .out) (l .to) (l .s) (s .pre .0) w (c .loop-test .left) in
-    (room-all (copy-most (kind-at (a .kind))) (a .at) (l .to) (l .s) (w .within) (l .inv .1), taken-all (a .kind) (l .table) (l .s) (l .taken) _ (c .loop-test .left) (l .inv .3), e .0, e .1)
+    let e = walked (to-all (event (event-in (a .kind) (a .place .now)))) (a .table .now) (a .out .now) (a .at) (l .table) (l .out) (l .to)
+    (l .s) (s .pre .0) w (c .loop-test .left) in (
+      room-all (copy-most (kind-at (a .kind))) (a .at) (l .to) (l .s) (w .within) (l .inv .1),
+      taken-all (a .kind) (l .table) (l .s) (l .taken) _ (c .loop-test .left) (l .inv .3),
+      e .0,
+      e .1,
+    )
 
 pub tell-spec : {M : Type 1} → statement M
 tell-spec =

@@ -48,7 +48,8 @@ loop-again c =
     let room = l .inv .1 in
     let few = t .loop-test .taken in (
       walk-next (each (decode (a .table .now)) ticks) (a .table .now) (a .out .now) (a .at) (l .table) (l .out) (l .to) (l .s) (l .inv .0)
-          (k .tick .last .0) (k .tick .result) _ few (steps-with (a .table .now) (l .s) tick (session-of (part (l .table) (l .s))) (p .settings-apart .ensures) (k .tick .ensures .1)),
+          (k .tick .last .0) (k .tick .result) _ few
+          (steps-with (a .table .now) (l .s) tick (session-of (part (l .table) (l .s))) (p .settings-apart .ensures) (k .tick .ensures .1)),
       omega (arith, k .tick .ensures .0),
     )
 

@@ -24,11 +24,13 @@ abbrev μ-loop : tie.MeasureT-loop
 few : (c : tie.In-loop Inv-loop μ-loop) → c .before .loop .n < 10 ^ 18
 few c = power-bound 10 _ 18 _ (lit< tt) (omega arith) (c .before .loop .inv .2)
 
-digit : (c : tie.In-loop Inv-loop μ-loop) → let b = getD (c .before .before .before .args .s .now) (c .before .loop .i) 0 in (48 ≤ b) × (b ≤ 57)
+digit : (c : tie.In-loop Inv-loop μ-loop)
+    → let b = getD (c .before .before .before .args .s .now) (c .before .loop .i) 0 in (48 ≤ b) × (b ≤ 57)
 digit c =
     let s = c .before .before .before in
     let b = getD (s .args .s .now) (c .before .loop .i) 0 in
-    let t = and-eq-true-iff (leb 48 b) (leb b 57) .0 (all-at is-digit (s .args .s .now) (c .before .loop .i) 0 (s .pre .1) (c .loop-test .taken)) in
+    let t = and-eq-true-iff (leb 48 b) (leb b 57) .0
+    (all-at is-digit (s .args .s .now) (c .before .loop .i) 0 (s .pre .1) (c .loop-test .taken)) in
     (leb-true 48 b (t .0), leb-true b 57 (t .1))
 
 loop-again : tie.Need-loop-again Inv-loop μ-loop

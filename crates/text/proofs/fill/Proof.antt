@@ -30,8 +30,11 @@ returns : tie.Need-returns Inv-loop μ-loop
 returns c =
     let a = c .before .before .args in
     let l = c .before .loop in
-    let z : a .width - l .i ≡ 0 = omega arith in
-    (refl, put-of (a .width) _ (length-replicate (a .width) (a .b)) (all-written (a .at + l .i) (ap (λ (n : ℕ). replicate n (a .b)) z) (l .inv .2)) refl)
+    let z : a .width - l .i ≡ 0 = omega arith in (
+      refl,
+      put-of (a .width) _ (length-replicate (a .width) (a .b))
+          (all-written (a .at + l .i) (ap (λ (n : ℕ). replicate n (a .b)) z) (l .inv .2)) refl,
+    )
 
 pub fill-spec : {M : Type 1} → statement M
 fill-spec =

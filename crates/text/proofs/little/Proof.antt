@@ -57,7 +57,8 @@ little-spec =
     (λ c. search needs)
     (λ c. search needs)
     (λ c κs. search needs)
-    (λ c. let a = c .before .before .before .before .before .args in omega (arith, few (c .before .before), c .before .shared-slice-known2 .given (a .at + (c .before .before .before .loop .i - 1))))
+    (λ c. let a = c .before .before .before .before .before .args in omega
+    (arith, few (c .before .before), c .before .shared-slice-known2 .given (a .at + (c .before .before .before .loop .i - 1))))
     (λ c. search needs)
     loop-again
     returns)

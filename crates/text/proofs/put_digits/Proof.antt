@@ -26,7 +26,8 @@ loop-again c =
     let l = c .before .loop in (
       omega arith,
       simp length-set (l .inv .1),
-      written-back (l .out) (digits (l .i - 1) (l .left / 10)) (a .at) (l .i - 1) (0x30 + l .left % 10) (digits-last _ _ (c .loop-test .taken)) (digits-length _ _) (l .inv .2),
+      written-back (l .out) (digits (l .i - 1) (l .left / 10)) (a .at) (l .i - 1) (0x30 + l .left % 10)
+          (digits-last _ _ (c .loop-test .taken)) (digits-length _ _) (l .inv .2),
     )
 
 returns : tie.Need-returns Inv-loop μ-loop
@@ -34,8 +35,11 @@ unfolding digits
 returns c =
     let a = c .before .before .args in
     let l = c .before .loop in
-    let z : l .i ≡ 0 = omega arith in
-    (refl, put-of (a .width) _ (digits-length (a .width) (a .n)) (all-written (a .at) (ap (λ (k : ℕ). digits k (l .left)) z) (l .inv .2)) refl)
+    let z : l .i ≡ 0 = omega arith in (
+      refl,
+      put-of (a .width) _ (digits-length (a .width) (a .n))
+          (all-written (a .at) (ap (λ (k : ℕ). digits k (l .left)) z) (l .inv .2)) refl,
+    )
 
 pub put-digits-spec : {M : Type 1} → statement M
 put-digits-spec =

@@ -33,8 +33,11 @@ unfolding in-bytes
 returns c =
     let a = c .before .before .args in
     let l = c .before .loop in
-    let z : a .size - l .i ≡ 0 = omega arith in
-    (refl, put-of (a .size) _ (in-bytes-length (a .size) (a .n)) (all-written (a .at + l .i) (ap (λ (k : ℕ). in-bytes k (l .left)) z) (l .inv .2)) refl)
+    let z : a .size - l .i ≡ 0 = omega arith in (
+      refl,
+      put-of (a .size) _ (in-bytes-length (a .size) (a .n))
+          (all-written (a .at + l .i) (ap (λ (k : ℕ). in-bytes k (l .left)) z) (l .inv .2)) refl,
+    )
 
 pub put-little-spec : {M : Type 1} → statement M
 put-little-spec =

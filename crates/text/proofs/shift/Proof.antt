@@ -23,7 +23,8 @@ loop-again : tie.Need-loop-again Inv-loop μ-loop
 loop-again c =
     let l = c .before .before in
     let s = l .before in
-    moved (s .args .b .now) (l .loop .b) (s .args .to) (s .args .from) (s .args .n) (l .loop .i) (l .loop .inv) (c .before .loop-test .taken) (s .pre .0) (s .pre .1)
+    moved (s .args .b .now) (l .loop .b) (s .args .to) (s .args .from) (s .args .n) (l .loop .i) (l .loop .inv)
+    (c .before .loop-test .taken) (s .pre .0) (s .pre .1)
 
 returns : tie.Need-returns Inv-loop μ-loop
 returns c =
