@@ -1,6 +1,6 @@
 -- A tightening as it is kept: the payload of its record with another identifier before the rest and its number behind it. Assumes nothing.
 use mathlib.Core.Path.{_≡_, sym, ap, _∙_}
-use Prim.Native.Nat.{ℕ, _+_, _-_, _≤_, _<_}
+use Prim.Native.Nat.{suc, ℕ, _+_, _-_, _≤_, _<_}
 use native.Mathlib.Nat.{zero-add}
 use native.Mathlib.Omega.{arith}
 use mathlib.Core.Bool.{Bool, true, false, cond}
@@ -8,6 +8,7 @@ use mathlib.Core.List.{List, _++_}
 use lib.Dec.{lit≤}
 use lib.ListN.{length, take, drop, length-drop}
 use lib.Seq.{sets, length-sets, sets-eq, take-take, drop-drop, drop-append-le, take-append-le}
+use Rattle.model.specs.Limits.{identifier-length, number-greatest}
 use Rattle.model.specs.Bytes.{is-space, all, little, in-bytes}
 use Rattle.model.specs.Records.{identifier-in, tightening-of, tightening}
 use Rattle.model.specs.Events.{tightened, identifier-of}
@@ -55,7 +56,8 @@ module _ (p q : List ℕ) (same : take 81 (drop 25 p) ≡ take 81 (drop 25 q)) w
   }
 
 -- the payload p, then the identifier x over its own, then the number n behind it
-module _ (z p x : List ℕ) (n : ℕ) (lz : length z ≡ 110) (lp : length p ≡ 106) (lx : length x ≡ 25) (ln : n < 4_294_967_296) where
+module _ (z p x : List ℕ) (n : ℕ) (lz : length z ≡ 110) (lp : length p ≡ 106) (lx : length x ≡ identifier-length)
+    (ln : n < suc number-greatest) where
   abbrev kept : List ℕ
   kept = sets (sets (sets z 0 p) 0 x) 106 (in-bytes 4 n)
 
@@ -78,7 +80,7 @@ module _ (z p x : List ℕ) (n : ℕ) (lz : length z ≡ 110) (lp : length p ≡
   kept-identifier : take 25 (drop 0 kept) ≡ x
   kept-identifier =
       let y = sets z 0 p in
-      let l : 0 + length x ≡ 25 = zero-add _ ∙ lx in
+      let l : 0 + length x ≡ identifier-length = zero-add _ ∙ lx in
       take-sets-before (in-bytes 4 n) (sets y 0 x) 106 25 (lit≤ tt) ∙ ap (λ (k : ℕ). take k (sets y 0 x)) (sym l)
       ∙ take-sets x y 0 (omega (arith, length-sets z 0 p))
 
@@ -101,18 +103,19 @@ module _ (z p x : List ℕ) (n : ℕ) (lz : length z ≡ 110) (lp : length p ≡
   })
 
 -- the identifier that is meant is as long as the two are
-pub meant-length : {x : List ℕ} (own in-force : List ℕ) → x ≡ identifier-of own in-force → length own ≡ 25 → length in-force ≡ 25
-    → length x ≡ 25
+pub meant-length : {x : List ℕ} (own in-force : List ℕ) → x ≡ identifier-of own in-force → length own ≡ identifier-length
+    → length in-force ≡ identifier-length
+    → length x ≡ identifier-length
 meant-length own in-force e a b = ap length e ∙ go (all is-space own)
   where
-    go : (s : Bool) → length (cond s in-force own) ≡ 25
+    go : (s : Bool) → length (cond s in-force own) ≡ identifier-length
     go true = b
     go false = a
 
 -- the same, as the code writes it
 pub result-put : (z p x : List ℕ) (n : ℕ) {p₁ p₂ p₃ : List ℕ} {r₁ r₂ r₃ : ℕ} → Put z 0 p r₁ p₁ → Put p₁ 0 x r₂ p₂
     → Put p₂ 106 (in-bytes 4 n) r₃ p₃
-    → length z ≡ 110 → length p ≡ 106 → length x ≡ 25 → n < 4_294_967_296
+    → length z ≡ 110 → length p ≡ 106 → length x ≡ identifier-length → n < suc number-greatest
     → (g : Shared) → x ≡ identifier-of (identifier-in p) (g .in-force) → n ≡ g .last + 1
     → tightened (result-of p₃) ≡ reported g (tightening (identifier-in p) (tightening-of p))
 result-put z p x n a b c lz lp lx ln g ex en =
@@ -121,5 +124,5 @@ result-put z p x n a b c lz lp lx ln g ex en =
     ∙ result-kept z p x n lz lp lx ln g ex en
 
 -- there is a number left
-pub next-number : (n : ℕ) → n < 4_294_967_296 → (n ≡ 4_294_967_295 → ⊥) → n + 1 < 4_294_967_296
+pub next-number : (n : ℕ) → n < suc number-greatest → (n ≡ number-greatest → ⊥) → n + 1 < suc number-greatest
 next-number n h ne = omega arith

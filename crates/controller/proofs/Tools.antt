@@ -6,6 +6,7 @@ use mathlib.Core.Bool.{Bool, true, false, cond}
 use mathlib.Core.List.{List, [], _∷_}
 use mathlib.Core.Option.{Option, none, Option·map as option-map}
 use lib.ListN.{length}
+use Rattle.model.specs.Limits.{identifier-length}
 use Rattle.model.specs.Records.{payload, good-record, identifier-in, tightening-of, tightening-items, scanned-items, Tool, tightening}
 use Rattle.model.specs.Records.{read-tool}
 use Rattle.model.specs.Kinds.{identifiers, tightenings, event-most, call-most}
@@ -47,11 +48,12 @@ module _ (kind : Kind) (slice : List ℕ) (e : tool-in kind slice ≡ read-tool 
       go false true p q = let z : _≡_ {A = ℕ} 0 1 = cc in absurd (omega arith)
       go false false p q = let z : _≡_ {A = ℕ} 0 1 = cc in absurd (omega arith)
 
-  pub scan-size : {p : List ℕ} → p ≡ payload slice → kind ≡ Scanned → length p ≡ 25
+  pub scan-size : {p : List ℕ} → p ≡ payload slice → kind ≡ Scanned → length p ≡ identifier-length
   unfolding read-tool
   scan-size q k = ap length q ∙ go (good-record 1 tightening-items slice) (good-record 2 scanned-items slice) refl (read k)
     where
-      go : (a b : Bool) → good-record 2 scanned-items slice ≡ b → tool-in Scanned slice ≡ by-tests a b → length (payload slice) ≡ 25
+      go : (a b : Bool) → good-record 2 scanned-items slice ≡ b → tool-in Scanned slice ≡ by-tests a b
+          → length (payload slice) ≡ identifier-length
       go false true p q = good-length 2 scanned-items slice p
       go true b p q = let z : _≡_ {A = ℕ} 0 1 = cc in absurd (omega arith)
       go false false p q = let z : _≡_ {A = ℕ} 0 1 = cc in absurd (omega arith)

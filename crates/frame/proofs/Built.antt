@@ -8,8 +8,9 @@ use mathlib.Core.List.{List, [], _∷_, _++_, append-assoc}
 use lib.ListN.{length, length-append}
 use lib.Seq.{take-all}
 use borrow.Author.Tests.{ne-eqb}
+use Rattle.model.specs.Limits.{identifier-length}
 use Rattle.model.specs.Bytes.{all, space, digit-0, digit-1, digits}
-use Rattle.model.specs.Records.{settings-of, tightening-of}
+use Rattle.model.specs.Records.{settings-of, tightening-of, settings-length}
 use Rattle.model.specs.Frames.{header, frame, Field, value, fields-from, controller-fields, result-fields, frame-0002, frame-0004}
 use Rattle.model.specs.Frames.{frame-0005, frame-0052, frame-0061}
 use Rattle.text.specs.Put.{Put}
@@ -99,11 +100,11 @@ module _ (no-acknowledge : Bool) where
   abbrev flag : ℕ
   flag = cond no-acknowledge digit-1 digit-0
 
-  pub is-0052-1 : (x : List ℕ) → length x ≡ 25 → frame 52 1 flag (laid-out 1 identifier-1 x) ≡ frame-0052 1 no-acknowledge x
+  pub is-0052-1 : (x : List ℕ) → length x ≡ identifier-length → frame 52 1 flag (laid-out 1 identifier-1 x) ≡ frame-0052 1 no-acknowledge x
   unfolding frame-0052 laid-out
   is-0052-1 x e = rw (take-all 25 x (omega arith))
 
-  pub is-0052-2 : (revision : ℕ) (x : List ℕ) → (revision ≡ 1 → ⊥) → length x ≡ 25
+  pub is-0052-2 : (revision : ℕ) (x : List ℕ) → (revision ≡ 1 → ⊥) → length x ≡ identifier-length
       → frame 52 revision flag (laid-out 1 identifier-2 x) ≡ frame-0052 revision no-acknowledge x
   unfolding frame-0052 laid-out
   is-0052-2 revision x h e = rw (ne-eqb revision 1 h, take-all 25 x (omega arith))
@@ -119,14 +120,15 @@ module _ (no-acknowledge : Bool) where
 -- ==== the frames, of the writes that put them together
 
 module _ {o o₁ o₂ : List ℕ} {r₁ r₂ : ℕ} where
-  pub built-0002 : (bs : List ℕ) → length bs ≡ 33 → length o ≡ 57
+  pub built-0002 : (bs : List ℕ) → length bs ≡ settings-length → length o ≡ 57
       → Put o 0 (header 57 2 1 space) r₁ o₁ → Put o₁ r₁ (laid-out 1 controller bs) r₂ o₂ → o₂ ≡ frame-0002 (settings-of bs)
   unfolding layout-length
   built-0002 bs n l p q =
       let m = laid-out-length bs controller 1 (serves controller 33 bs n refl) in
       built 57 2 1 space (laid-out 1 controller bs) (ap (λ (k : ℕ). 20 + k) m) l (put-then p q) ∙ is-0002 bs
 
-  module _ (no-acknowledge : Bool) (b : ℕ) (eb : b ≡ cond no-acknowledge digit-1 digit-0) (x : List ℕ) (n : length x ≡ 25) where
+  module _ (no-acknowledge : Bool) (b : ℕ) (eb : b ≡ cond no-acknowledge digit-1 digit-0) (x : List ℕ)
+      (n : length x ≡ identifier-length) where
     pub built-0052-1 : length o ≡ 47 → Put o 0 (header 47 52 1 b) r₁ o₁ → Put o₁ r₁ (laid-out 1 identifier-1 x) r₂ o₂
         → o₂ ≡ frame-0052 1 no-acknowledge x
     unfolding layout-length
@@ -144,7 +146,7 @@ module _ {o o₁ o₂ : List ℕ} {r₁ r₂ : ℕ} where
         ∙ ap (λ (k : ℕ). frame 52 revision k (laid-out 1 identifier-2 x)) eb ∙ is-0052-2 no-acknowledge revision x h n
 
   module _ {o₃ : List ℕ} {r₃ : ℕ} (no-acknowledge : Bool) (b : ℕ) (eb : b ≡ cond no-acknowledge digit-1 digit-0) where
-    pub built-0061 : (revision : ℕ) (bs rs : List ℕ) → length bs ≡ 33 → length rs ≡ 110 → length o ≡ 231
+    pub built-0061 : (revision : ℕ) (bs rs : List ℕ) → length bs ≡ settings-length → length rs ≡ 110 → length o ≡ 231
         → Put o 0 (header 231 61 revision b) r₁ o₁ → Put o₁ r₁ (laid-out 1 controller bs) r₂ o₂ → Put o₂ r₂ (laid-out 4 result rs) r₃ o₃
         → o₃ ≡ frame-0061 (settings-of bs) revision no-acknowledge (result-of rs)
     unfolding layout-length

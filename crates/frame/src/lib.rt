@@ -3,10 +3,10 @@ ghost use mathlib.Core.Path.{_≡_};
 ghost use mathlib.Core.Bool.{true, cond, _||_};
 ghost use Prim.Native.Nat.{_+_, _≤_, _<_};
 ghost use lib.ListN.{length, take, drop};
-ghost use Rattle.model.specs.Limits.{header-length};
+ghost use Rattle.model.specs.Limits.{header-length, identifier-length};
 ghost use Rattle.model.specs.Bytes.{digit-0, digit-1, is-digit, is-space, all};
 ghost use Rattle.model.specs.Runs.{is-flag as is-flag-byte, revision-of, is-message as is-message-run};
-ghost use Rattle.model.specs.Records.{settings-of};
+ghost use Rattle.model.specs.Records.{settings-of, settings-length};
 ghost use Rattle.model.specs.Kinds.{kind-at, identifiers, tightenings, copy-most, reply-most};
 ghost use Rattle.model.specs.Frames.{
   header as header-bytes,
@@ -260,7 +260,7 @@ pub fn put_close(out: &mut [u8], at: usize, s: u64) -> usize
 
 // 0002: the session is started. The settings are a settings record's payload.
 pub fn put_0002(out: &mut [u8], at: usize, s: u64, settings: &[u8]) -> usize
-    requires { ⌜ (at + reply-most ≤ length (now out)) × (s < 256) × (length (now settings) ≡ 33) ⌝ }
+    requires { ⌜ (at + reply-most ≤ length (now out)) × (s < 256) × (length (now settings) ≡ settings-length) ⌝ }
     ensures { λ r. ⌜ (r ≡ at + reply-most)
         × Put (now (out .entry)) at (frame-record s (frame-0002 (settings-of (now (settings .entry))))) r (now (out .exit)) ⌝ }
 {
@@ -302,7 +302,7 @@ fn byte_12(no_acknowledge: bool) -> u8
 
 // 0052, revision 1.
 fn put_0052_1(out: &mut [u8], at: usize, s: u64, no_acknowledge: bool, identifier: &[u8]) -> usize
-    requires { ⌜ (at + 52 ≤ length (now out)) × (s < 256) × (length (now identifier) ≡ 25) ⌝ }
+    requires { ⌜ (at + 52 ≤ length (now out)) × (s < 256) × (length (now identifier) ≡ identifier-length) ⌝ }
     ensures { λ r. ⌜ (r ≡ at + 52)
         × Put (now (out .entry)) at (frame-record s (frame-0052 1 «no_acknowledge» (now (identifier .entry)))) r (now (out .exit)) ⌝ }
 {
@@ -321,7 +321,7 @@ fn put_0052_2(
     no_acknowledge: bool,
     identifier: &[u8],
 ) -> usize
-    requires { ⌜ (at + copy-most (kind-at identifiers) ≤ length (now out)) × (s < 256) × (length (now identifier) ≡ 25) ⌝ }
+    requires { ⌜ (at + copy-most (kind-at identifiers) ≤ length (now out)) × (s < 256) × (length (now identifier) ≡ identifier-length) ⌝ }
     requires { ⌜ (revision ≡ 1 → ⊥) ⌝ }
     ensures { λ r. ⌜ (r ≡ at + copy-most (kind-at identifiers))
         × Put (now (out .entry)) at (frame-record s (frame-0052 revision «no_acknowledge» (now (identifier .entry)))) r
@@ -342,7 +342,7 @@ pub fn put_0052(
     no_acknowledge: bool,
     identifier: &[u8],
 ) -> usize
-    requires { ⌜ (at + copy-most (kind-at identifiers) ≤ length (now out)) × (s < 256) × (length (now identifier) ≡ 25) ⌝ }
+    requires { ⌜ (at + copy-most (kind-at identifiers) ≤ length (now out)) × (s < 256) × (length (now identifier) ≡ identifier-length) ⌝ }
     ensures { λ r. ⌜ (r ≤ at + copy-most (kind-at identifiers))
         × Put (now (out .entry)) at (frame-record s (frame-0052 revision «no_acknowledge» (now (identifier .entry)))) r
         (now (out .exit)) ⌝ }
@@ -363,7 +363,7 @@ pub fn put_0061(
     settings: &[u8],
     result: &[u8],
 ) -> usize
-    requires { ⌜ (at + copy-most (kind-at tightenings) ≤ length (now out)) × (s < 256) × (length (now settings) ≡ 33)
+    requires { ⌜ (at + copy-most (kind-at tightenings) ≤ length (now out)) × (s < 256) × (length (now settings) ≡ settings-length)
         × (length (now result) ≡ 110) ⌝ }
     ensures { λ r. ⌜ (r ≡ at + copy-most (kind-at tightenings))
         × Put (now (out .entry)) at (frame-record s

@@ -5,7 +5,7 @@ ghost use mathlib.Core.List.{[], _∷_, _++_};
 ghost use Prim.Native.Nat.{_+_, _-_, _*_, _≤_, _<_};
 ghost use lib.Dec.{eqb};
 ghost use lib.ListN.{length};
-ghost use Rattle.model.specs.Records.{settings-of};
+ghost use Rattle.model.specs.Records.{settings-of, settings-length};
 ghost use Rattle.model.specs.Frames.{event-frame, frame-record};
 ghost use Rattle.model.specs.Kinds.{kinds, kind-at, room-of, copy-most};
 ghost use Rattle.model.specs.Notices.{beats, acks, news, takes};
@@ -40,7 +40,7 @@ fn put_copy(
     settings: &[u8],
     place: &[u8],
 ) -> usize
-    requires { ⌜ (at + copy-most (kind-at kind) ≤ length (now out)) × (s < 256) × (length (now settings) ≡ 33)
+    requires { ⌜ (at + copy-most (kind-at kind) ≤ length (now out)) × (s < 256) × (length (now settings) ≡ settings-length)
         × (length (now place) ≡ place-size kind) × (kind < length kinds) ⌝ }
     ensures { λ r. ⌜ (r ≤ at + copy-most (kind-at kind))
         × Put (now (out .entry)) at (frame-record s
@@ -79,7 +79,8 @@ fn carry(
     step: Step,
     settings: &[u8],
 ) -> usize
-    requires { ⌜ (at + copy-most (kind-at kind) ≤ length (now out)) × (s < 256) × (length (now settings) ≡ 33) × (kind < length kinds) ⌝ }
+    requires { ⌜ (at + copy-most (kind-at kind) ≤ length (now out)) × (s < 256) × (length (now settings) ≡ settings-length)
+        × (kind < length kinds) ⌝ }
     requires { ⌜ (held * place-size kind ≤ length (now places)) × Feasible held step ⌝ }
     ensures { λ r. ⌜ (notices-in kind (step .next .held) (now (places .exit))
         ≡ shifted (step .shift) (notices-in kind held (now (places .entry)))) × (r ≤ at + copy-most (kind-at kind))
@@ -120,7 +121,8 @@ pub fn tick(
     x: Subscription,
     settings: &[u8],
 ) -> Dealt
-    requires { ⌜ (at + copy-most (kind-at kind) ≤ length (now out)) × (s < 256) × (length (now settings) ≡ 33) × Kept kind x (now places)
+    requires { ⌜ (at + copy-most (kind-at kind) ≤ length (now out)) × (s < 256) × (length (now settings) ≡ settings-length)
+        × Kept kind x (now places)
         × (kind < length kinds) ⌝ }
     ensures { λ r. ⌜ (r .at ≤ at + copy-most (kind-at kind)) × Deals kind beats x (now (places .entry)) (r .next) (now (places .exit))
         × Put (now (out .entry)) at (dealt-bytes kind s (settings-of (now (settings .entry))) beats x (now (places .entry))) (r .at)
@@ -142,7 +144,8 @@ pub fn acknowledge(
     x: Subscription,
     settings: &[u8],
 ) -> Dealt
-    requires { ⌜ (at + copy-most (kind-at kind) ≤ length (now out)) × (s < 256) × (length (now settings) ≡ 33) × Kept kind x (now places)
+    requires { ⌜ (at + copy-most (kind-at kind) ≤ length (now out)) × (s < 256) × (length (now settings) ≡ settings-length)
+        × Kept kind x (now places)
         × (kind < length kinds) ⌝ }
     ensures { λ r. ⌜ (r .at ≤ at + copy-most (kind-at kind)) × Deals kind acks x (now (places .entry)) (r .next) (now (places .exit))
         × Put (now (out .entry)) at (dealt-bytes kind s (settings-of (now (settings .entry))) acks x (now (places .entry))) (r .at)
@@ -193,7 +196,7 @@ pub fn take(
     settings: &[u8],
     place: &[u8],
 ) -> Took
-    requires { ⌜ (at + copy-most (kind-at kind) ≤ length (now out)) × (s < 256) × (length (now settings) ≡ 33)
+    requires { ⌜ (at + copy-most (kind-at kind) ≤ length (now out)) × (s < 256) × (length (now settings) ≡ settings-length)
         × Kept kind x (now places) ⌝ }
     requires { ⌜ (kind < length kinds) × (length (now place) ≡ place-size kind) ⌝ }
     ensures { λ r. ⌜ (r .at ≤ at + copy-most (kind-at kind))

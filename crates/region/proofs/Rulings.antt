@@ -8,6 +8,7 @@ use native.Mathlib.Omega.{arith}
 use lib.ListN.{length, drop, replicate, length-append, length-replicate, length-drop}
 use types.Run.{OneOf, miss}
 use denote.Enum.Declared.{tagOf}
+use Rattle.model.specs.Limits.{identifier-length}
 use Rattle.model.specs.Bytes.{padded}
 use Rattle.model.specs.Records.{Settings}
 use Rattle.text.specs.Put.{Put}
@@ -44,7 +45,8 @@ module _ (bs : List ℕ) where
   pub not-known : (d : Decision) (place : List ℕ) → OneOf others (tagOf decision-of.the-type d) → Knows (announced d bs) place false place
   not-known d place o = let e = sym (silent d o) in (ap is-known e, ap (λ (z : Option (List ℕ)). known-in z place) e)
 
-  pub now-known : {place place₁ place₂ : List ℕ} {n next mid : ℕ} (d : Decision) → d ≡ Identify mid → length place ≡ 25 → length bs ≤ 25
+  pub now-known : {place place₁ place₂ : List ℕ} {n next mid : ℕ} (d : Decision) → d ≡ Identify mid → length place ≡ identifier-length
+      → length bs ≤ identifier-length
       → Put place 0 bs n place₁ → Put place₁ n (replicate (25 - n) 0x20) next place₂ → Knows (announced d bs) place true place₂
   now-known {place} {place₁} {place₂} {n} {next} {mid} d e size few p q =
       let z = p .place in
@@ -65,5 +67,5 @@ module _ (st : Settings) (x : Session) (run : List ℕ) (count : ℕ) where
       → d ≡ decision-on st x (record { kept = run; count = count })
   ruled eg ed = ed ∙ ap (λ (g : Bool). decision x g (header-of run count) (drop 20 run)) eg
 
-pub data-few : (run bs : List ℕ) → length run ≤ 45 → bs ≡ drop 20 run → length bs ≤ 25
+pub data-few : (run bs : List ℕ) → length run ≤ 45 → bs ≡ drop 20 run → length bs ≤ identifier-length
 data-few run bs l e = rw (e, length-drop 20 run) (omega arith)

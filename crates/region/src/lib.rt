@@ -3,8 +3,8 @@ ghost use mathlib.Core.Path.{_≡_};
 ghost use mathlib.Core.Bool.{true};
 ghost use Prim.Native.Nat.{_+_, _≤_, _<_};
 ghost use lib.ListN.{length, take};
-ghost use Rattle.model.specs.Limits.{header-length, run-kept};
-ghost use Rattle.model.specs.Records.{settings-of};
+ghost use Rattle.model.specs.Limits.{header-length, run-kept, identifier-length};
+ghost use Rattle.model.specs.Records.{settings-of, settings-length};
 ghost use Rattle.model.specs.Runs.{empty-run, longer, cut};
 ghost use Rattle.model.specs.Kinds.{kinds, kind-at, room-of, identifiers, tightenings, copy-most, copies-most, reply-most, session-most};
 ghost use Rattle.model.specs.Notices.{beats, acks, news, takes};
@@ -98,7 +98,8 @@ fn tick_kind(
     x: Subscription,
     settings: &[u8],
 ) -> Dealt
-    requires { ⌜ (at + copy-most (kind-at kind) ≤ length (now out)) × (s < 256) × (length (now settings) ≡ 33) × (kind < length kinds) ⌝ }
+    requires { ⌜ (at + copy-most (kind-at kind) ≤ length (now out)) × (s < 256) × (length (now settings) ≡ settings-length)
+        × (kind < length kinds) ⌝ }
     requires { ⌜ Good (now region) × Kept kind x (places-of kind (now region)) ⌝ }
     ensures { λ r. ⌜ (r .at ≤ at + copy-most (kind-at kind)) × Moved kind (now (region .entry)) (now (region .exit))
         × Deals kind beats x (places-of kind (now (region .entry))) (r .next) (places-of kind (now (region .exit)))
@@ -121,7 +122,8 @@ fn acknowledge_kind(
     x: Subscription,
     settings: &[u8],
 ) -> Dealt
-    requires { ⌜ (at + copy-most (kind-at kind) ≤ length (now out)) × (s < 256) × (length (now settings) ≡ 33) × (kind < length kinds) ⌝ }
+    requires { ⌜ (at + copy-most (kind-at kind) ≤ length (now out)) × (s < 256) × (length (now settings) ≡ settings-length)
+        × (kind < length kinds) ⌝ }
     requires { ⌜ Good (now region) × Kept kind x (places-of kind (now region)) ⌝ }
     ensures { λ r. ⌜ (r .at ≤ at + copy-most (kind-at kind)) × Moved kind (now (region .entry)) (now (region .exit))
         × Deals kind acks x (places-of kind (now (region .entry))) (r .next) (places-of kind (now (region .exit)))
@@ -145,7 +147,8 @@ fn take_kind(
     settings: &[u8],
     place: &[u8],
 ) -> Took
-    requires { ⌜ (at + copy-most (kind-at kind) ≤ length (now out)) × (s < 256) × (length (now settings) ≡ 33) × (kind < length kinds) ⌝ }
+    requires { ⌜ (at + copy-most (kind-at kind) ≤ length (now out)) × (s < 256) × (length (now settings) ≡ settings-length)
+        × (kind < length kinds) ⌝ }
     requires { ⌜ Good (now region) × Kept kind x (places-of kind (now region)) × (length (now place) ≡ place-size kind) ⌝ }
     ensures { λ r. ⌜ (r .at ≤ at + copy-most (kind-at kind)) × Moved kind (now (region .entry)) (now (region .exit))
         × Deals kind (news (notice-in kind (now (place .entry)))) x (places-of kind (now (region .entry))) (r .next)
@@ -171,7 +174,8 @@ fn tick_kinds(
     settings: &[u8],
     x: Session,
 ) -> usize
-    requires { ⌜ (at + copies-most kinds ≤ length (now out)) × (s < 256) × (length (now settings) ≡ 33) × Good (now region) × Storable x ⌝ }
+    requires { ⌜ (at + copies-most kinds ≤ length (now out)) × (s < 256) × (length (now settings) ≡ settings-length) × Good (now region)
+        × Storable x ⌝ }
     ensures { λ r. ⌜ (r ≤ at + copies-most kinds) × Steps s
         (dealt (settings-of (now (settings .entry))) (x .idle) (run-of (run-area (now (region .entry)))) (λ kind. beats)
         (subscriptions-of x (now (region .entry)))) (now (region .exit)) (now (out .entry)) at r (now (out .exit)) ⌝ }
@@ -203,7 +207,8 @@ fn tick_stays(
     settings: &[u8],
     x: Session,
 ) -> usize
-    requires { ⌜ (at + copies-most kinds ≤ length (now out)) × (s < 256) × (length (now settings) ≡ 33) × Good (now region) × Storable x ⌝ }
+    requires { ⌜ (at + copies-most kinds ≤ length (now out)) × (s < 256) × (length (now settings) ≡ settings-length) × Good (now region)
+        × Storable x ⌝ }
     ensures { λ r. ⌜ (r ≤ at + copies-most kinds) × Steps s
         (tick-goes-on (settings-of (now (settings .entry))) (run-of (run-area (now (region .entry))))
         (notices-in identifiers (x .identifiers .held) (identifiers-area (now (region .entry))))
@@ -226,7 +231,7 @@ fn tick_stays(
 
 // A tick to session s.
 pub fn tick(region: &mut [u8], out: &mut [u8], at: usize, s: u64, settings: &[u8]) -> usize
-    requires { ⌜ (at + copies-most kinds ≤ length (now out)) × (s < 256) × (length (now settings) ≡ 33) × Good (now region) ⌝ }
+    requires { ⌜ (at + copies-most kinds ≤ length (now out)) × (s < 256) × (length (now settings) ≡ settings-length) × Good (now region) ⌝ }
     ensures { λ r. ⌜ (r ≤ at + copies-most kinds) × Steps s
         (step (shared-begun (settings-of (now (settings .entry))) 0) one-tick (session-of (now (region .entry)))) (now (region .exit))
         (now (out .entry)) at r (now (out .exit)) ⌝ }
@@ -293,7 +298,8 @@ fn happened(
     kind: usize,
     place: &[u8],
 ) -> Told
-    requires { ⌜ (at + copy-most (kind-at kind) ≤ length (now out)) × (s < 256) × (length (now settings) ≡ 33) × Good (now region)
+    requires { ⌜ (at + copy-most (kind-at kind) ≤ length (now out)) × (s < 256) × (length (now settings) ≡ settings-length)
+        × Good (now region)
         × Storable x × (x .phase ≡ Phase.Started) × (kind < length kinds) × (length (now place) ≡ place-size kind) ⌝ }
     ensures { λ r. ⌜ (r .at ≤ at + copy-most (kind-at kind))
         × Steps s (dealt (settings-of (now (settings .entry))) (x .idle) (run-of (run-area (now (region .entry))))
@@ -321,7 +327,8 @@ pub fn event(
     kind: usize,
     place: &[u8],
 ) -> Told
-    requires { ⌜ (at + copy-most (kind-at kind) ≤ length (now out)) × (s < 256) × (length (now settings) ≡ 33) × Good (now region)
+    requires { ⌜ (at + copy-most (kind-at kind) ≤ length (now out)) × (s < 256) × (length (now settings) ≡ settings-length)
+        × Good (now region)
         × (kind < length kinds) × (length (now place) ≡ place-size kind) ⌝ }
     ensures { λ r. ⌜ (r .at ≤ at + copy-most (kind-at kind))
         × Steps s (step (shared-begun (settings-of (now (settings .entry))) 0) (event-of (event-in kind (now (place .entry))))
@@ -342,7 +349,7 @@ pub fn event(
 // 01, "What a message does": the reply to session s, if the decision has one. The run is the one that was decided on: the header of a
 // 9999 goes back as it came.
 fn reply(out: &mut [u8], at: usize, s: u64, settings: &[u8], run: &[u8], d: Decision) -> usize
-    requires { ⌜ (at + reply-most ≤ length (now out)) × (s < 256) × (length (now settings) ≡ 33)
+    requires { ⌜ (at + reply-most ≤ length (now out)) × (s < 256) × (length (now settings) ≡ settings-length)
         × (d ≡ Decision.Mirror → header-length ≤ length (now run)) ⌝ }
     ensures { λ r. ⌜ (r ≤ at + reply-most) × Put (now (out .entry)) at (out-bytes s (replies (settings-of (now (settings .entry)))
         (take header-length (now (run .entry))) d)) r (now (out .exit)) ⌝ }
@@ -376,7 +383,8 @@ fn acknowledged(
     x: Session,
     kind: usize,
 ) -> usize
-    requires { ⌜ (at + copy-most (kind-at kind) ≤ length (now out)) × (s < 256) × (length (now settings) ≡ 33) × Good (now region)
+    requires { ⌜ (at + copy-most (kind-at kind) ≤ length (now out)) × (s < 256) × (length (now settings) ≡ settings-length)
+        × Good (now region)
         × Storable x × (x .phase ≡ Phase.Started) × (kind < length kinds) ⌝ }
     ensures { λ r. ⌜ (r ≤ at + copy-most (kind-at kind))
         × Steps s (dealt (settings-of (now (settings .entry))) (x .idle) (run-of (run-area (now (region .entry)))) (only kind acks)
@@ -399,7 +407,7 @@ fn carry_out(
     x: Session,
     d: Decision,
 ) -> usize
-    requires { ⌜ (at + copies-most kinds ≤ length (now out)) × (s < 256) × (length (now settings) ≡ 33) × Good (now region) ⌝ }
+    requires { ⌜ (at + copies-most kinds ≤ length (now out)) × (s < 256) × (length (now settings) ≡ settings-length) × Good (now region) ⌝ }
     requires { ⌜ Storable x × Storable (after-so x d) × AcknowledgedIn (x .phase) d ⌝ }
     ensures { λ r. ⌜ (r ≤ at + copies-most kinds) × Steps s
         (carried-out (settings-of (now (settings .entry))) x
@@ -417,7 +425,7 @@ fn carry_out(
 
 // Whether identifiers are taken over the net.
 fn is_granted(settings: &[u8]) -> bool
-    requires { ⌜ length (now settings) ≡ 33 ⌝ }
+    requires { ⌜ length (now settings) ≡ settings-length ⌝ }
     ensures { λ r. ⌜ r ≡ settings-of (now (settings .entry)) .granted ⌝ }
 {
     text::little(settings, 3, 1) == 1
@@ -425,7 +433,7 @@ fn is_granted(settings: &[u8]) -> bool
 
 // The identifier that a decision makes known, if it does, in its place.
 fn announce(place: &mut [u8], data_field: &[u8], d: Decision) -> bool
-    requires { ⌜ (length (now place) ≡ 25) × (length (now data_field) ≤ 25) ⌝ }
+    requires { ⌜ (length (now place) ≡ identifier-length) × (length (now data_field) ≤ identifier-length) ⌝ }
     ensures { λ r. ⌜ Knows (announced d (now (data_field .entry))) (now (place .entry)) r (now (place .exit)) ⌝ }
 {
     let Decision::Identify { mid: _ } = d else {
@@ -454,8 +462,9 @@ fn rule(
     count: usize,
     place: &mut [u8],
 ) -> Ruling
-    requires { ⌜ (at + reply-most ≤ length (now out)) × (s < 256) × (length (now settings) ≡ 33) × (length (now run) ≤ run-kept)
-        × (length (now place) ≡ 25) ⌝ }
+    requires { ⌜ (at + reply-most ≤ length (now out)) × (s < 256) × (length (now settings) ≡ settings-length)
+        × (length (now run) ≤ run-kept)
+        × (length (now place) ≡ identifier-length) ⌝ }
     ensures { λ r. ⌜ Ruled s (settings-of (now (settings .entry))) x (record { kept = now (run .entry); count = count })
         (now (out .entry)) at (now (place .entry)) (r .decision) (r .at) (r .identified) (now (out .exit)) (now (place .exit)) ⌝ }
 {
@@ -480,8 +489,8 @@ fn rule_kept(
     x: Session,
     place: &mut [u8],
 ) -> Ruling
-    requires { ⌜ (at + reply-most ≤ length (now out)) × (s < 256) × (length (now settings) ≡ 33) × Good (now region)
-        × (length (now place) ≡ 25) ⌝ }
+    requires { ⌜ (at + reply-most ≤ length (now out)) × (s < 256) × (length (now settings) ≡ settings-length) × Good (now region)
+        × (length (now place) ≡ identifier-length) ⌝ }
     ensures { λ r. ⌜ Ruled s (settings-of (now (settings .entry))) x (run-of (run-area (now (region .entry)))) (now (out .entry)) at
         (now (place .entry)) (r .decision) (r .at) (r .identified) (now (out .exit)) (now (place .exit)) ⌝ }
 {
@@ -514,8 +523,8 @@ fn end_whole(
     bytes: &[u8],
     place: &mut [u8],
 ) -> Received
-    requires { ⌜ (at + session-most ≤ length (now out)) × (s < 256) × (length (now settings) ≡ 33) × Good (now region)
-        × (length (now place) ≡ 25) × (run-of (run-area (now region)) ≡ empty-run) ⌝ }
+    requires { ⌜ (at + session-most ≤ length (now out)) × (s < 256) × (length (now settings) ≡ settings-length) × Good (now region)
+        × (length (now place) ≡ identifier-length) × (run-of (run-area (now region)) ≡ empty-run) ⌝ }
     ensures { λ r. ⌜ Hears s (settings-of (now (settings .entry))) (ending (now (bytes .entry))) (now (region .entry))
         (now (out .entry)) at (now (place .entry)) (r .at) (r .identified) (now (region .exit)) (now (out .exit)) (now (place .exit)) ⌝ }
 {
@@ -548,8 +557,8 @@ fn end_kept(
     bytes: &[u8],
     place: &mut [u8],
 ) -> Received
-    requires { ⌜ (at + session-most ≤ length (now out)) × (s < 256) × (length (now settings) ≡ 33) × Good (now region)
-        × (length (now place) ≡ 25) ⌝ }
+    requires { ⌜ (at + session-most ≤ length (now out)) × (s < 256) × (length (now settings) ≡ settings-length) × Good (now region)
+        × (length (now place) ≡ identifier-length) ⌝ }
     ensures { λ r. ⌜ Hears s (settings-of (now (settings .entry))) (ending (now (bytes .entry))) (now (region .entry))
         (now (out .entry)) at (now (place .entry)) (r .at) (r .identified) (now (region .exit)) (now (out .exit)) (now (place .exit)) ⌝ }
 {
@@ -574,8 +583,8 @@ fn end_run(
     bytes: &[u8],
     place: &mut [u8],
 ) -> Received
-    requires { ⌜ (at + session-most ≤ length (now out)) × (s < 256) × (length (now settings) ≡ 33) × Good (now region)
-        × (length (now place) ≡ 25) ⌝ }
+    requires { ⌜ (at + session-most ≤ length (now out)) × (s < 256) × (length (now settings) ≡ settings-length) × Good (now region)
+        × (length (now place) ≡ identifier-length) ⌝ }
     ensures { λ r. ⌜ Hears s (settings-of (now (settings .entry))) (ending (now (bytes .entry))) (now (region .entry))
         (now (out .entry)) at (now (place .entry)) (r .at) (r .identified) (now (region .exit)) (now (out .exit)) (now (place .exit)) ⌝ }
 {
@@ -596,8 +605,8 @@ pub fn receive(
     end: usize,
     place: &mut [u8],
 ) -> Received
-    requires { ⌜ (at + session-most ≤ length (now out)) × (s < 256) × (length (now settings) ≡ 33) × Good (now region)
-        × (length (now place) ≡ 25) × Ends (now bytes) end ⌝ }
+    requires { ⌜ (at + session-most ≤ length (now out)) × (s < 256) × (length (now settings) ≡ settings-length) × Good (now region)
+        × (length (now place) ≡ identifier-length) × Ends (now bytes) end ⌝ }
     ensures { λ r. ⌜ Hears s (settings-of (now (settings .entry))) (cut (now (bytes .entry))) (now (region .entry)) (now (out .entry)) at
         (now (place .entry)) (r .at) (r .identified) (now (region .exit)) (now (out .exit)) (now (place .exit)) ⌝ }
 {

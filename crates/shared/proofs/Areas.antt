@@ -1,21 +1,22 @@
 -- What the sessions share, in its 1,024 bytes: what a write leaves of it. Assumes nothing.
 use mathlib.Core.Path.{_≡_, refl, ap, _∙_}
-use Prim.Native.Nat.{ℕ, _+_, _<_, _≤_}
+use Prim.Native.Nat.{suc, ℕ, _+_, _<_, _≤_}
 use native.Mathlib.Omega.{arith}
 use mathlib.Core.Bool.{true, false}
 use mathlib.Core.List.{List}
 use lib.Dec.{eqb, lit≤}
 use lib.ListN.{length, take, drop, replicate}
 use lib.Seq.{sets, length-sets}
+use Rattle.model.specs.Limits.{identifier-length, number-greatest}
 use Rattle.model.specs.Bytes.{little, in-bytes, spaces}
-use Rattle.model.specs.Records.{settings-of}
+use Rattle.model.specs.Records.{settings-of, settings-length}
 use Rattle.text.proofs.Numbers.{in-bytes-length}
 use Rattle.text.proofs.Cells.{stored-same, stored-before, stored-after}
 use Rattle.shared.specs.Shared.{shared-size, settings-part, in-force-of, last-of, mark, shared-formed, Area, Holds}
 
 -- ==== numbers, written and read
 
-pub four : (v : ℕ) → v < 4_294_967_296 → little (in-bytes 4 v) ≡ v
+pub four : (v : ℕ) → v < suc number-greatest → little (in-bytes 4 v) ≡ v
 unfolding in-bytes
 four v h = omega arith
 
@@ -50,7 +51,7 @@ area-still a at k ys h e f g =
 
 -- ==== an identifier comes in force
 
-pub force-put : (a x : List ℕ) → Area a → length x ≡ 25 → Holds (settings-part a) x (last-of a) (sets a 56 x)
+pub force-put : (a x : List ℕ) → Area a → length x ≡ identifier-length → Holds (settings-part a) x (last-of a) (sets a 56 x)
 unfolding settings-part in-force-of last-of
 force-put a x h e =
     let s = h .size in
@@ -64,7 +65,7 @@ force-put a x h e =
 
 -- ==== a number becomes the last
 
-pub last-put : (a : List ℕ) (n : ℕ) → Area a → n < 4_294_967_296 → Holds (settings-part a) (in-force-of a) n (sets a 8 (in-bytes 4 n))
+pub last-put : (a : List ℕ) (n : ℕ) → Area a → n < suc number-greatest → Holds (settings-part a) (in-force-of a) n (sets a 8 (in-bytes 4 n))
 unfolding settings-part in-force-of last-of
 last-put a n h f =
     let s = h .size in
@@ -87,7 +88,7 @@ mark-put a s = record {
 }
 
 -- the settings, written
-settings-put : (a p : List ℕ) → Area a → length p ≡ 33 → Holds p (in-force-of a) (last-of a) (sets a 16 p)
+settings-put : (a p : List ℕ) → Area a → length p ≡ settings-length → Holds p (in-force-of a) (last-of a) (sets a 16 p)
 unfolding settings-part in-force-of last-of
 settings-put a p h e =
     let s = h .size in
@@ -99,7 +100,8 @@ settings-put a p h e =
       last = ap little (stored-before 16 33 a p e r 8 4 (lit≤ tt));
     }
 
-pub started : (a p : List ℕ) (n : ℕ) → length a ≡ shared-size → length p ≡ 33 → n ≡ little (take 4 (drop 29 p)) → n < 4_294_967_296
+pub started : (a p : List ℕ) (n : ℕ) → length a ≡ shared-size → length p ≡ settings-length → n ≡ little (take 4 (drop 29 p))
+    → n < suc number-greatest
     → Holds p (spaces 25) (settings-of p .last) (sets (sets (sets (sets a 0 marks) 8 (in-bytes 4 n)) 16 p) 56 (replicate 25 0x20))
 unfolding settings-of
 started a p n s e en f =

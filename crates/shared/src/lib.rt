@@ -1,9 +1,10 @@
 // What all sessions share, in its bytes at the front of the table.
 ghost use mathlib.Core.Path.{_≡_};
-ghost use Prim.Native.Nat.{_<_};
+ghost use Prim.Native.Nat.{suc, _<_};
 ghost use lib.ListN.{length};
+ghost use Rattle.model.specs.Limits.{identifier-length, number-greatest};
 ghost use Rattle.model.specs.Bytes.{spaces};
-ghost use Rattle.model.specs.Records.{settings-of};
+ghost use Rattle.model.specs.Records.{settings-of, settings-length};
 ghost use Rattle.shared.specs.Shared.{shared-size, settings-part, in-force-of, last-of, shared-formed, Area, Holds};
 
 // How many bytes it has.
@@ -48,7 +49,7 @@ pub fn in_force(area: &[u8]) -> &[u8]
 // The last tightening number.
 pub fn last(area: &[u8]) -> u64
     requires { ⌜ length (now area) ≡ shared-size ⌝ }
-    ensures { λ r. ⌜ (r ≡ last-of (now (area .entry))) × (r < 4_294_967_296) ⌝ }
+    ensures { λ r. ⌜ (r ≡ last-of (now (area .entry))) × (r < suc number-greatest) ⌝ }
 {
     text::little(area, LAST_AT, 4)
 }
@@ -57,7 +58,7 @@ pub fn last(area: &[u8]) -> u64
 
 // A start with these settings: no identifier is in force, and the last number is the settings'.
 pub fn start(area: &mut [u8], payload: &[u8])
-    requires { ⌜ (length (now area) ≡ shared-size) × (length (now payload) ≡ 33) ⌝ }
+    requires { ⌜ (length (now area) ≡ shared-size) × (length (now payload) ≡ settings-length) ⌝ }
     ensures { λ _. ⌜ Holds (now (payload .entry)) (spaces 25) (settings-of (now (payload .entry)) .last) (now (area .exit)) ⌝ }
 {
     let last = text::little(payload, 29, 4);
@@ -69,7 +70,7 @@ pub fn start(area: &mut [u8], payload: &[u8])
 
 // An identifier comes in force.
 pub fn put_in_force(area: &mut [u8], identifier: &[u8])
-    requires { ⌜ Area (now area) × (length (now identifier) ≡ 25) ⌝ }
+    requires { ⌜ Area (now area) × (length (now identifier) ≡ identifier-length) ⌝ }
     ensures { λ _. ⌜ Holds (settings-part (now (area .entry))) (now (identifier .entry)) (last-of (now (area .entry)))
         (now (area .exit)) ⌝ }
 {
@@ -78,7 +79,7 @@ pub fn put_in_force(area: &mut [u8], identifier: &[u8])
 
 // A tightening has the number n.
 pub fn put_last(area: &mut [u8], n: u64)
-    requires { ⌜ Area (now area) × (n < 4_294_967_296) ⌝ }
+    requires { ⌜ Area (now area) × (n < suc number-greatest) ⌝ }
     ensures { λ _. ⌜ Holds (settings-part (now (area .entry))) (in-force-of (now (area .entry))) n (now (area .exit)) ⌝ }
 {
     text::put_little(area, LAST_AT, 4, n);

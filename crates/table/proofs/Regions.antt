@@ -9,9 +9,9 @@ use lib.Dec.{lit≤}
 use lib.ListN.{length, getD, set, drop, replicate, length-drop, drop-of-length-le}
 use lib.Seq.{drop-drop, length-take-le}
 use borrow.Rule.Slice.PartMut.{putMid, midOf, mid-len, same-len-mid}
-use Rattle.model.specs.Limits.{session-count, table-least}
+use Rattle.model.specs.Limits.{session-count, table-least, identifier-length}
 use Rattle.model.specs.Bytes.{all}
-use Rattle.model.specs.Records.{settings-of}
+use Rattle.model.specs.Records.{settings-of, settings-length}
 use Rattle.model.specs.Session.{Session, closed}
 use Rattle.model.specs.World.{World, session-at}
 use Rattle.text.specs.Cells.{cells}
@@ -75,11 +75,11 @@ part-good t s h b = record {
 }
 
 -- the parts of what is shared are as long as they are to be
-pub length-settings : (a : List ℕ) → length a ≡ shared-size → length (settings-part a) ≡ 33
+pub length-settings : (a : List ℕ) → length a ≡ shared-size → length (settings-part a) ≡ settings-length
 unfolding settings-part
 length-settings a e = length-take-le 33 (drop 16 a) (simp length-drop (omega arith))
 
-pub length-in-force : (a : List ℕ) → length a ≡ shared-size → length (in-force-of a) ≡ 25
+pub length-in-force : (a : List ℕ) → length a ≡ shared-size → length (in-force-of a) ≡ identifier-length
 unfolding in-force-of
 length-in-force a e = length-take-le 25 (drop 56 a) (simp length-drop (omega arith))
 

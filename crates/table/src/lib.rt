@@ -2,10 +2,10 @@
 ghost use mathlib.Core.Path.{_≡_};
 ghost use mathlib.Core.Bool.{true, cond};
 ghost use mathlib.Core.List.{[], _∷_};
-ghost use Prim.Native.Nat.{_+_, _^_, _≤_, _<_};
+ghost use Prim.Native.Nat.{suc, _+_, _^_, _≤_, _<_};
 ghost use lib.ListN.{length};
-ghost use Rattle.model.specs.Limits.{session-count, table-least};
-ghost use Rattle.model.specs.Records.{settings-of};
+ghost use Rattle.model.specs.Limits.{session-count, table-least, identifier-length, number-greatest};
+ghost use Rattle.model.specs.Records.{settings-of, settings-length};
 ghost use Rattle.model.specs.Kinds.{kinds, session-most, event-most, receive-most, tick-most};
 ghost use Rattle.model.specs.Runs.{cut};
 ghost use Rattle.model.specs.Session.{is-closed as is-closed-session};
@@ -59,7 +59,7 @@ pub fn is_closed(table: &[u8], s: u64) -> bool
 // The last tightening number.
 pub fn last(table: &[u8]) -> u64
     requires { ⌜ Table (now table) ⌝ }
-    ensures { λ r. ⌜ (r ≡ decode (now (table .entry)) .shared .last) × (r < 4_294_967_296) ⌝ }
+    ensures { λ r. ⌜ (r ≡ decode (now (table .entry)) .shared .last) × (r < suc number-greatest) ⌝ }
 {
     shared::last(&table[0..SHARED])
 }
@@ -67,7 +67,7 @@ pub fn last(table: &[u8]) -> u64
 // The identifier in force, as it stands.
 pub fn in_force(table: &[u8]) -> &[u8]
     requires { ⌜ Table (now table) ⌝ }
-    ensures { λ r. ⌜ (now r ≡ decode (now (table .entry)) .shared .in-force) × (length (now r) ≡ 25) ⌝ }
+    ensures { λ r. ⌜ (now r ≡ decode (now (table .entry)) .shared .in-force) × (length (now r) ≡ identifier-length) ⌝ }
 {
     shared::in_force(&table[0..SHARED])
 }
@@ -75,7 +75,7 @@ pub fn in_force(table: &[u8]) -> &[u8]
 // The settings' payload, as it stands.
 pub fn settings(table: &[u8]) -> &[u8]
     requires { ⌜ Table (now table) ⌝ }
-    ensures { λ r. ⌜ (now r ≡ settings-part (shared-area (now (table .entry)))) × (length (now r) ≡ 33) ⌝ }
+    ensures { λ r. ⌜ (now r ≡ settings-part (shared-area (now (table .entry)))) × (length (now r) ≡ settings-length) ⌝ }
 {
     shared::settings(&table[0..SHARED])
 }
@@ -84,7 +84,7 @@ pub fn settings(table: &[u8]) -> &[u8]
 
 // A start with these settings: it becomes a table, whatever the bytes were.
 pub fn start(table: &mut [u8], payload: &[u8])
-    requires { ⌜ (table-least ≤ length (now table)) × (length (now payload) ≡ 33) ⌝ }
+    requires { ⌜ (table-least ≤ length (now table)) × (length (now payload) ≡ settings-length) ⌝ }
     ensures { λ _. ⌜ Becomes (now (table .entry)) (begun (settings-of (now (payload .entry))) 0) (now (table .exit)) ⌝ }
 {
     let mut s: u64 = 0;
@@ -223,7 +223,7 @@ fn hear(
     end: usize,
     place: &mut [u8],
 ) -> Received
-    requires { ⌜ Table (now table) × (s < session-count) × (at + session-most ≤ length (now out)) × (length (now place) ≡ 25)
+    requires { ⌜ Table (now table) × (s < session-count) × (at + session-most ≤ length (now out)) × (length (now place) ≡ identifier-length)
         × Ends (now bytes) end ⌝ }
     ensures { λ r. ⌜ (r .at ≤ at + session-most) × Went (now (table .entry)) (now (out .entry)) at
         (hears s (cut (now (bytes .entry))) ∷ []) (r .at) (now (table .exit)) (now (out .exit))
