@@ -11,6 +11,7 @@ use lib.ListN.{length, take, drop, drop-of-length-le}
 use Rattle.model.specs.Limits.{session-count}
 use Rattle.model.specs.Bytes.{little}
 use Rattle.model.specs.Records.{settings-of}
+use Rattle.model.specs.Sharing.{Shared}
 use Rattle.model.specs.Session.{Session, closed}
 use Rattle.model.specs.Local.{takes}
 use Rattle.model.specs.World.{World}
@@ -106,8 +107,8 @@ taken-all kind t s taken sum h e =
 -- ==== what is left to all sessions
 
 front-means : (t a payload x : List ℕ) (n : ℕ) → Table t → Holds payload x n a
-    → Becomes t (record { shared = record { settings = settings-of payload; in-force = x; last = n; events = 0 }; sessions = decode t .sessions })
-    (front t a)
+    → let g : Shared = record { settings = settings-of payload; in-force = x; last = n; events = 0 } in
+    Becomes t (record { shared = g; sessions = decode t .sessions }) (front t a)
 unfolding decode
 front-means t a payload x n h k =
     let l = h .size in

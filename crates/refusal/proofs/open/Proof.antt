@@ -30,16 +30,18 @@ unfolding refusal
 returns-3 c =
     let r = c .before .before .before in
     let a = r .before .before .before .args in
+    let n = a .session in
     own-gives (a .table .now) (a .output) (open-own (a .table .now) (a .session)) (r .before .tick .ensures) (r .if1 .left)
-    (rw (lt-leb session-count (a .session) (c .before .before .if2 .left), sym (c .before .is-closed .ensures) ∙ not-true _ (c .if3 .taken)))
+    (rw (lt-leb session-count n (c .before .before .if2 .left), sym (c .before .is-closed .ensures) ∙ not-true _ (c .if3 .taken)))
 
 returns-4 : tie.Need-returns-4
 unfolding refusal
 returns-4 c =
     let r = c .before .before .before in
     let a = r .before .before .before .args in
+    let n = a .session in
     own-gives (a .table .now) (a .output) (open-own (a .table .now) (a .session)) (r .before .tick .ensures) (r .if1 .left)
-    (rw (lt-leb session-count (a .session) (c .before .before .if2 .left), sym (c .before .is-closed .ensures) ∙ not-false _ (c .if3 .left)))
+    (rw (lt-leb session-count n (c .before .before .if2 .left), sym (c .before .is-closed .ensures) ∙ not-false _ (c .if3 .left)))
 
 pub open-spec : {M : Type 1} → statement M
 open-spec = tie.close (tie.spec (λ c κs. search needs) returns returns-2 is-closed-requires returns-3 returns-4)

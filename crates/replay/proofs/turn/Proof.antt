@@ -14,8 +14,9 @@ returns c =
 
 returns-2 : tie.Need-returns-2
 returns-2 c =
-    let served = c .before .before .before .before .before .before .before .before .before .before .serve-and-move .ensures in
-    let filled = c .before .before .before .before .before .before .before .before .before .before .before .before .before .before .before .before .before .before in
+    let moved = c .before .before .before .before .before .before .before .before .before .before in
+    let served = moved .serve-and-move .ensures in
+    let filled = moved .before .before .before .before .before .before .before .before in
     let f = filled .fill in
     let size = filled .before .before .before .before .before .before .args .size in
     let h = f .ensures .0 in
