@@ -2,7 +2,7 @@
 SHELL := /bin/bash
 .SHELLFLAGS := -euo pipefail -c
 .DEFAULT_GOAL := help
-.PHONY: help run watch test install uninstall host proved soak bench built wrong twins format tools clean
+.PHONY: help run watch test install uninstall host proved soak bench built wrong twins must-fail-list format tools clean
 
 # How many histories make soak compares.
 COUNT := 2000
@@ -25,6 +25,7 @@ help:
 	@echo "make bench   the library's time, instructions and stack beside those of two implementations in C"
 	@echo "make wrong   the wrong programs that the gate leaves out for its time: the prover must refuse each"
 	@echo "make twins   harmless twins of the gate's wrong programs: the prover must accept each"
+	@echo "make must-fail-list writes the list of all wrong programs, docs/MUST-FAIL.md, from what they say of themselves"
 	@echo "make format  lays the sources out"
 	@echo "make clean   removes what was built"
 
@@ -77,9 +78,9 @@ proved: tools
 	@echo "each of these public functions is proved to answer what its ensures says:"
 	@grep -oE '^ *pub (extern "C" )?fn [a-z0-9_]+' crates/*/src/*.rt | sed -E 's#crates/([a-z]+)/.*fn (.*)#  \1::\2#'
 
-# The layout, and that the must-fail edits fit; then the gate itself, then the comparison over what the gate built and left, three parts at
-# a time, since the host's tests mostly wait. The gate's own last line is said again at the end: it is the last line of a run in which
-# nothing failed. What fails behind the gate says so in the last line.
+# The layout, and that the must-fail edits fit and are listed; then the gate itself, then the comparison over what the gate built and left,
+# three parts at a time, since the host's tests mostly wait. The gate's own last line is said again at the end: it is the last line of a run
+# in which nothing failed. What fails behind the gate says so in the last line.
 test: tools
 	@rt fmt --check
 	@python3 tests/wrong/check.py
@@ -100,7 +101,7 @@ soak: built
 bench: built
 	@$(MAKE) --silent --no-print-directory -C tests bench
 
-# The further must-fail edits of tests/wrong, each in its crate, in a copy of the tree; before them, that docs/MUST-FAIL.md names all edits.
+# The further must-fail edits of tests/wrong, each in its crate, in a copy of the tree; before them, that all edits fit and are listed.
 wrong: tools
 	@python3 tests/wrong/check.py
 	@rm -rf target/wrong && mkdir -p target/wrong
@@ -118,6 +119,10 @@ wrong: tools
 # The harmless twins of the gate's must-fail edits, each in its crate, in a copy of the tree.
 twins: tools
 	@python3 tests/twins/run.py
+
+# docs/MUST-FAIL.md behind its introduction, from the first lines of all must-fail edits.
+must-fail-list: tools
+	@python3 tests/wrong/check.py --write
 
 format: tools
 	@rt fmt

@@ -15,11 +15,11 @@ import time
 from dataclasses import dataclass
 
 import history
+import lent_table
 from history import BYTES, OPEN, SETTINGS, TICK
 
 PAYLOAD_LONGEST = 8192  # a longer one ends replay's run
 BLOCK = 65536
-TABLE = 5120  # the bytes of a lent table that have a meaning
 
 
 class Fault(Exception):
@@ -94,8 +94,8 @@ def read_times(name):
 def read_table(path):
     """The lent table with which a journal begins."""
     with reading(path), open(path, "rb") as file:
-        table = file.read(TABLE)
-    if len(table) < TABLE or not table.startswith(b"SERIFLAD"):
+        table = file.read(lent_table.USED)
+    if len(table) < lent_table.USED or not table.startswith(lent_table.MARK):
         raise Fault("%s is no table" % path)
     return table
 

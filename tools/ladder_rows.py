@@ -5,6 +5,7 @@ from dataclasses import dataclass, field
 from functools import partial
 
 import history
+import lent_table
 import openprotocol
 from history import BYTES, HANG_UP, OPEN, SCANNED, SETTINGS, TICK, TIGHTENING
 from ladder_journal import Fault, count
@@ -253,13 +254,7 @@ class Books:
                 raise Fault("at second %d replay did not send server %d %s" % (second, notices[0].session, notices[0].event_words()))
 
 
-# ---- the lent table with which a part of a journal begins: docs/TABLE.md
-
-REGION = 1024  # bytes, of what is shared and of each session
-
-
-def little(data):
-    return int.from_bytes(data, "little")
+# ---- the lent table with which a part of a journal begins
 
 
 @dataclass
@@ -267,31 +262,33 @@ class Lent:
     """What a session's region says of it."""
 
     number: int  # of the session
-    region: bytes
+    region: lent_table.Region
 
     def is_open(self):
-        return self.region[0] != 0
+        return self.region.phase() != lent_table.CLOSED
 
     def run(self):
         """The run that was being received, or None."""
-        length = little(self.region[32:34])
-        return Run(0, self.region[34:79][:length], length, 1) if length else None
+        length, kept = self.region.run()
+        return Run(0, kept, length, 1) if length else None
 
-    def events(self, kind):
-        """Of the notices that are held."""
+    def lane(self, kind):
+        """And the events of the notices that are held."""
         if kind == IDENTIFIER:
-            return [self.region[at:at + 25] for at in range(80, 130, 25)][:self.region[4]]
-        return [little(self.region[at + 106:at + 110]) for at in range(136, 1016, 110)][:self.region[7]]
+            lane = self.region.identifiers()
+            return lane, lane.places
+        lane = self.region.tightenings()
+        return lane, [lent_table.little(place[lent_table.NUMBER]) for place in lane.places]
 
     def subscription(self, kind):
         """With its notices, or None. The open one was sent before second 0, as often as its clock tells."""
-        asks, clock = self.region[2:4] if kind == IDENTIFIER else self.region[5:7]
-        if not asks:
+        lane, events = self.lane(kind)
+        if lane.form == lent_table.NOT:
             return None
-        notices = [Notice(self.number, kind, event) for event in self.events(kind)]
+        notices = [Notice(self.number, kind, event) for event in events]
         for notice in notices[:1]:
-            notice.seconds = list(range(-clock, 1, REPEATED))
-        return Subscription(asks == 2, notices)
+            notice.seconds = list(range(-lane.clock, 1, REPEATED))
+        return Subscription(lane.form == lent_table.ACKNOWLEDGED, notices)
 
 
 # ---- rows
@@ -391,9 +388,9 @@ class Ladder:
     def begin(self, table):
         """With the lent table, where no start comes first."""
         self.meet_times(0)
-        self.started, self.last = True, little(table[8:12])
-        for session in range(SESSIONS):
-            lent = Lent(session, table[REGION * (1 + session):REGION * (2 + session)])
+        self.started, self.last = True, lent_table.last_number(table)
+        for session, region in enumerate(lent_table.regions(table)):
+            lent = Lent(session, region)
             if lent.is_open():
                 self.open |= {session}
                 self.books.begin(lent)

@@ -7,8 +7,10 @@
    A call answers 2 exactly where the table is not well formed, by the rule that stands in docs/TABLE.md and, of the
    independent implementation, in tests/README.md; both are said again here. A refused call alters no byte of table or
    output; one that is done leaves the output past its written bytes, and a table that is well formed. Pages that may not
-   be touched lie behind all that is lent, and before the table. Exit status 0: all so, and a count over its bound in a
-   started, subscribed session was met often enough. */
+   be touched lie behind all that is lent, and before the table. The product's calls are made over a twin of the table too,
+   which has something else where a table has no meaning: in the lanes of sessions that are not started. They answer and
+   write the same. Exit status 0: all so, and a count over its bound in a started, subscribed session was met often enough,
+   and so was a session with such lanes that started. */
 #define _DEFAULT_SOURCE /* MAP_ANONYMOUS */
 #include "../independent/independent.h"
 
@@ -38,7 +40,8 @@ enum {
     CALLS_ASIDE = 4,
     PAGE = 4096,
     LEAST_OVER = 1000, /* calls over a table with a count over its bound in a started, subscribed session */
-    LEAST_NEAR = 5000  /* calls over an altered table that is well formed */
+    LEAST_NEAR = 5000, /* calls over an altered table that is well formed */
+    LEAST_TWIN = 100   /* sessions that started where the twin had other lanes */
 };
 
 static const unsigned HELD_AT_MOST[KINDS] = { 2, 8 };
@@ -47,24 +50,43 @@ static const unsigned HELD_AT_MOST[KINDS] = { 2, 8 };
 
 #ifdef PREFIX
 
-enum { USED = 5120, MARK_SIZE = 8, FIRST_SESSION = 1024, SESSION_SIZE = 1024, RUN_COUNT = 32, CONTROL_SIZE = 10, SHARED_SIZE = 81 };
-static const unsigned CONTROL[CONTROL_SIZE] = { 0, 1, 2, 3, 4, 5, 6, 7, RUN_COUNT, RUN_COUNT + 1 };
-static const unsigned SUBSCRIBED[KINDS] = { 2, 5 }, COUNT[KINDS] = { 4, 7 };
+enum { USED = 5120, MARK_SIZE = 8, FIRST_SESSION = 1024, SESSION_SIZE = 1024, RUN_COUNT = 8, CONTROL_SIZE = 10, SHARED_SIZE = 81 };
+static const unsigned CONTROL[CONTROL_SIZE] = { 0, 1, RUN_COUNT, RUN_COUNT + 1, 56, 57, 58, 128, 129, 130 };
+static const unsigned SUBSCRIBED[KINDS] = { 56, 128 }, COUNT[KINDS] = { 58, 130 };
+
+/* A lane begins with form, clock and count. Of a session that is not started they are to be so too, though they have no meaning. */
+static bool lane_formed(const uint8_t *lane, unsigned kind)
+{
+    return lane[0] <= 2 && lane[1] <= 119 && lane[2] <= HELD_AT_MOST[kind];
+}
 
 static bool session_formed(const uint8_t *session)
 {
-    static const uint8_t GREATEST[] = { 2, 14, 2, 119, 2, 2, 119, 8 };
-    for (unsigned i = 0; i < sizeof GREATEST; i++)
-        if (session[i] > GREATEST[i])
-            return false;
-    if (session[RUN_COUNT] + 256 * session[RUN_COUNT + 1] > 10000)
+    if (session[0] > 2 || session[1] > 14 || session[RUN_COUNT] + 256 * session[RUN_COUNT + 1] > 10000)
         return false;
-    return session[0] == 2 || (session[SUBSCRIBED[0]] == 0 && session[SUBSCRIBED[1]] == 0);
+    for (unsigned kind = 0; kind < KINDS; kind++)
+        if (!lane_formed(session + SUBSCRIBED[kind], kind))
+            return false;
+    return true;
 }
 
 static bool shared_formed(const uint8_t *table)
 {
     return memcmp(table, "SERIFLAD", MARK_SIZE) == 0;
+}
+
+/* Other lanes, well formed, for sessions that are not started. */
+static void alter_lanes(uint8_t *session, unsigned (*any_below)(unsigned))
+{
+    if (session[0] == 2)
+        return;
+    memset(session + SUBSCRIBED[0], (int)any_below(256), SESSION_SIZE - SUBSCRIBED[0]);
+    for (unsigned kind = 0; kind < KINDS; kind++) {
+        uint8_t *lane = session + SUBSCRIBED[kind];
+        lane[0] = (uint8_t)any_below(3);
+        lane[1] = (uint8_t)any_below(120);
+        lane[2] = (uint8_t)any_below(HELD_AT_MOST[kind] + 1);
+    }
 }
 
 #else
@@ -219,6 +241,7 @@ static void checked_call(const struct asked *asked)
 
 /* ---- garbage */
 
+/* To a session that is opened and not started often the one that starts it. */
 static struct asked a_message(uint64_t session)
 {
     static const char *const MESSAGES[] = {
@@ -226,8 +249,9 @@ static struct asked a_message(uint64_t session)
         "00200062            ", "00200053            ", "00209999            ",
         "00300050            ABCDEFGHIJ", "00200003            ", "00200063            ", "0020",
     };
-    const char *text = MESSAGES[roll(10)];
-    return (struct asked){ BYTES, session, (const uint8_t *)text, strlen(text) + roll(2) };
+    bool starts = table[FIRST_SESSION + session * SESSION_SIZE] == 1 && roll(4) > 0;
+    const char *text = MESSAGES[starts ? 0 : roll(10)];
+    return (struct asked){ BYTES, session, (const uint8_t *)text, strlen(text) + (starts || roll(2)) };
 }
 
 static struct asked a_tightening(void)
@@ -313,17 +337,73 @@ static void spoil(void)
     }
 }
 
+#ifdef PREFIX
+
+static uint8_t twin[TABLE], with_twin[OUTPUT], answer_before[ANSWER];
+static bool twin_stands;
+static unsigned long twin_starts;
+
+static void swap_twin(void)
+{
+    static uint8_t other[TABLE];
+    memcpy(other, table, TABLE);
+    memcpy(table, twin, TABLE);
+    memcpy(twin, other, TABLE);
+}
+
+/* The table's twin, where it is well formed. */
+static void begin_twin(void)
+{
+    twin_stands = table_formed(table);
+    memcpy(twin, table, TABLE);
+    for (unsigned s = 0; twin_stands && s < SESSIONS; s++)
+        alter_lanes(twin + FIRST_SESSION + s * SESSION_SIZE, roll);
+}
+
+/* The call that was made over the table, over its twin. */
+static void call_twin(const struct asked *asked)
+{
+    if (!twin_stands)
+        return;
+    for (unsigned s = 0; s < SESSIONS; s++)
+        twin_starts += twin[FIRST_SESSION + s * SESSION_SIZE] == 1 && table[FIRST_SESSION + s * SESSION_SIZE] == 2;
+    memcpy(with_twin, output, OUTPUT);
+    memcpy(answer_before, answer, ANSWER);
+    memcpy(output, output_before, OUTPUT);
+    swap_twin();
+    uint64_t number = make_call(asked);
+    if (memcmp(answer, answer_before, ANSWER) != 0 || memcmp(output, with_twin, OUTPUT) != 0)
+        wrong("otherwise where the lanes of a session that is not started are others", number);
+    swap_twin();
+}
+
+static bool twins_enough(void)
+{
+    printf("garbage: %lu sessions started where a twin of the table had other lanes\n", twin_starts);
+    return twin_starts >= LEAST_TWIN;
+}
+
+#else
+
+static void begin_twin(void) {}
+static void call_twin(const struct asked *asked) { (void)asked; }
+static bool twins_enough(void) { return true; }
+
+#endif
+
 /* Calls over the spoilt table, which afterwards is as it was. */
 static void aside(const struct asked *asked)
 {
     memcpy(kept, table, TABLE);
     spoil();
+    begin_twin();
     for (unsigned i = 0; i < CALLS_ASIDE; i++) {
         struct asked call = i == 0 && asked->what != START ? *asked : any_call();
         over_count += count_over_its_bound(table);
         near_count += table_formed(table);
         aside_count += 1;
         checked_call(&call);
+        call_twin(&call);
     }
     memcpy(table, kept, TABLE);
 }
@@ -350,5 +430,5 @@ int main(void)
     printf("garbage: %lu calls over altered tables: %lu of them well formed, %lu with a count over its bound in a\n"
            "started, subscribed session; in all %lu done, %lu answered 2, %lu answered 5 or 6, no crash\n",
            aside_count, near_count, over_count, numbers[0], numbers[2], numbers[5] + numbers[6]);
-    return over_count < LEAST_OVER || near_count < LEAST_NEAR;
+    return !twins_enough() || over_count < LEAST_OVER || near_count < LEAST_NEAR;
 }

@@ -6,7 +6,7 @@ import subprocess
 import time
 
 import harness
-from harness import ROOT, SECONDS, InTime, check, equal, in_memory, tell_and_acknowledge, test, tightening_fields
+from harness import ROOT, SECONDS, InTime, check, equal, in_memory, openprotocol, tell_and_acknowledge, test, tightening_fields
 from journal import Play
 
 TIME = r"\d\d-\d\d \d\d:\d\d:\d\d"
@@ -71,11 +71,15 @@ def time_of_day_is_drawn(place):
 
 @test
 def what_a_table_holds_is_drawn(place):
-    """A result that stands open and a run that was begun in parts that are gone: its copies are counted on, and the run's bytes too."""
+    """A result that stands open and a run that was begun in parts that are gone: its copies are counted on, and the run's bytes too. What
+    the table has of the subscriptions of a server that was stopped counts for nothing."""
     host = place.host("--journal-size", 60, "--journal-keep", 1000, tick=int(harness.FAST_TICK * 1000))
     server, other = place.server(host).subscribe(), place.server(host).start()
+    stopped = place.server(host).subscribe()
     other.send(b"0020")
-    place.tool().tighten(tightening_fields(1), "0")
+    place.tool().tighten(tightening_fields(1), "0 2")
+    stopped.fence()
+    stopped.accepted(openprotocol.STOP)
     runs = []
     in_time = InTime("three copies of a result")
     while len([run for run in runs if run[4:8] == b"0061"]) < 3 and in_time():

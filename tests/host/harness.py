@@ -25,6 +25,7 @@ ROOT = os.path.join(HERE, "..", "..")
 sys.path[:0] = [os.path.join(ROOT, "tools"), os.path.join(HERE, "..", "vectors"), os.path.join(HERE, "..", "histories")]
 
 import history  # noqa: E402
+import lent_table  # noqa: E402, F401
 import openprotocol  # noqa: E402
 from history import BYTES, HANG_UP, OPEN, SCANNED, SETTINGS, TICK, TIGHTENING, record  # noqa: E402, F401
 from openprotocol import message  # noqa: E402

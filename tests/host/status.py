@@ -9,7 +9,7 @@ import sys
 import time
 
 import harness
-from harness import ROOT, check, content, equal, in_memory, openprotocol, record, test, tightening_fields, wait
+from harness import ROOT, check, content, equal, in_memory, lent_table, openprotocol, record, test, tightening_fields, wait
 from journal import Play
 
 CLOSED = {"phase": "closed"}
@@ -80,31 +80,38 @@ def the_status(place):
 
 
 def region_told(region):
-    """What docs/TABLE.md says of a session's region, in the words of the status."""
-    if region[0] == 0:
+    """What a session's region says of it, in the words of the status."""
+    if region.phase() == lent_table.CLOSED:
         return CLOSED
-    acknowledges = region[5] == 2
-    places = [region[136 + 110 * i:246 + 110 * i] for i in range(region[7] if acknowledges else 0)]
-    return {"phase": ("opened", "started")[region[0] - 1], "identifiers": region[2] > 0, "results": region[5] > 0,
-            "acknowledges": acknowledges, "held": [int.from_bytes(result[106:], "little") for result in places]}
+    identifiers, results = region.identifiers(), region.tightenings()
+    return {"phase": "started" if region.phase() == lent_table.STARTED else "opened", "identifiers": identifiers.form != lent_table.NOT,
+            "results": results.form != lent_table.NOT, "acknowledges": results.form == lent_table.ACKNOWLEDGED,
+            "held": [lent_table.little(place[lent_table.NUMBER]) for place in results.places]}
 
 
 @test
 @in_memory
 def the_status_and_the_table(place):
     """In a host's life at random the status tells of each session what the lent table holds, as it is kept beside a journal whose parts
-    are of one call each."""
+    are of one call each; at its end too, when all were stopped and what the table still has of their subscriptions counts for nothing."""
     play = Play(place, 9)
     play.host = place.host("--status", place.path("status"), "--journal-size", 1, "--journal-keep", 2)
     play.tool = place.tool()
     held = 0
 
-    def equal_now():
+    def regions():
         play.tool.give(record(5))  # before this call, which alters nothing, the table is kept
         newest = max((name for name in os.listdir(place.folder) if name.endswith(".table")), key=lambda name: int(name.split(".")[1]))
-        table = content(place.path(newest))
+        return lent_table.regions(content(place.path(newest)))
+
+    def equal_now():
+        table = regions()
         told = [{key: value for key, value in session.items() if key not in ("peer", "bytes_waiting")} for session in sessions(place)]
-        return [told] if told == [region_told(table[1024 + 1024 * s:2048 + 1024 * s]) for s in range(4)] else None
+        return [told] if told == [region_told(region) for region in table] else None
+
+    def stopped_now():
+        told = equal_now()
+        return told if told and all(session["phase"] != "started" for session in told[0]) else None
 
     for i in range(400):
         play.step()
@@ -112,7 +119,14 @@ def the_status_and_the_table(place):
             told, = wait(equal_now, "a status that tells what the table holds")
             held += sum(len(session.get("held", [])) for session in told)
     check(held > 100, "only %d results were held: this shows too little", held)
-    place.said.append("100 times, with %d results held" % held)
+    for server in play.here():
+        if play.settle(server):
+            server.tell(openprotocol.STOP)
+    told, = wait(stopped_now, "a status of sessions that were stopped, which tells what the table holds")
+    left = [region.data[at] for region in regions() if region.phase() == lent_table.OPENED for at, _ in lent_table.LANES]
+    check(any(left), "nothing is left of any subscription: this shows too little")
+    place.said.append("100 times, with %d results held; and with %d subscriptions left of %d that were stopped" % (
+        held, len([form for form in left if form]), len([session for session in told if session["phase"] == "opened"])))
 
 
 @test

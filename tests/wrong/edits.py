@@ -1,6 +1,18 @@
-"""Must-fail edits and their twins as texts: which lines of which files they replace, and whether they fit."""
+"""Must-fail edits and their twins as texts: what they say of themselves, which lines of which files they replace, and whether they fit."""
 
 import os
+import re
+
+COLUMNS = 140
+
+
+def about(path):
+    """What the first line of an edit says, '# FUNCTIONS: WRONG PROGRAM': the names, and what the wrong program does. None where the
+    line has another form, or is too long."""
+    with open(path, encoding="utf-8") as file:
+        line = file.readline().rstrip("\n")
+    found = re.fullmatch(r"# ([^:|]+): (\S[^|]*)", line)
+    return (found[1].split(", "), found[2]) if found and len(line) <= COLUMNS else None
 
 
 def replacements(path):
@@ -29,4 +41,4 @@ def applied(path, crate):
         if count != 1:
             misfits.append(f"{path}: what it replaces stands {count} times in {file}: {old}")
         texts[file] = texts[file].replace(old, new)
-    return texts, misfits
+    return texts, misfits if texts else [f"{path}: it replaces nothing"]

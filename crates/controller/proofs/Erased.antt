@@ -2,10 +2,10 @@
 use mathlib.Core.Path.{_≡_, refl, sym, ap, ap₂}
 use Prim.Native.Nat.{ℕ, zero, suc}
 use mathlib.Core.List.{List, [], _∷_, map}
-use lib.ListN.{take, drop}
+use lib.ListN.{length, take, drop}
 use Rattle.model.specs.Runs.{Run}
 use Rattle.model.specs.Events.{Notice}
-use Rattle.model.specs.Kinds.{identifiers, tightenings}
+use Rattle.model.specs.Kinds.{kinds}
 use Rattle.model.specs.Notices.{acked}
 use Rattle.model.specs.Notices as model
 use Rattle.model.specs.Session.{started}
@@ -13,29 +13,36 @@ use Rattle.model.specs.Session as model-session
 use Rattle.model.specs.Limits.{session-count}
 use Rattle.model.specs.Erased.{erase, erase-sub, erase-session, erase-world}
 use Rattle.text.specs.Cells.{cells}
+use Rattle.text.specs.Areas.{areas}
+use Rattle.frame.specs.Places.{notice-in, place-size}
 use Rattle.session.specs.declared.Form.{Form}
 use Rattle.session.specs.declared.Form.the-variants.{Not, Plain, Acknowledged}
 use Rattle.session.specs.declared.Phase.{Phase}
 use Rattle.session.specs.declared.Phase.the-variants.{Closed, Opened, Started}
-use Rattle.session.specs.declared.Session.{Session}
 use Rattle.session.specs.Meaning.{queue-in, subscription-as, session-as}
-use Rattle.notices.specs.Places.{notice-in, notices-in, place-size}
 use Rattle.run.specs.Area.{run-of}
 use Rattle.head.specs.Head.{head-of}
-use Rattle.region.specs.Region.{head-area, run-area, identifiers-area, tightenings-area, session-of, region-size}
-use Rattle.table.specs.Table.{shared-area, shared-of, decode}
-use Rattle.shared.specs.Shared.{shared-size}
+use Rattle.lane.specs.Kinds.{lane-size, control-size}
+use Rattle.lane.specs.Lane.{control-of, notices-in, lane-by, lane-of}
+use Rattle.region.specs.Region.{head-area, run-area, lane-at, subscriptions-in, session-of, region-size}
+use Rattle.table.specs.Table.{shared-area, shared-of, region-at, decode}
 
--- cells that a function leaves as they are read
+-- cells, and areas, that a function leaves as they are read
+
 cells-same : {A : Type 0} (g : A → A) (f : List ℕ → A) → ((p : List ℕ) → g (f p) ≡ f p) → (k n : ℕ) (l : List ℕ)
     → map g (cells f k n l) ≡ cells f k n l
 unfolding cells
 cells-same g f h k zero l = refl
 cells-same g f h k (suc n) l = ap₂ _∷_ (h (take k l)) (cells-same g f h k n (drop k l))
 
-notices-erased : (kind held : ℕ) (places : List ℕ) → map erase (notices-in kind held places) ≡ notices-in kind held places
-unfolding notices-in
-notices-erased kind held places = cells-same erase (notice-in kind) (λ p. refl) (place-size kind) held places
+areas-same : {A : Type 0} (g : A → A) (f : ℕ → List ℕ → A) → ((i : ℕ) (p : List ℕ) → g (f i p) ≡ f i p)
+    → (at size : ℕ → ℕ) (i n : ℕ) (l : List ℕ)
+    → map g (areas f at size i n l) ≡ areas f at size i n l
+unfolding areas
+areas-same g f h at size i zero l = refl
+areas-same g f h at size i (suc n) l = ap₂ _∷_ (h i (take (size i) (drop (at i) l))) (areas-same g f h at size (suc i) n l)
+
+-- ==== a lane, a session, the table
 
 sub-erased : (f : Form) (revision clock : ℕ) (ns : List Notice) → map erase ns ≡ ns
     → erase-sub (subscription-as f revision clock ns) ≡ subscription-as f revision clock ns
@@ -44,24 +51,28 @@ sub-erased Plain revision clock ns e = refl
 sub-erased Acknowledged revision clock [] e = refl
 sub-erased Acknowledged revision clock (n ∷ ns) e = ap (λ (l : List Notice). acked revision (queue-in clock l)) e
 
-as-erased : (phase : Phase) (idle : ℕ) (run : Run) (a b : model.Subscription) → erase-sub a ≡ a → erase-sub b ≡ b
-    → erase-session (session-as phase idle run (a ∷ b ∷ [])) ≡ session-as phase idle run (a ∷ b ∷ [])
-as-erased Closed idle run a b p q = refl
-as-erased Opened idle run a b p q = refl
-as-erased Started idle run a b p q = ap₂ (λ (x y : model.Subscription). started idle run (x ∷ y ∷ [])) p q
+lane-erased : (kind : ℕ) (l : List ℕ) → erase-sub (lane-of kind l) ≡ lane-of kind l
+unfolding lane-by notices-in
+lane-erased kind l =
+    let x = control-of l in
+    sub-erased (x .form) (x .revision) (x .clock) _
+    (cells-same erase (notice-in kind) (λ p. refl) (place-size kind) (x .held) (drop control-size l))
+
+as-erased : (phase : Phase) (idle : ℕ) (run : Run) (subs : List model.Subscription) → map erase-sub subs ≡ subs
+    → erase-session (session-as phase idle run subs) ≡ session-as phase idle run subs
+as-erased Closed idle run subs e = refl
+as-erased Opened idle run subs e = refl
+as-erased Started idle run subs e = ap (started idle run) e
 
 session-erased : (r : List ℕ) → erase-session (session-of r) ≡ session-of r
-unfolding session-of
+unfolding session-of subscriptions-in
 session-erased r =
     let x = head-of (head-area r) in
-    as-erased (x .phase) (x .idle) (run-of (run-area r)) _ _
-    (sub-erased (x .identifiers .form) (x .identifiers .revision) (x .identifiers .clock) _
-    (notices-erased identifiers (x .identifiers .held) (identifiers-area r)))
-    (sub-erased (x .tightenings .form) (x .tightenings .revision) (x .tightenings .clock) _
-    (notices-erased tightenings (x .tightenings .held) (tightenings-area r)))
+    as-erased (x .phase) (x .idle) (run-of (run-area r)) (subscriptions-in r)
+    (areas-same erase-sub lane-of lane-erased lane-at lane-size 0 (length kinds) r)
 
 pub decode-erased : (t : List ℕ) → decode t ≡ erase-world (decode t)
 unfolding decode
 decode-erased t =
     ap (λ (ss : List model-session.Session). record { shared = shared-of (shared-area t); sessions = ss })
-    (sym (cells-same erase-session session-of session-erased region-size session-count (drop shared-size t)))
+    (sym (areas-same erase-session (λ (s : ℕ). session-of) (λ s. session-erased) region-at (λ (s : ℕ). region-size) 0 session-count t))

@@ -8,9 +8,9 @@ use mathlib.Core.List.{List, _++_}
 use lib.Dec.{lit≤}
 use lib.ListN.{length, take, drop, length-drop}
 use lib.Seq.{sets, length-sets, sets-eq, take-take, drop-drop, drop-append-le, take-append-le}
-use Rattle.model.specs.Limits.{identifier-length, number-greatest}
+use Rattle.model.specs.Limits.{identifier-length, time-length, number-length, number-greatest}
 use Rattle.model.specs.Bytes.{is-space, all, little, in-bytes}
-use Rattle.model.specs.Records.{identifier-in, tightening-of, tightening}
+use Rattle.model.specs.Records.{tightening-length, identifier-in, tightening-of, tightening}
 use Rattle.model.specs.Events.{tightened, identifier-of}
 use Rattle.model.specs.Sharing.{Shared, reported}
 use Rattle.text.specs.Put.{Put}
@@ -19,17 +19,27 @@ use Rattle.text.proofs.Numbers.{in-bytes-length}
 use Rattle.shared.proofs.Areas.{four}
 use Rattle.frame.specs.Layout.{result-of}
 
--- payloads that are the same behind their identifiers
-module _ (p q : List ℕ) (same : take 81 (drop 25 p) ≡ take 81 (drop 25 q)) where
-  part : (bs : List ℕ) (a k : ℕ) → a + k ≤ 81 → take k (drop (25 + a) bs) ≡ take k (drop a (take 81 (drop 25 bs)))
-  part bs a k h =
-      ap (take k) (sym (drop-drop a 25 bs)) ∙ sym (take-take k (81 - a) (drop a (drop 25 bs)) (omega arith))
-      ∙ ap (take k) (sym (drop-take a 81 (drop 25 bs) (omega arith)))
+-- how many bytes a payload has behind its identifier, and a tightening as it is kept
+abbrev rest-length : ℕ
+rest-length = tightening-length - identifier-length
 
-  part-same : (a k : ℕ) → a + k ≤ 81 → take k (drop (25 + a) p) ≡ take k (drop (25 + a) q)
+abbrev result-length : ℕ
+result-length = tightening-length + number-length
+
+-- payloads that are the same behind their identifiers
+module _ (p q : List ℕ) (same : take rest-length (drop identifier-length p) ≡ take rest-length (drop identifier-length q)) where
+  part : (bs : List ℕ) (a k : ℕ) → a + k ≤ rest-length
+      → take k (drop (identifier-length + a) bs) ≡ take k (drop a (take rest-length (drop identifier-length bs)))
+  part bs a k h =
+      ap (take k) (sym (drop-drop a identifier-length bs))
+      ∙ sym (take-take k (rest-length - a) (drop a (drop identifier-length bs)) (omega arith))
+      ∙ ap (take k) (sym (drop-take a rest-length (drop identifier-length bs) (omega arith)))
+
+  part-same : (a k : ℕ) → a + k ≤ rest-length → take k (drop (identifier-length + a) p) ≡ take k (drop (identifier-length + a) q)
   part-same a k h = part p a k h ∙ ap (λ (bs : List ℕ). take k (drop a bs)) same ∙ sym (part q a k h)
 
-  number-same : (a k : ℕ) → a + k ≤ 81 → little (take k (drop (25 + a) p)) ≡ little (take k (drop (25 + a) q))
+  number-same : (a k : ℕ) → a + k ≤ rest-length
+      → little (take k (drop (identifier-length + a) p)) ≡ little (take k (drop (identifier-length + a) q))
   number-same a k h = ap little (part-same a k h)
 
   pub tightening-same : tightening-of p ≡ tightening-of q
@@ -50,47 +60,49 @@ module _ (p q : List ℕ) (same : take 81 (drop 25 p) ≡ take 81 (drop 25 q)) w
     angle-max = number-same 30 4 (lit≤ tt) i;
     angle-target = number-same 34 4 (lit≤ tt) i;
     angle = number-same 38 4 (lit≤ tt) i;
-    time-stamp = part-same 42 19 (lit≤ tt) i;
-    change-time = part-same 61 19 (lit≤ tt) i;
+    time-stamp = part-same 42 time-length (lit≤ tt) i;
+    change-time = part-same 61 time-length (lit≤ tt) i;
     batch-status = number-same 80 1 (lit≤ tt) i;
   }
 
 -- the payload p, then the identifier x over its own, then the number n behind it
-module _ (z p x : List ℕ) (n : ℕ) (lz : length z ≡ 110) (lp : length p ≡ 106) (lx : length x ≡ identifier-length)
+module _ (z p x : List ℕ) (n : ℕ) (lz : length z ≡ result-length) (lp : length p ≡ tightening-length) (lx : length x ≡ identifier-length)
     (ln : n < suc number-greatest) where
   abbrev kept : List ℕ
-  kept = sets (sets (sets z 0 p) 0 x) 106 (in-bytes 4 n)
+  kept = sets (sets (sets z 0 p) 0 x) tightening-length (in-bytes number-length n)
 
-  with-payload : sets z 0 p ≡ p ++ drop 106 z
+  with-payload : sets z 0 p ≡ p ++ drop tightening-length z
   with-payload = sets-eq p z 0 (omega arith) ∙ ap (λ (k : ℕ). p ++ drop k z) (zero-add _ ∙ lp)
 
-  long : length (sets (sets z 0 p) 0 x) ≡ 110
+  long : length (sets (sets z 0 p) 0 x) ≡ result-length
   long = length-sets (sets z 0 p) 0 x ∙ length-sets z 0 p ∙ lz
 
-  kept-number : little (take 4 (drop 106 kept)) ≡ n
+  kept-number : little (take number-length (drop tightening-length kept)) ≡ n
   kept-number =
       let y = sets (sets z 0 p) 0 x in
-      let bs = in-bytes 4 n in
-      let l : 0 + length bs ≡ 4 = zero-add _ ∙ in-bytes-length 4 n in
-      ap (λ (q : List ℕ). little (take 4 q)) (drop-sets bs y 106 0)
-      ∙ ap (λ (k : ℕ). little (take k (sets (drop 106 y) 0 bs))) (sym l)
-      ∙ ap little (take-sets bs (drop 106 y) 0 (simp length-drop (omega (arith, long, l))))
+      let bs = in-bytes number-length n in
+      let l : 0 + length bs ≡ number-length = zero-add _ ∙ in-bytes-length number-length n in
+      ap (λ (q : List ℕ). little (take number-length q)) (drop-sets bs y tightening-length 0)
+      ∙ ap (λ (k : ℕ). little (take k (sets (drop tightening-length y) 0 bs))) (sym l)
+      ∙ ap little (take-sets bs (drop tightening-length y) 0 (simp length-drop (omega (arith, long, l))))
       ∙ four n ln
 
-  kept-identifier : take 25 (drop 0 kept) ≡ x
+  kept-identifier : take identifier-length (drop 0 kept) ≡ x
   kept-identifier =
       let y = sets z 0 p in
       let l : 0 + length x ≡ identifier-length = zero-add _ ∙ lx in
-      take-sets-before (in-bytes 4 n) (sets y 0 x) 106 25 (lit≤ tt) ∙ ap (λ (k : ℕ). take k (sets y 0 x)) (sym l)
+      take-sets-before (in-bytes number-length n) (sets y 0 x) tightening-length identifier-length (lit≤ tt)
+      ∙ ap (λ (k : ℕ). take k (sets y 0 x)) (sym l)
       ∙ take-sets x y 0 (omega (arith, length-sets z 0 p))
 
-  kept-rest : take 81 (drop 25 kept) ≡ take 81 (drop 25 p)
+  kept-rest : take rest-length (drop identifier-length kept) ≡ take rest-length (drop identifier-length p)
   kept-rest =
       let y = sets (sets z 0 p) 0 x in
-      ap (take 81) (drop-sets (in-bytes 4 n) y 25 81) ∙ take-sets-before (in-bytes 4 n) (drop 25 y) 81 81 (lit≤ tt)
-      ∙ ap (take 81) (drop-sets-after x (sets z 0 p) 0 25 (omega arith) ∙ ap (drop 25) with-payload
-      ∙ drop-append-le 25 p (drop 106 z) (omega arith))
-      ∙ take-append-le 81 (drop 25 p) (drop 106 z) (simp length-drop (omega arith))
+      ap (take rest-length) (drop-sets (in-bytes number-length n) y identifier-length rest-length)
+      ∙ take-sets-before (in-bytes number-length n) (drop identifier-length y) rest-length rest-length (lit≤ tt)
+      ∙ ap (take rest-length) (drop-sets-after x (sets z 0 p) 0 identifier-length (omega arith) ∙ ap (drop identifier-length) with-payload
+      ∙ drop-append-le identifier-length p (drop tightening-length z) (omega arith))
+      ∙ take-append-le rest-length (drop identifier-length p) (drop tightening-length z) (simp length-drop (omega arith))
 
   -- the event that is reported now
   pub result-kept : (g : Shared) → x ≡ identifier-of (identifier-in p) (g .in-force) → n ≡ g .last + 1
@@ -114,13 +126,14 @@ meant-length own in-force e a b = ap length e ∙ go (all is-space own)
 
 -- the same, as the code writes it
 pub result-put : (z p x : List ℕ) (n : ℕ) {p₁ p₂ p₃ : List ℕ} {r₁ r₂ r₃ : ℕ} → Put z 0 p r₁ p₁ → Put p₁ 0 x r₂ p₂
-    → Put p₂ 106 (in-bytes 4 n) r₃ p₃
-    → length z ≡ 110 → length p ≡ 106 → length x ≡ identifier-length → n < suc number-greatest
+    → Put p₂ tightening-length (in-bytes number-length n) r₃ p₃
+    → length z ≡ result-length → length p ≡ tightening-length → length x ≡ identifier-length → n < suc number-greatest
     → (g : Shared) → x ≡ identifier-of (identifier-in p) (g .in-force) → n ≡ g .last + 1
     → tightened (result-of p₃) ≡ reported g (tightening (identifier-in p) (tightening-of p))
 result-put z p x n a b c lz lp lx ln g ex en =
     ap (λ (q : List ℕ). tightened (result-of q))
-    (c .output ∙ ap (λ (q : List ℕ). sets q 106 (in-bytes 4 n)) (b .output ∙ ap (λ (q : List ℕ). sets q 0 x) (a .output)))
+    (c .output ∙ ap (λ (q : List ℕ). sets q tightening-length (in-bytes number-length n))
+    (b .output ∙ ap (λ (q : List ℕ). sets q 0 x) (a .output)))
     ∙ result-kept z p x n lz lp lx ln g ex en
 
 -- there is a number left

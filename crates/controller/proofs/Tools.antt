@@ -8,7 +8,7 @@ use mathlib.Core.Option.{Option, none, Option·map as option-map}
 use lib.ListN.{length}
 use Rattle.model.specs.Limits.{identifier-length}
 use Rattle.model.specs.Records.{payload, good-record, identifier-in, tightening-of, tightening-items, scanned-items, Tool, tightening}
-use Rattle.model.specs.Records.{read-tool}
+use Rattle.model.specs.Records.{tightening-kind, tightening-length, scanned-kind, read-tool}
 use Rattle.model.specs.Kinds.{identifiers, tightenings, event-most, call-most}
 use Rattle.model.proofs.Bounds.{event-within}
 use Rattle.model.specs.Events.{Event, identified, tightened}
@@ -16,7 +16,7 @@ use Rattle.model.specs.World.{Moment, happens}
 use Rattle.model.specs.Calls.{tool, does, happening, moments, takers, taken-by}
 use Rattle.model.specs.Sharing.{reported}
 use Rattle.frame.specs.Layout.{result-of}
-use Rattle.notices.specs.Places.{event-in}
+use Rattle.frame.specs.Places.{event-in}
 use Rattle.record.specs.declared.Kind.{Kind}
 use Rattle.record.specs.declared.Kind.the-variants.{Bad, Tightening, Scanned}
 use Rattle.record.specs.Tools.{tool-in}
@@ -39,22 +39,25 @@ module _ (kind : Kind) (slice : List ℕ) (e : tool-in kind slice ≡ read-tool 
   abbrev by-tests : Bool → Bool → Option Tool
   by-tests a b = cond a (tool-in Tightening slice) (cond b (tool-in Scanned slice) none)
 
-  pub tightening-size : {p : List ℕ} → p ≡ payload slice → kind ≡ Tightening → length p ≡ 106
+  pub tightening-size : {p : List ℕ} → p ≡ payload slice → kind ≡ Tightening → length p ≡ tightening-length
   unfolding read-tool
-  tightening-size q k = ap length q ∙ go (good-record 1 tightening-items slice) (good-record 2 scanned-items slice) refl (read k)
+  tightening-size q k =
+      ap length q ∙ go (good-record tightening-kind tightening-items slice) (good-record scanned-kind scanned-items slice) refl (read k)
     where
-      go : (a b : Bool) → good-record 1 tightening-items slice ≡ a → tool-in Tightening slice ≡ by-tests a b → length (payload slice) ≡ 106
-      go true b p q = good-length 1 tightening-items slice p
+      go : (a b : Bool) → good-record tightening-kind tightening-items slice ≡ a → tool-in Tightening slice ≡ by-tests a b
+          → length (payload slice) ≡ tightening-length
+      go true b p q = good-length tightening-kind tightening-items slice p
       go false true p q = let z : _≡_ {A = ℕ} 0 1 = cc in absurd (omega arith)
       go false false p q = let z : _≡_ {A = ℕ} 0 1 = cc in absurd (omega arith)
 
   pub scan-size : {p : List ℕ} → p ≡ payload slice → kind ≡ Scanned → length p ≡ identifier-length
   unfolding read-tool
-  scan-size q k = ap length q ∙ go (good-record 1 tightening-items slice) (good-record 2 scanned-items slice) refl (read k)
+  scan-size q k =
+      ap length q ∙ go (good-record tightening-kind tightening-items slice) (good-record scanned-kind scanned-items slice) refl (read k)
     where
-      go : (a b : Bool) → good-record 2 scanned-items slice ≡ b → tool-in Scanned slice ≡ by-tests a b
+      go : (a b : Bool) → good-record scanned-kind scanned-items slice ≡ b → tool-in Scanned slice ≡ by-tests a b
           → length (payload slice) ≡ identifier-length
-      go false true p q = good-length 2 scanned-items slice p
+      go false true p q = good-length scanned-kind scanned-items slice p
       go true b p q = let z : _≡_ {A = ℕ} 0 1 = cc in absurd (omega arith)
       go false false p q = let z : _≡_ {A = ℕ} 0 1 = cc in absurd (omega arith)
 

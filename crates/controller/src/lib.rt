@@ -5,7 +5,7 @@ ghost use Prim.Native.Nat.{_≤_, _<_};
 ghost use lib.ListN.{length, drop};
 ghost use Rattle.model.specs.Limits.{output-least, number-greatest};
 ghost use Rattle.model.specs.Kinds.{call-most};
-ghost use Rattle.model.specs.Records.{identifier-in, tightening-of, tightening, read-tool};
+ghost use Rattle.model.specs.Records.{tightening-length, identifier-in, tightening-of, tightening, read-tool};
 ghost use Rattle.model.specs.Events.{tightened};
 ghost use Rattle.model.specs.Sharing.{reported};
 ghost use Rattle.model.specs.Calls.{
@@ -22,6 +22,11 @@ ghost use Rattle.frame.specs.Layout.{result-of};
 ghost use Rattle.record.specs.Tools.{tool-in};
 ghost use Rattle.table.specs.Table.{decode, Table, Went};
 ghost use Rattle.controller.specs.Contract.{Outcome};
+use frame::To;
+use model::IDENTIFIER_LENGTH;
+use model::NUMBER_LENGTH;
+use model::RESULT_LENGTH;
+use model::TIGHTENING_LENGTH;
 use record::Kind;
 use table::Told;
 
@@ -114,7 +119,7 @@ pub fn bytes(table: &mut [u8], output: &mut [u8], session: u64, slice: &[u8]) ->
         return refused(n);
     }
     let end = run::ends_at(slice);
-    let at = table::receive(table, output, 0, session, slice, end);
+    let at = table::receive(table, output, To { session, at: 0 }, slice, end);
     done(run::consumed(slice, end) as u64, at as u64, 0)
 }
 
@@ -129,17 +134,18 @@ pub fn rest(bytes: &[u8], answer: Answer) -> &[u8]
 // ---- a tool record
 
 // A tightening as it is kept: the tool record's payload with the identifier that is meant now, and its number, the next one.
-fn result<'a>(table: &'a [u8], payload: &'a [u8]) -> [u8; 110]
-    requires { ⌜ Table (now table) × (length (now payload) ≡ 106) × (decode (now table) .shared .last ≡ number-greatest → ⊥) ⌝ }
+fn result<'a>(table: &'a [u8], payload: &'a [u8]) -> [u8; RESULT_LENGTH]
+    requires { ⌜ Table (now table) × (length (now payload) ≡ tightening-length)
+        × (decode (now table) .shared .last ≡ number-greatest → ⊥) ⌝ }
     ensures { λ r. ⌜ tightened (result-of r) ≡ reported (decode (now (table .entry)) .shared)
         (tightening (identifier-in (now (payload .entry))) (tightening-of (now (payload .entry)))) ⌝ }
 {
-    let mut place = [0; 110];
+    let mut place = [0; RESULT_LENGTH];
     text::copy(payload, &mut place, 0);
-    let identifier = record::meant(&payload[0..25], table::in_force(table));
+    let identifier = record::meant(&payload[0..IDENTIFIER_LENGTH], table::in_force(table));
     text::copy(identifier, &mut place, 0);
     let number = table::last(table) + 1;
-    text::put_little(&mut place, 106, 4, number);
+    text::put_little(&mut place, TIGHTENING_LENGTH, NUMBER_LENGTH, number);
     place
 }
 
@@ -156,9 +162,9 @@ fn report(table: &mut [u8], output: &mut [u8], slice: &[u8], kind: Kind) -> Told
         Kind::Bad => Told { at: 0, taken: 0 },
         Kind::Tightening => {
             let place = result(table, payload);
-            table::happens(table, output, 0, message::TIGHTENINGS, &place)
+            table::happens(table, output, 0, model::TIGHTENINGS, &place)
         }
-        Kind::Scanned => table::happens(table, output, 0, message::IDENTIFIERS, payload),
+        Kind::Scanned => table::happens(table, output, 0, model::IDENTIFIERS, payload),
     }
 }
 

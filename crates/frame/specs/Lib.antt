@@ -1,2 +1,4 @@
 pub mod Layout
 pub mod Header
+pub mod Places
+pub mod Output

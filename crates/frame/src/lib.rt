@@ -6,7 +6,7 @@ ghost use lib.ListN.{length, take, drop};
 ghost use Rattle.model.specs.Limits.{header-length, identifier-length};
 ghost use Rattle.model.specs.Bytes.{digit-0, digit-1, is-digit, is-space, all};
 ghost use Rattle.model.specs.Runs.{is-flag as is-flag-byte, revision-of, is-message as is-message-run};
-ghost use Rattle.model.specs.Records.{settings-of, settings-length};
+ghost use Rattle.model.specs.Records.{record-head, settings-of, settings-length};
 ghost use Rattle.model.specs.Kinds.{kind-at, identifiers, tightenings, copy-most, reply-most};
 ghost use Rattle.model.specs.Frames.{
   header as header-bytes,
@@ -16,14 +16,38 @@ ghost use Rattle.model.specs.Frames.{
   frame-0005,
   frame-0052,
   frame-0061,
+  event-frame,
   frame-record,
   close-record,
 };
 ghost use Rattle.text.specs.Put.{Put};
 ghost use Rattle.frame.specs.Header.{header-of};
-ghost use Rattle.frame.specs.Layout.{width as width-of, field-of, laid-out, layout-length, served, result-of};
+ghost use Rattle.frame.specs.Layout.{width as width-of, field-of, laid-out, layout-length, served, Layable, result-of};
+ghost use Rattle.frame.specs.Places.{result-size, event-in};
+ghost use Rattle.frame.specs.Output.{length-0004, length-0005, length-0052-1, record-length, Writable, Lent};
+
+// ---- headers: length and message number in so many digits each, the revision in so many, byte 12, and spaces
+
+const NUMBER_DIGITS: usize = 4;
+
+const REVISION_DIGITS: usize = 3;
+
+const HEADER_LENGTH: usize = 20;
+
+// Where number, revision and byte 12 stand, from 0.
+const NUMBER_AT: usize = NUMBER_DIGITS;
+
+const REVISION_AT: usize = NUMBER_AT + NUMBER_DIGITS;
+
+const FLAG_AT: usize = REVISION_AT + REVISION_DIGITS;
+
+use model::IDENTIFIER_LENGTH;
+use model::TIME_LENGTH;
 
 // ---- the header of a received run
+
+// A message has no more bytes.
+const MESSAGE_LONGEST: usize = 9999;
 
 // What a run is: no message, or a message with what its header says.
 pub enum Header {
@@ -78,26 +102,26 @@ fn revision(s: &[u8]) -> u64
 fn is_message(run: &[u8], count: usize) -> bool
     ensures { λ r. ⌜ r ≡ is-message-run (record { kept = now (run .entry); count = «count» }) ⌝ }
 {
-    if run.len() < 20 {
+    if run.len() < HEADER_LENGTH {
         return false;
     }
-    if count > 9999 {
+    if count > MESSAGE_LONGEST {
         return false;
     }
-    let length = &run[0..4];
+    let length = &run[0..NUMBER_AT];
     if !text::is_digits(length) {
         return false;
     }
     if text::decimal(length) != count as u64 {
         return false;
     }
-    if !text::is_digits(&run[4..8]) {
+    if !text::is_digits(&run[NUMBER_AT..REVISION_AT]) {
         return false;
     }
-    if !is_revision(&run[8..11]) {
+    if !is_revision(&run[REVISION_AT..FLAG_AT]) {
         return false;
     }
-    is_flag(run[11])
+    is_flag(run[FLAG_AT])
 }
 
 // What a run of count bytes, whose first are these, is.
@@ -109,9 +133,9 @@ fn header_in(run: &[u8], count: usize) -> Header
     }
     Header::Message {
         size: count,
-        mid: text::decimal(&run[4..8]),
-        revision: revision(&run[8..11]),
-        no_acknowledge: run[11] == b'1',
+        mid: text::decimal(&run[NUMBER_AT..REVISION_AT]),
+        revision: revision(&run[REVISION_AT..FLAG_AT]),
+        no_acknowledge: run[FLAG_AT] == b'1',
     }
 }
 
@@ -119,7 +143,7 @@ fn header_in(run: &[u8], count: usize) -> Header
 pub fn data_field(run: &[u8]) -> &[u8]
     ensures { λ r. ⌜ now r ≡ drop header-length (now (run .entry)) ⌝ }
 {
-    text::rest(run, 20)
+    text::rest(run, HEADER_LENGTH)
 }
 
 // A run that was read: what it is, and its data field.
@@ -145,23 +169,23 @@ const COPIED: usize = 0;
 const BLANK: usize = 9;
 
 // Fields 01 to 03 of 0002 and 0061, of the settings: cell, channel, name.
-const CONTROLLER: [[usize; 3]; 3] = [[4, 2, 0], [2, 1, 2], [25, COPIED, 4]];
+const CONTROLLER: [[usize; 3]; 3] = [[4, 2, 0], [2, 1, 2], [IDENTIFIER_LENGTH, COPIED, 4]];
 
 // 0052, of the identifier.
-const IDENTIFIER_1: [[usize; 3]; 1] = [[25, COPIED, 0]];
+const IDENTIFIER_1: [[usize; 3]; 1] = [[IDENTIFIER_LENGTH, COPIED, 0]];
 
 const IDENTIFIER_2: [[usize; 3]; 4] = [
-    [25, COPIED, 0],
-    [25, BLANK, 0],
-    [25, BLANK, 0],
-    [25, BLANK, 0],
+    [IDENTIFIER_LENGTH, COPIED, 0],
+    [IDENTIFIER_LENGTH, BLANK, 0],
+    [IDENTIFIER_LENGTH, BLANK, 0],
+    [IDENTIFIER_LENGTH, BLANK, 0],
 ];
 
 // Fields 04 to 23 of 0061, of a result as it is kept.
 const RESULT: [[usize; 3]; 20] = [
     // identifier, job, parameter set, batch size, batch counter
-    [25, COPIED, 0],
-    [2, 1, 25],
+    [IDENTIFIER_LENGTH, COPIED, 0],
+    [2, 1, IDENTIFIER_LENGTH],
     [3, 2, 26],
     [4, 2, 28],
     [4, 2, 30],
@@ -180,8 +204,8 @@ const RESULT: [[usize; 3]; 20] = [
     [5, 4, 59],
     [5, 4, 63],
     // time, parameter set change time, batch status, tightening number
-    [19, COPIED, 67],
-    [19, COPIED, 86],
+    [TIME_LENGTH, COPIED, 67],
+    [TIME_LENGTH, COPIED, 86],
     [1, 1, 105],
     [10, 4, 106],
 ];
@@ -206,8 +230,7 @@ fn put_value(out: &mut [u8], at: usize, row: &[usize; 3], source: &[u8]) -> usiz
 
 // The fields of a layout, each with its number before it, from `first` on.
 fn put_fields(out: &mut [u8], at: usize, first: u64, rows: &[[usize; 3]], source: &[u8]) -> usize
-    requires { ⌜ (all (served (length (now source))) (now rows) ≡ true) × (at + layout-length (now rows) ≤ length (now out))
-        × (first + length (now rows) ≤ 100) ⌝ }
+    requires { ⌜ Layable (now out) at first (now rows) (now source) ⌝ }
     ensures { λ r. ⌜ (r ≡ at + layout-length (now (rows .entry)))
         × Put (now (out .entry)) at (laid-out first (now (rows .entry)) (now (source .entry))) r (now (out .exit)) ⌝ }
 {
@@ -221,76 +244,111 @@ fn put_fields(out: &mut [u8], at: usize, first: u64, rows: &[[usize; 3]], source
     to
 }
 
-// A frame's header.
-fn put_header(out: &mut [u8], size: u64, mid: u64, revision: u64, byte_12: u8) -> usize
-    requires { ⌜ 20 ≤ length (now out) ⌝ }
-    ensures { λ r. ⌜ (r ≡ 20) × Put (now (out .entry)) 0 (header-bytes size mid revision byte_12) r (now (out .exit)) ⌝ }
+// A frame's header. The frame is as long as the bytes that it is put together in.
+fn put_header(out: &mut [u8], mid: u64, revision: u64, byte_12: u8) -> usize
+    requires { ⌜ header-length ≤ length (now out) ⌝ }
+    ensures { λ r. ⌜ (r ≡ header-length)
+        × Put (now (out .entry)) 0 (header-bytes (length (now (out .entry))) mid revision byte_12) r (now (out .exit)) ⌝ }
 {
-    let at = text::put_digits(out, 0, 4, size);
-    let at = text::put_digits(out, at, 4, mid);
-    let at = text::put_digits(out, at, 3, revision);
+    let size = out.len() as u64;
+    let at = text::put_digits(out, 0, NUMBER_DIGITS, size);
+    let at = text::put_digits(out, at, NUMBER_DIGITS, mid);
+    let at = text::put_digits(out, at, REVISION_DIGITS, revision);
     let at = text::fill(out, at, 1, byte_12);
     text::fill(out, at, 8, b' ')
 }
 
 // ---- output records
 
-// A frame to session s, with its NUL.
-pub fn put_frame(out: &mut [u8], at: usize, s: u64, frame: &[u8]) -> usize
-    requires { ⌜ (at + length (now frame) + 5 ≤ length (now out)) × (s < 256) ⌝ }
-    ensures { λ r. ⌜ (r ≡ at + length (now (frame .entry)) + 5)
-        × Put (now (out .entry)) at (frame-record s (now (frame .entry))) r (now (out .exit)) ⌝ }
+// Where a record goes: to which session, and from which place of the output on.
+pub struct To {
+    pub session: u64,
+    pub at: usize,
+}
+
+// The kinds of the records to session 0: the session's number is added.
+const FRAME_KIND: u64 = 256;
+
+const CLOSE_KIND: u64 = 512;
+
+// A frame, with its NUL.
+pub fn put_frame(out: &mut [u8], to: To, frame: &[u8]) -> usize
+    requires { ⌜ Writable (now out) to (record-length (length (now frame))) ⌝ }
+    ensures { λ r. ⌜ (r ≡ to .at + record-length (length (now (frame .entry))))
+        × Put (now (out .entry)) (to .at) (frame-record (to .session) (now (frame .entry))) r (now (out .exit)) ⌝ }
 {
-    let at = text::put_little(out, at, 2, (frame.len() + 1) as u64);
-    let at = text::put_little(out, at, 2, 256 + s);
+    let at = text::put_little(out, to.at, 2, (frame.len() + 1) as u64);
+    let at = text::put_little(out, at, 2, FRAME_KIND + to.session);
     let at = text::copy(frame, out, at);
     text::put_little(out, at, 1, 0)
 }
 
-// The order to close session s.
-pub fn put_close(out: &mut [u8], at: usize, s: u64) -> usize
-    requires { ⌜ (at + 4 ≤ length (now out)) × (s < 256) ⌝ }
-    ensures { λ r. ⌜ (r ≡ at + 4) × Put (now (out .entry)) at (close-record s) r (now (out .exit)) ⌝ }
+// The order to close the session.
+pub fn put_close(out: &mut [u8], to: To) -> usize
+    requires { ⌜ Writable (now out) to record-head ⌝ }
+    ensures { λ r. ⌜ (r ≡ to .at + record-head)
+        × Put (now (out .entry)) (to .at) (close-record (to .session)) r (now (out .exit)) ⌝ }
 {
-    let at = text::put_little(out, at, 2, 0);
-    text::put_little(out, at, 2, 512 + s)
+    let at = text::put_little(out, to.at, 2, 0);
+    text::put_little(out, at, 2, CLOSE_KIND + to.session)
 }
 
 // ---- the frames that we write: each is put together in a scratch array and copied to its output record
 
 // 0002: the session is started. The settings are a settings record's payload.
-pub fn put_0002(out: &mut [u8], at: usize, s: u64, settings: &[u8]) -> usize
-    requires { ⌜ (at + reply-most ≤ length (now out)) × (s < 256) × (length (now settings) ≡ settings-length) ⌝ }
-    ensures { λ r. ⌜ (r ≡ at + reply-most)
-        × Put (now (out .entry)) at (frame-record s (frame-0002 (settings-of (now (settings .entry))))) r (now (out .exit)) ⌝ }
+pub fn put_0002(out: &mut [u8], to: To, settings: &[u8]) -> usize
+    requires { ⌜ Writable (now out) to reply-most × (length (now settings) ≡ settings-length) ⌝ }
+    ensures { λ r. ⌜ (r ≡ to .at + reply-most)
+        × Put (now (out .entry)) (to .at) (frame-record (to .session) (frame-0002 (settings-of (now (settings .entry))))) r
+        (now (out .exit)) ⌝ }
 {
     let mut frame = [0u8; 57];
-    let to = put_header(&mut frame, 57, 2, 1, b' ');
-    put_fields(&mut frame, to, 1, &CONTROLLER, settings);
-    put_frame(out, at, s, &frame)
+    let at = put_header(&mut frame, 2, 1, b' ');
+    put_fields(&mut frame, at, 1, &CONTROLLER, settings);
+    put_frame(out, to, &frame)
 }
 
 // 0004: message mid has an error.
-pub fn put_0004(out: &mut [u8], at: usize, s: u64, mid: u64, error: u64) -> usize
-    requires { ⌜ (at + 31 ≤ length (now out)) × (s < 256) ⌝ }
-    ensures { λ r. ⌜ (r ≡ at + 31) × Put (now (out .entry)) at (frame-record s (frame-0004 mid error)) r (now (out .exit)) ⌝ }
+pub fn put_0004(out: &mut [u8], to: To, mid: u64, error: u64) -> usize
+    requires { ⌜ Writable (now out) to (record-length length-0004) ⌝ }
+    ensures { λ r. ⌜ (r ≡ to .at + record-length length-0004)
+        × Put (now (out .entry)) (to .at) (frame-record (to .session) (frame-0004 mid error)) r (now (out .exit)) ⌝ }
 {
     let mut frame = [0u8; 26];
-    let to = put_header(&mut frame, 26, 4, 1, b' ');
-    let to = text::put_digits(&mut frame, to, 4, mid);
-    text::put_digits(&mut frame, to, 2, error);
-    put_frame(out, at, s, &frame)
+    let at = put_header(&mut frame, 4, 1, b' ');
+    let at = text::put_digits(&mut frame, at, NUMBER_DIGITS, mid);
+    text::put_digits(&mut frame, at, 2, error);
+    put_frame(out, to, &frame)
 }
 
 // 0005: message mid is accepted.
-pub fn put_0005(out: &mut [u8], at: usize, s: u64, mid: u64) -> usize
-    requires { ⌜ (at + 29 ≤ length (now out)) × (s < 256) ⌝ }
-    ensures { λ r. ⌜ (r ≡ at + 29) × Put (now (out .entry)) at (frame-record s (frame-0005 mid)) r (now (out .exit)) ⌝ }
+pub fn put_0005(out: &mut [u8], to: To, mid: u64) -> usize
+    requires { ⌜ Writable (now out) to (record-length length-0005) ⌝ }
+    ensures { λ r. ⌜ (r ≡ to .at + record-length length-0005)
+        × Put (now (out .entry)) (to .at) (frame-record (to .session) (frame-0005 mid)) r (now (out .exit)) ⌝ }
 {
     let mut frame = [0u8; 24];
-    let to = put_header(&mut frame, 24, 5, 1, b' ');
-    text::put_digits(&mut frame, to, 4, mid);
-    put_frame(out, at, s, &frame)
+    let at = put_header(&mut frame, 5, 1, b' ');
+    text::put_digits(&mut frame, at, NUMBER_DIGITS, mid);
+    put_frame(out, to, &frame)
+}
+
+// 9999: the header as it came.
+pub fn put_9999(out: &mut [u8], to: To, run: &[u8]) -> usize
+    requires { ⌜ Writable (now out) to (record-length header-length) × (header-length ≤ length (now run)) ⌝ }
+    ensures { λ r. ⌜ (r ≡ to .at + record-length header-length)
+        × Put (now (out .entry)) (to .at) (frame-record (to .session) (take header-length (now (run .entry)))) r (now (out .exit)) ⌝ }
+{
+    put_frame(out, to, &run[0..HEADER_LENGTH])
+}
+
+// ---- copies of notices
+
+// How a session is subscribed to a kind of notice, as far as a copy shows it.
+pub struct Asked {
+    pub kind: usize,
+    pub revision: u64,
+    pub no_acknowledge: bool,
 }
 
 // Byte 12 of a notice.
@@ -300,87 +358,80 @@ fn byte_12(no_acknowledge: bool) -> u8
     if no_acknowledge { b'1' } else { b'0' }
 }
 
+// The number of the notice of an identifier.
+const MID_0052: u64 = 52;
+
 // 0052, revision 1.
-fn put_0052_1(out: &mut [u8], at: usize, s: u64, no_acknowledge: bool, identifier: &[u8]) -> usize
-    requires { ⌜ (at + 52 ≤ length (now out)) × (s < 256) × (length (now identifier) ≡ identifier-length) ⌝ }
-    ensures { λ r. ⌜ (r ≡ at + 52)
-        × Put (now (out .entry)) at (frame-record s (frame-0052 1 «no_acknowledge» (now (identifier .entry)))) r (now (out .exit)) ⌝ }
+fn put_0052_1(out: &mut [u8], to: To, asked: Asked, identifier: &[u8]) -> usize
+    requires { ⌜ Writable (now out) to (record-length length-0052-1) × (length (now identifier) ≡ identifier-length) ⌝ }
+    ensures { λ r. ⌜ (r ≡ to .at + record-length length-0052-1)
+        × Put (now (out .entry)) (to .at) (frame-record (to .session) (frame-0052 1 (asked .«no_acknowledge») (now (identifier .entry)))) r
+        (now (out .exit)) ⌝ }
 {
     let mut frame = [0u8; 47];
-    let to = put_header(&mut frame, 47, 52, 1, byte_12(no_acknowledge));
-    put_fields(&mut frame, to, 1, &IDENTIFIER_1, identifier);
-    put_frame(out, at, s, &frame)
+    let flag = byte_12(asked.no_acknowledge);
+    let at = put_header(&mut frame, MID_0052, 1, flag);
+    put_fields(&mut frame, at, 1, &IDENTIFIER_1, identifier);
+    put_frame(out, to, &frame)
 }
 
 // 0052, any later revision.
-fn put_0052_2(
-    out: &mut [u8],
-    at: usize,
-    s: u64,
-    revision: u64,
-    no_acknowledge: bool,
-    identifier: &[u8],
-) -> usize
-    requires { ⌜ (at + copy-most (kind-at identifiers) ≤ length (now out)) × (s < 256) × (length (now identifier) ≡ identifier-length) ⌝ }
-    requires { ⌜ (revision ≡ 1 → ⊥) ⌝ }
-    ensures { λ r. ⌜ (r ≡ at + copy-most (kind-at identifiers))
-        × Put (now (out .entry)) at (frame-record s (frame-0052 revision «no_acknowledge» (now (identifier .entry)))) r
+fn put_0052_2(out: &mut [u8], to: To, asked: Asked, identifier: &[u8]) -> usize
+    requires { ⌜ Writable (now out) to (copy-most (kind-at identifiers)) × (length (now identifier) ≡ identifier-length) ⌝ }
+    requires { ⌜ (asked .revision ≡ 1 → ⊥) ⌝ }
+    ensures { λ r. ⌜ (r ≡ to .at + copy-most (kind-at identifiers))
+        × Put (now (out .entry)) (to .at)
+        (frame-record (to .session) (frame-0052 (asked .revision) (asked .«no_acknowledge») (now (identifier .entry)))) r
         (now (out .exit)) ⌝ }
 {
     let mut frame = [0u8; 128];
-    let to = put_header(&mut frame, 128, 52, revision, byte_12(no_acknowledge));
-    put_fields(&mut frame, to, 1, &IDENTIFIER_2, identifier);
-    put_frame(out, at, s, &frame)
+    let flag = byte_12(asked.no_acknowledge);
+    let at = put_header(&mut frame, MID_0052, asked.revision, flag);
+    put_fields(&mut frame, at, 1, &IDENTIFIER_2, identifier);
+    put_frame(out, to, &frame)
 }
 
 // 0052: an identifier, to a session that subscribed so.
-pub fn put_0052(
-    out: &mut [u8],
-    at: usize,
-    s: u64,
-    revision: u64,
-    no_acknowledge: bool,
-    identifier: &[u8],
-) -> usize
-    requires { ⌜ (at + copy-most (kind-at identifiers) ≤ length (now out)) × (s < 256) × (length (now identifier) ≡ identifier-length) ⌝ }
-    ensures { λ r. ⌜ (r ≤ at + copy-most (kind-at identifiers))
-        × Put (now (out .entry)) at (frame-record s (frame-0052 revision «no_acknowledge» (now (identifier .entry)))) r
+fn put_0052(out: &mut [u8], to: To, asked: Asked, identifier: &[u8]) -> usize
+    requires { ⌜ Writable (now out) to (copy-most (kind-at identifiers)) × (length (now identifier) ≡ identifier-length) ⌝ }
+    ensures { λ r. ⌜ (r ≤ to .at + copy-most (kind-at identifiers))
+        × Put (now (out .entry)) (to .at)
+        (frame-record (to .session) (frame-0052 (asked .revision) (asked .«no_acknowledge») (now (identifier .entry)))) r
         (now (out .exit)) ⌝ }
 {
-    if revision == 1 {
-        return put_0052_1(out, at, s, no_acknowledge, identifier);
+    if asked.revision == 1 {
+        return put_0052_1(out, to, asked, identifier);
     }
-    put_0052_2(out, at, s, revision, no_acknowledge, identifier)
+    put_0052_2(out, to, asked, identifier)
 }
 
 // 0061: a result as it is kept, to a session that subscribed so.
-pub fn put_0061(
-    out: &mut [u8],
-    at: usize,
-    s: u64,
-    revision: u64,
-    no_acknowledge: bool,
-    settings: &[u8],
-    result: &[u8],
-) -> usize
-    requires { ⌜ (at + copy-most (kind-at tightenings) ≤ length (now out)) × (s < 256) × (length (now settings) ≡ settings-length)
-        × (length (now result) ≡ 110) ⌝ }
-    ensures { λ r. ⌜ (r ≡ at + copy-most (kind-at tightenings))
-        × Put (now (out .entry)) at (frame-record s
-        (frame-0061 (settings-of (now (settings .entry))) revision «no_acknowledge» (result-of (now (result .entry))))) r
+fn put_0061(out: &mut [u8], to: To, asked: Asked, settings: &[u8], result: &[u8]) -> usize
+    requires { ⌜ Writable (now out) to (copy-most (kind-at tightenings)) ⌝ }
+    requires { ⌜ (length (now settings) ≡ settings-length) × (length (now result) ≡ result-size) ⌝ }
+    ensures { λ r. ⌜ (r ≡ to .at + copy-most (kind-at tightenings))
+        × Put (now (out .entry)) (to .at) (frame-record (to .session)
+        (frame-0061 (settings-of (now (settings .entry))) (asked .revision) (asked .«no_acknowledge») (result-of (now (result .entry))))) r
         (now (out .exit)) ⌝ }
 {
     let mut frame = [0u8; 231];
-    let to = put_header(&mut frame, 231, 61, revision, byte_12(no_acknowledge));
-    let to = put_fields(&mut frame, to, 1, &CONTROLLER, settings);
-    put_fields(&mut frame, to, 4, &RESULT, result);
-    put_frame(out, at, s, &frame)
+    let flag = byte_12(asked.no_acknowledge);
+    let at = put_header(&mut frame, 61, asked.revision, flag);
+    let at = put_fields(&mut frame, at, 1, &CONTROLLER, settings);
+    put_fields(&mut frame, at, 4, &RESULT, result);
+    put_frame(out, to, &frame)
 }
 
-// 9999: the header as it came.
-pub fn put_9999(out: &mut [u8], at: usize, s: u64, run: &[u8]) -> usize
-    requires { ⌜ (at + 25 ≤ length (now out)) × (s < 256) × (20 ≤ length (now run)) ⌝ }
-    ensures { λ r. ⌜ (r ≡ at + 25) × Put (now (out .entry)) at (frame-record s (take 20 (now (run .entry)))) r (now (out .exit)) ⌝ }
+// A copy of the notice in a place, to a session that subscribed so.
+pub fn put_copy(out: &mut [u8], to: To, asked: Asked, settings: &[u8], place: &[u8]) -> usize
+    requires { ⌜ Lent (now out) to asked (now settings) (now place) ⌝ }
+    ensures { λ r. ⌜ (r ≤ to .at + copy-most (kind-at (asked .kind)))
+        × Put (now (out .entry)) (to .at) (frame-record (to .session)
+        (event-frame (settings-of (now (settings .entry))) (asked .revision) (asked .«no_acknowledge»)
+        (event-in (asked .kind) (now (place .entry))))) r (now (out .exit)) ⌝ }
 {
-    put_frame(out, at, s, &run[0..20])
+    if asked.kind == model::IDENTIFIERS {
+        return put_0052(out, to, asked, place);
+    }
+    put_0061(out, to, asked, settings, place)
 }

@@ -6,14 +6,14 @@ use mathlib.Core.Bool.{Bool, true, false}
 use mathlib.Core.List.{List, [], _∷_, _++_, map}
 use mathlib.Core.Option.{none, some}
 use lib.ListN.{length, drop, replicate}
-use Rattle.model.specs.Limits.{table-least, output-least}
+use Rattle.model.specs.Limits.{table-least, output-least, longest-wait}
 use Rattle.model.specs.Records.{Settings, payload, settings-of}
 use Rattle.model.specs.Kinds.{tightenings}
 use Rattle.model.specs.World.{begun}
 use Rattle.model.specs.Calls.{Call, start, open-session, hang-up-session, bytes, one-tick, tool, Lent}
 use Rattle.model.proofs.Histories.{a-tightening, scan, opened, hung-up, message, sends, tick, ticks, line4, told, outcome}
 use Rattle.watch.specs.Marks.{Mark, copies, T}
-use Rattle.history.specs.Turns.{longest-wait, turns}
+use Rattle.history.specs.Turns.{turns}
 use Rattle.history.specs.Demand.{marks}
 use Rattle.history.specs.Output.{read-output}
 use Rattle.history.proofs.Cases.{call-in, long-enough}

@@ -9,7 +9,7 @@ use lib.Dec.{ltb, eqb}
 use lib.ListN.{length, take, drop, take-append-drop, length-take, length-drop, length-append}
 use lib.Seq.{sets, drop-append-le}
 use borrow.Author.Tests.{ltb-true, ltb-false, lt-ltb, le-ltb}
-use Rattle.model.specs.Limits.{table-least, output-least, answer-least}
+use Rattle.model.specs.Limits.{table-least, output-least, answer-least, answer-too-short}
 use Rattle.model.specs.Records.{payload, settings-of}
 use Rattle.model.specs.World.{World, uncounted, begun}
 use Rattle.model.specs.Calls.{Call, Lent, Returned, answer-bytes, output}
@@ -40,7 +40,7 @@ lending size formed room = record { table = size; well-formed = formed; output =
 -- ==== what C is told, by the length of the answer
 
 abbrev told-nothing : World → Returned
-told-nothing w = record { number = 10; world = w; to-answer = []; to-output = [] }
+told-nothing w = record { number = answer-too-short; world = w; to-answer = []; to-output = [] }
 
 abbrev as-made : Said → Returned
 as-made q = record { number = (q .1) .number; world = q .0; to-answer = answer-bytes (q .1); to-output = output (q .2) }
@@ -105,7 +105,8 @@ module _ (c : Call) (n : ℕ) (t o : List ℕ) (h : table-least ≤ length (take
 -- ==== one call
 
 data Did (p : Export) (t t₁ : List ℕ) : Type 0 where
-  not-called : length (p .answer) < answer-least → p .told ≡ 10 → p .answer-left ≡ p .answer → p .output-left ≡ p .output → t₁ ≡ t
+  not-called : length (p .answer) < answer-least → p .told ≡ answer-too-short → p .answer-left ≡ p .answer
+      → p .output-left ≡ p .output → t₁ ≡ t
       → Did p t t₁
   refused : answer-least ≤ length (p .answer) → length (take (p .bytes) t) < table-least → p .told ≡ 1
       → p .answer-left ≡ sets (p .answer) 0 (answer-bytes refused-1) → p .output-left ≡ p .output → t₁ ≡ t → Did p t t₁

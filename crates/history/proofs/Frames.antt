@@ -9,7 +9,7 @@ use native.Mathlib.Omega.{arith}
 use lib.Dec.{eqb, eqb·suc-zero}
 use lib.ListN.{length, length-map, length-append}
 use borrow.Author.Tests.{eqb-false}
-use Rattle.model.specs.Limits.{session-count}
+use Rattle.model.specs.Limits.{session-count, most-copies}
 use Rattle.model.specs.Records.{Settings}
 use Rattle.model.specs.Kinds.{kinds}
 use Rattle.model.specs.Events.{Event}
@@ -26,7 +26,7 @@ use Rattle.watch.specs.Marks.{taken, all-sent}
 use Rattle.watch.specs.Course.{empty as none-waits, Course}
 use Rattle.watch.proofs.Histories.{course-before}
 use Rattle.watch.proofs.Theorem.{few}
-use Rattle.history.specs.Turns.{most-copies, Turn, turn, turns, is-start, opens, frames-in, frames-to}
+use Rattle.history.specs.Turns.{Turn, turn, turns, is-start, opens, frames-in, frames-to}
 use Rattle.history.specs.Reading.{run, message, is-some}
 use Rattle.history.specs.Demand.{copies-in, seen, seen-in, mark, marks, frames, messages, over-kinds, events-taken, past-after}
 use Rattle.history.specs.Demand.{FewFrames, NoStart}

@@ -5,13 +5,14 @@ use mathlib.Core.Bool.{true, false, cond}
 use mathlib.Core.List.{List, [], _∷_, _++_, map}
 use lib.Dec.{eqb}
 use lib.ListN.{length}
+use Rattle.model.specs.Limits.{most-copies}
 use Rattle.model.specs.Records.{Settings}
 use Rattle.model.specs.Kinds.{kinds, kind-at}
 use Rattle.model.specs.Session.{Copy, Emission, reply, copy, close}
 use Rattle.model.specs.Row.{Tagged, pick}
 use Rattle.model.specs.Wire.{is-notice}
 use Rattle.watch.specs.Marks.{Seen, Mark, all-sent, taken, Every}
-use Rattle.history.specs.Turns.{most-copies, Turn, is-start, opens, ticks, frames-to, mid-of}
+use Rattle.history.specs.Turns.{Turn, is-start, opens, ticks, frames-to, mid-of}
 use Rattle.history.specs.Reading.{message, wish, is-some, asks-acknowledge, subscribed, closes, event, shared, frame-for, takes}
 
 -- ==== copies of notices

@@ -7,7 +7,7 @@ use mathlib.Core.List.{List, [], _∷_, _++_}
 use lib.Dec.{eqb}
 use lib.ListN.{length, take, drop}
 use lib.Seq.{sets}
-use Rattle.model.specs.Limits.{table-least, answer-least}
+use Rattle.model.specs.Limits.{table-least, answer-least, answer-too-short}
 use Rattle.model.specs.World.{World}
 use Rattle.model.specs.Calls.{Call, start, Lent, Answer, answer-bytes, Returned, returned}
 use Rattle.model.specs.Sights.{starts}
@@ -103,7 +103,8 @@ refused-1 = record { number = 1; consumed = 0; written = 0; taken = 0 }
 
 -- p is none: the answer is too short, and nothing is done; or the table is, and the answer says so
 pub data NotMade (p : Export) : Type 0 where
-  short-answer : length (p .answer) < answer-least → p .told ≡ 10 → p .answer-left ≡ p .answer → p .output-left ≡ p .output → NotMade p
+  short-answer : length (p .answer) < answer-least → p .told ≡ answer-too-short → p .answer-left ≡ p .answer
+      → p .output-left ≡ p .output → NotMade p
   short-table : answer-least ≤ length (p .answer) → p .bytes < table-least → p .told ≡ 1
       → p .answer-left ≡ sets (p .answer) 0 (answer-bytes refused-1) → p .output-left ≡ p .output → NotMade p
 

@@ -1,10 +1,9 @@
 -- A history as it is seen from outside: the calls, their answers and the records of their output. Assumes nothing: these are definitions.
-use Prim.Native.Nat.{ℕ, _*_, _-_, _/_}
+use Prim.Native.Nat.{ℕ}
 use mathlib.Core.Bool.{Bool, true, false, cond, _&&_}
 use mathlib.Core.List.{List, [], _∷_}
 use mathlib.Core.Option.{Option, none}
 use lib.Dec.{eqb}
-use Rattle.model.specs.Limits.{copy-every, given-up-at, tightenings-held}
 use Rattle.model.specs.Bytes.{places, decimal}
 use Rattle.model.specs.Runs.{Piece}
 use Rattle.model.specs.Messages.{Bearing, entry-bearing, entry-of}
@@ -13,14 +12,6 @@ use Rattle.model.specs.World.{World}
 use Rattle.model.specs.Calls.{Call, Lent, Answer, step}
 use Rattle.model.specs.Sights.{sight, starts}
 use Rattle.model.specs.Row.{Tagged, pick}
-
--- 01, "Notices and the clock": so many ticks, at most, waits a tightening that is taken: those before it are each given up in their time
-abbrev pub longest-wait : ℕ
-longest-wait = (tightenings-held - 1) * given-up-at
-
--- so many copies, at most, has a notice: one at once, and one more at each time for a copy before it is given up
-abbrev pub most-copies : ℕ
-most-copies = given-up-at / copy-every
 
 -- a call that was made: its answer, and the records that it wrote to the output. Each is tagged with its session; a copy of a notice
 -- also carries the number of its event, which no byte shows

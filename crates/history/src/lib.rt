@@ -1,10 +1,11 @@
 // Demand 3 and the words in which it is read off a history are defined in specs/, and what is proved of every history stands in proofs/.
 // A crate needs a function: this one answers how many ticks a taken tightening may wait.
 ghost use mathlib.Core.Path.{_≡_};
-ghost use Rattle.history.specs.Turns.{longest-wait};
+ghost use Rattle.model.specs.Limits.{longest-wait as longest};
+use session::Session;
 
 pub fn longest_wait() -> u64
-    ensures { λ r. ⌜ r ≡ longest-wait ⌝ }
+    ensures { λ r. ⌜ r ≡ longest ⌝ }
 {
-    840
+    (Session::TIGHTENINGS_HELD - 1) * Session::GIVEN_UP_AT
 }

@@ -2,7 +2,6 @@
 -- the public functions speak through these. Assumes nothing: these are definitions.
 use Prim.Native.Nat.{ℕ}
 use mathlib.Core.Bool.{Bool, true, false}
-use mathlib.Core.List.{[], _∷_}
 use mathlib.Core.Option.{Option, none, some}
 use lib.ListN.{getD}
 use Rattle.model.specs.Messages as model
@@ -39,14 +38,10 @@ answered (some e) = gets-reply e
 
 -- ==== the tests
 
--- the two kinds of notice stand in the model's order; there is no third to be subscribed to
+-- the kinds of notice stand in the model's order; there is none past the last to be subscribed to
 abbrev pub standing-of : Standing → model.Standing
 standing-of x =
-    record {
-      started = x .started;
-      granted = x .granted;
-      subscribed = λ kind. getD (x .identifiers ∷ x .tightenings ∷ []) kind false;
-    }
+    record { started = x .started; granted = x .granted; subscribed = λ kind. getD (x .subscribed) kind false }
 
 -- the model's error; none where every test is met
 abbrev pub error-in : Verdict → Option Error

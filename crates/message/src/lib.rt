@@ -7,13 +7,11 @@ ghost use Rattle.model.specs.Bytes.{within as is-within};
 ghost use Rattle.model.specs.Messages.{entry-of, own, error-of};
 ghost use Rattle.message.specs.Meaning.{effect-in, effect-listed, answered, standing-of, error-in, error-number};
 ghost use Rattle.message.specs.Inner.{read, is-listed, Lists, own-error};
+use model::IDENTIFIERS;
+use model::KIND_COUNT;
+use model::TIGHTENINGS;
 
 // ---- what a message does
-
-// The kinds of notice.
-pub const IDENTIFIERS: usize = 0;
-
-pub const TIGHTENINGS: usize = 1;
 
 // What a message does when it has no error; the number is that of its own error.
 pub enum Effect {
@@ -130,12 +128,11 @@ fn row_of(mid: u64) -> Row
 
 // ---- the tests
 
-// What the tests look at besides the message: the last two say which kinds of notice the session is subscribed to.
+// What the tests look at besides the message; by kind of notice, whether the session is subscribed to it.
 pub struct Standing {
     pub started: bool,
     pub granted: bool,
-    pub identifiers: bool,
-    pub tightenings: bool,
+    pub subscribed: [bool; KIND_COUNT],
 }
 
 // What the tests find; an own error has its number.
@@ -177,14 +174,14 @@ fn within(least: u64, greatest: u64, n: u64) -> bool
     least <= n && n <= greatest
 }
 
+// There is no kind past the last to be subscribed to.
 fn subscribed(x: Standing, kind: usize) -> bool
     ensures { λ r. ⌜ r ≡ (standing-of x) .subscribed kind ⌝ }
 {
-    match kind {
-        IDENTIFIERS => x.identifiers,
-        TIGHTENINGS => x.tightenings,
-        _ => false,
+    if kind >= KIND_COUNT {
+        return false;
     }
+    x.subscribed[kind]
 }
 
 // An own error, where its test applies.

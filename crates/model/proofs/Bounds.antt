@@ -8,7 +8,7 @@ use lib.ListN.{length, getD}
 use native.Mathlib.Omega.{arith}
 use Rattle.model.specs.Limits.{identifier-length, copy-every, given-up-at, output-least}
 use Rattle.model.specs.Bytes.{spaces, digits}
-use Rattle.model.specs.Records.{Settings, settings-of, tightening-of}
+use Rattle.model.specs.Records.{Settings, settings-length, settings-of, tightening-length, tightening-of}
 use Rattle.model.specs.Events.{Result, Notice}
 use Rattle.model.specs.Frames.{header, frame, fields-from, frame-0002, frame-0052, frame-0061}
 use Rattle.model.specs.Kinds.{Room, Kind, kinds, kind-at, identifiers, tightenings, copy-most, copies-most, longest-reply, event-most}
@@ -35,10 +35,10 @@ the-table = refl
 
 -- 01, "Frames we write": how long 0002 is, and the longest frame of each kind
 abbrev sample : Settings
-sample = settings-of (spaces 33)
+sample = settings-of (spaces settings-length)
 
 abbrev result : Result
-result = record { number = 1; identifier = spaces identifier-length; tightening = tightening-of (spaces 106) }
+result = record { number = 1; identifier = spaces identifier-length; tightening = tightening-of (spaces tightening-length) }
 
 abbrev frames : List (List ℕ)
 frames = frame-0002 sample ∷ frame-0052 2 false (spaces identifier-length) ∷ frame-0061 sample 1 false result ∷ []

@@ -15,7 +15,7 @@ use Rattle.model.specs.Bytes.{NUL, dash, colon, is-digit, is-text, is-sp
 use Rattle.model.specs.Tests.{first}
 use Rattle.model.specs.Records.{is-record, payload, Item, number, text, time, item-length, payload-length, parts-from, parts}
 use Rattle.model.specs.Records.{good-in-time, is-time-from, good-item, good-parts, good-payload, good-record}
-use Rattle.model.specs.Records.{Settings, settings-items, settings-of, read-settings}
+use Rattle.model.specs.Records.{settings-kind, tightening-kind, scanned-kind, Settings, settings-items, settings-of, read-settings}
 use Rattle.model.specs.Records.{tightening-items, tightening-of, identifier-in, scanned-items, Tool, scanned, tightening, read-tool}
 use Rattle.model.specs.Runs.{Run, longer, Piece, cut, Message, is-flag, is-message, message-of, read-run}
 use Rattle.model.specs.Messages.{Effect, starts, stops, identifies, subscribes, unsubscribes, acknowledges, mirrors, Entry, table}
@@ -86,10 +86,10 @@ CleanStart (some st) = CleanSettings st
 -- a start takes good settings only
 pub clean-start : (slice : List ℕ) → CleanStart (read-settings slice)
 unfolding read-settings settings-of
-clean-start slice = go (good-record 3 settings-items slice) refl
+clean-start slice = go (good-record settings-kind settings-items slice) refl
   where
-    go : (b : Bool) → good-record 3 settings-items slice ≡ b → CleanStart (cond b (some (settings-of (payload slice))) none)
-    go true e = text-at settings-items (payload slice) 3 (omega arith) (good-of 3 settings-items slice e) (omega arith)
+    go : (b : Bool) → good-record settings-kind settings-items slice ≡ b → CleanStart (cond b (some (settings-of (payload slice))) none)
+    go true e = text-at settings-items (payload slice) 3 (omega arith) (good-of settings-kind settings-items slice e) (omega arith)
     go false e = tt
 
 abbrev pub CleanTool : Option Tool → Type 0
@@ -100,21 +100,22 @@ CleanTool (some (tightening x t)) = Text x × Text (t .time-stamp) × Text (t .c
 -- and a tool record is good
 pub clean-tool : (slice : List ℕ) → CleanTool (read-tool slice)
 unfolding read-tool tightening-of good-payload
-clean-tool slice = go (good-record 1 tightening-items slice) (good-record 2 scanned-items slice) refl refl
+clean-tool slice = go (good-record tightening-kind tightening-items slice) (good-record scanned-kind scanned-items slice) refl refl
   where
-    go : (a b : Bool) → good-record 1 tightening-items slice ≡ a → good-record 2 scanned-items slice ≡ b
+    go : (a b : Bool) → good-record tightening-kind tightening-items slice ≡ a → good-record scanned-kind scanned-items slice ≡ b
         → CleanTool
         (cond a (some (tightening (identifier-in (payload slice)) (tightening-of (payload slice))))
         (cond b (some (scanned (payload slice))) none))
     go true b e f =
-        let g = good-of 1 tightening-items slice e in
+        let g = good-of tightening-kind tightening-items slice e in
         let at = text-at tightening-items (payload slice) in
         (at 0 (omega arith) g (omega arith), at 16 (omega arith) g, at 17 (omega arith) g)
     go false true e f =
-        let g = good-of 2 scanned-items slice f in
+        let g = good-of scanned-kind scanned-items slice f in
         let good = good-parts scanned-items (parts scanned-items (payload slice)) in
-        let n = eqb-true (length (payload slice)) 25 (both (eqb (length (payload slice)) 25) good g .0) in
-        subst Text (take-all 25 (payload slice) (omega arith)) (text-at scanned-items (payload slice) 0 (omega arith) g (omega arith))
+        let n = eqb-true (length (payload slice)) identifier-length (both (eqb (length (payload slice)) identifier-length) good g .0) in
+        subst Text (take-all identifier-length (payload slice) (omega arith))
+        (text-at scanned-items (payload slice) 0 (omega arith) g (omega arith))
     go false false e f = tt
 
 -- ==== runs: a piece of bytes ends before its NUL, and so nothing that is kept has one

@@ -6,7 +6,7 @@ use mathlib.Core.List.{List, [], _∷_, _++_}
 use mathlib.Core.Option.{Option, none, some, Option·map as option-map}
 use lib.Dec.{leb, ltb, eqb}
 use lib.ListN.{length}
-use Rattle.model.specs.Limits.{session-count, table-least, output-least, number-greatest, answer-least}
+use Rattle.model.specs.Limits.{session-count, table-least, output-least, number-greatest, answer-least, answer-too-short}
 use Rattle.model.specs.Bytes.{in-bytes}
 use Rattle.model.specs.Tests.{Test, _gives_, first}
 use Rattle.model.specs.Records.{Settings, read-settings, Tool, scanned, tightening, read-tool}
@@ -182,7 +182,7 @@ run w [] = []
 run w (c ∷ cs) = let r = step (c .0) w (c .1) in (r .1, r .2) ∷ run (r .0) cs
 
 -- ==== to C: the four numbers go to a further lent run, of which `room` bytes are there. Where it is too short the call is not
--- made, and C is told 10; else it is told the first of the four
+-- made, and C is told that; else it is told the first of the four
 
 abbrev pub answer-bytes : Answer → List ℕ
 answer-bytes a = in-bytes 8 (a .number) ++ in-bytes 8 (a .consumed) ++ in-bytes 8 (a .written) ++ in-bytes 8 (a .taken)
@@ -198,5 +198,5 @@ abbrev pub returned : ℕ → Lent → World → Call → Returned
 returned room l w c =
     let r = step l w c in
     cond (ltb room answer-least)
-    (record { number = 10; world = w; to-answer = []; to-output = [] })
+    (record { number = answer-too-short; world = w; to-answer = []; to-output = [] })
     (record { number = (r .1) .number; world = r .0; to-answer = answer-bytes (r .1); to-output = output (r .2) })

@@ -9,21 +9,22 @@ use lib.ListN.{length, getD, take, drop, drop-of-length-le}
 use borrow.Author.Tests.{leb-true, eqb-true, eq-eqb, ne-eqb}
 use Rattle.model.specs.Bytes.{little, places}
 use Rattle.model.specs.Records.{Item, number, text, time, item-length, is-record, good-item, payload-length, parts, parts-from, good-parts}
-use Rattle.model.specs.Records.{good-payload, good-record}
+use Rattle.model.specs.Records.{record-head, good-payload, good-record}
 use Rattle.text.proofs.Lists.{drop-next}
 use Rattle.record.specs.Items.{item-of, items, readable}
 
 -- ==== a record's head
 
 module _ (kind : ℕ) (slice : List ℕ) where
-  pub too-short : length slice < 4 → false ≡ is-record kind slice
-  too-short h = rw (ne-eqb (4 + little (places 1 2 slice)) (length slice) (λ e. omega arith))
+  pub too-short : length slice < record-head → false ≡ is-record kind slice
+  too-short h = rw (ne-eqb (record-head + little (places 1 2 slice)) (length slice) (λ e. omega arith))
 
-  pub other-size : (4 + little (places 1 2 slice) ≡ length slice → ⊥) → false ≡ is-record kind slice
-  other-size h = rw (ne-eqb (4 + little (places 1 2 slice)) (length slice) h)
+  pub other-size : (record-head + little (places 1 2 slice) ≡ length slice → ⊥) → false ≡ is-record kind slice
+  other-size h = rw (ne-eqb (record-head + little (places 1 2 slice)) (length slice) h)
 
-  pub by-kind : {n : ℕ} → 4 + little (places 1 2 slice) ≡ length slice → n ≡ little (places 3 4 slice) → eqb n kind ≡ is-record kind slice
-  by-kind e p = rw (eq-eqb (4 + little (places 1 2 slice)) (length slice) e, p)
+  pub by-kind : {n : ℕ} → record-head + little (places 1 2 slice) ≡ length slice → n ≡ little (places 3 4 slice)
+      → eqb n kind ≡ is-record kind slice
+  by-kind e p = rw (eq-eqb (record-head + little (places 1 2 slice)) (length slice) e, p)
 
 -- ==== rows
 
@@ -83,11 +84,11 @@ module _ (kind : ℕ) (es : List Item) (slice : List ℕ) where
   no-record e = rw e
 
   module _ (e : is-record kind slice ≡ true) where
-    pub other-length : (length (drop 4 slice) ≡ payload-length es → ⊥) → false ≡ good-record kind es slice
+    pub other-length : (length (drop record-head slice) ≡ payload-length es → ⊥) → false ≡ good-record kind es slice
     unfolding good-record good-payload
-    other-length h = rw (e, ne-eqb (length (drop 4 slice)) (payload-length es) h)
+    other-length h = rw (e, ne-eqb (length (drop record-head slice)) (payload-length es) h)
 
-    pub by-items : {b : Bool} → length (drop 4 slice) ≡ payload-length es → b ≡ good-parts es (parts es (drop 4 slice))
+    pub by-items : {b : Bool} → length (drop record-head slice) ≡ payload-length es → b ≡ good-parts es (parts es (drop record-head slice))
         → b ≡ good-record kind es slice
     unfolding good-record good-payload
-    by-items h p = rw (e, eq-eqb (length (drop 4 slice)) (payload-length es) h) p
+    by-items h p = rw (e, eq-eqb (length (drop record-head slice)) (payload-length es) h) p

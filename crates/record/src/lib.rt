@@ -4,6 +4,7 @@ ghost use mathlib.Core.Bool.{true};
 ghost use lib.ListN.{length, drop, getD};
 ghost use Rattle.model.specs.Bytes.{all};
 ghost use Rattle.model.specs.Records.{
+  record-head,
   is-record as is-record-of,
   good-in-time,
   is-time as is-time-of,
@@ -18,6 +19,16 @@ ghost use Rattle.model.specs.Records.{
 ghost use Rattle.model.specs.Events.{identifier-of};
 ghost use Rattle.record.specs.Items.{item-of, items, readable};
 ghost use Rattle.record.specs.Tools.{settings-in, tool-in};
+use model::IDENTIFIER_LENGTH;
+use model::NUMBER_GREATEST;
+use model::NUMBER_LENGTH;
+use model::RECORD_HEAD;
+use model::SCANNED_KIND;
+use model::SETTINGS_KIND;
+use model::SETTINGS_LENGTH;
+use model::TIGHTENING_KIND;
+use model::TIGHTENING_LENGTH;
+use model::TIME_LENGTH;
 
 // ---- times
 
@@ -59,13 +70,13 @@ const SETTINGS: [[usize; 3]; 5] = [
     [NUMBER, 2, 9_999],
     [NUMBER, 1, 99],
     [NUMBER, 1, 1],
-    [TEXT, 25, 0],
-    [NUMBER, 4, 4_294_967_295],
+    [TEXT, IDENTIFIER_LENGTH, 0],
+    [NUMBER, NUMBER_LENGTH, NUMBER_GREATEST as usize],
 ];
 
 const TIGHTENING: [[usize; 3]; 19] = [
     // identifier, job, parameter set, batch size, batch counter
-    [TEXT, 25, 0],
+    [TEXT, IDENTIFIER_LENGTH, 0],
     [NUMBER, 1, 99],
     [NUMBER, 2, 999],
     [NUMBER, 2, 9_999],
@@ -85,12 +96,12 @@ const TIGHTENING: [[usize; 3]; 19] = [
     [NUMBER, 4, 99_999],
     [NUMBER, 4, 99_999],
     // time, parameter set change time, batch status
-    [TIME, 19, 0],
-    [TIME, 19, 0],
+    [TIME, TIME_LENGTH, 0],
+    [TIME, TIME_LENGTH, 0],
     [NUMBER, 1, 2],
 ];
 
-const SCANNED: [[usize; 3]; 1] = [[TEXT, 25, 0]];
+const SCANNED: [[usize; 3]; 1] = [[TEXT, IDENTIFIER_LENGTH, 0]];
 
 // Whether the bytes of an item are good.
 fn good_item(row: &[usize; 3], s: &[u8]) -> bool
@@ -133,10 +144,10 @@ fn good_items(rows: &[[usize; 3]], s: &[u8]) -> bool
 fn is_record(slice: &[u8], kind: u64) -> bool
     ensures { λ r. ⌜ r ≡ is-record-of kind (now (slice .entry)) ⌝ }
 {
-    if slice.len() < 4 {
+    if slice.len() < RECORD_HEAD {
         return false;
     }
-    if 4 + text::little(slice, 0, 2) != slice.len() as u64 {
+    if RECORD_HEAD as u64 + text::little(slice, 0, 2) != slice.len() as u64 {
         return false;
     }
     text::little(slice, 2, 2) == kind
@@ -159,16 +170,16 @@ fn good_record(slice: &[u8], kind: u64, size: usize, rows: &[[usize; 3]]) -> boo
 
 // The payload of a record, as part of the caller's bytes.
 pub fn payload(slice: &[u8]) -> &[u8]
-    ensures { λ r. ⌜ now r ≡ drop 4 (now (slice .entry)) ⌝ }
+    ensures { λ r. ⌜ now r ≡ drop record-head (now (slice .entry)) ⌝ }
 {
-    text::rest(slice, 4)
+    text::rest(slice, RECORD_HEAD)
 }
 
 // Whether a slice is a good settings record.
 pub fn is_settings(slice: &[u8]) -> bool
     ensures { λ r. ⌜ settings-in r (now (slice .entry)) ≡ read-settings (now (slice .entry)) ⌝ }
 {
-    good_record(slice, 3, 33, &SETTINGS)
+    good_record(slice, SETTINGS_KIND, SETTINGS_LENGTH, &SETTINGS)
 }
 
 // What a slice is to the call that takes tool records.
@@ -181,10 +192,10 @@ pub enum Kind {
 pub fn tool_kind(slice: &[u8]) -> Kind
     ensures { λ r. ⌜ tool-in r (now (slice .entry)) ≡ read-tool (now (slice .entry)) ⌝ }
 {
-    if good_record(slice, 1, 106, &TIGHTENING) {
+    if good_record(slice, TIGHTENING_KIND, TIGHTENING_LENGTH, &TIGHTENING) {
         return Kind::Tightening;
     }
-    if good_record(slice, 2, 25, &SCANNED) {
+    if good_record(slice, SCANNED_KIND, IDENTIFIER_LENGTH, &SCANNED) {
         return Kind::Scanned;
     }
     Kind::Bad

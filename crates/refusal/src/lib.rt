@@ -7,12 +7,11 @@ ghost use Rattle.model.specs.Calls.{
   one-tick,
 };
 ghost use Rattle.refusal.specs.Numbers.{number, tool-number};
+use model::NUMBER_GREATEST;
 use model::OUTPUT_LEAST;
 use model::SESSION_COUNT;
 use model::TABLE_LEAST;
 use record::Kind;
-
-const NUMBER_GREATEST: u64 = 4_294_967_295;
 
 // A start asks nothing of the table but its length, and for no output.
 pub fn start(table: &[u8], settings: &[u8]) -> u64

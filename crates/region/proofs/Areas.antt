@@ -1,202 +1,233 @@
--- The areas of a region: what is known of each, and what stands in the region after one of them was replaced. Assumes nothing.
-use mathlib.Core.Path.{_≡_, refl, sym, ap, ap₂, subst, _∙_}
+-- The areas of a region: what is known of each, and what the region means after one of them was replaced. Assumes nothing.
+use mathlib.Core.Path.{_≡_, refl, sym, ap, ap₂, _∙_}
 use Prim.Native.Nat.{ℕ, _+_, _-_, _≤_, _<_}
+use native.Mathlib.Nat.{add-sub-cancel-left}
 use native.Mathlib.Omega.{arith}
-use mathlib.Core.Bool.{Bool, true, false, _&&_, and-eq-true-iff}
-use mathlib.Core.List.{List, [], _++_}
-use lib.Dec.{leb, ltb, lit≤}
-use lib.ListN.{length, getD, take, drop, length-append}
-use borrow.Author.Tests.{leb-true, ltb-true, eq-eqb, ne-eqb}
+use mathlib.Core.Bool.{Bool, true, _&&_, and-eq-true-iff}
+use mathlib.Core.List.{List}
+use lib.Dec.{leb, lit≤}
+use lib.ListN.{length, getD, set, take, drop}
+use borrow.Author.Tests.{leb-true}
 use borrow.Rule.Slice.PartMut.{putMid, midOf, mid-len, same-len-mid}
-use Rattle.model.specs.Limits.{idle-limit, given-up-at}
-use Rattle.model.specs.Records.{Settings}
+use Rattle.model.specs.Bytes.{all}
 use Rattle.model.specs.Runs.{Run}
-use Rattle.model.specs.Kinds.{identifiers, tightenings}
-use Rattle.model.specs.Notices.{Deed}
-use Rattle.model.specs.Kinds.{room-of}
-use Rattle.text.specs.Put.{Put}
-use Rattle.session.specs.Meaning.{most-held}
-use Rattle.session.specs.declared.Subscription.{Subscription}
-use Rattle.notices.specs.Places.{places-size, Deals, dealt-bytes}
+use Rattle.model.specs.Kinds.{kinds}
+use Rattle.model.specs.Notices.{Subscription, unsubscribed}
+use Rattle.text.specs.Areas.{Apart}
 use Rattle.text.proofs.Cells.{area-same, area-before, area-after}
+use Rattle.text.proofs.Areas.{below, each-below, apart, areas-at, areas-put, areas-same, length-areas, all-set, passes}
 use Rattle.session.specs.declared.Session.{Session}
-use Rattle.run.specs.Area.{run-of, run-formed}
+use Rattle.run.specs.Area.{run-size, run-of, run-formed, bytes-of}
 use Rattle.run.specs.Area as run
-use Rattle.head.specs.Head.{head-of, forms-fit, control-formed, head-formed, Storable}
+use Rattle.head.specs.Head.{head-size, head-of, head-formed}
 use Rattle.head.specs.Head as head
-use Rattle.head.proofs.Areas.{fitting}
-use Rattle.region.specs.Region.{region-size, head-area, run-area, identifiers-area, tightenings-area, session-of, region-formed, Good}
-use Rattle.region.specs.Region.{Stands, places-of, Moved}
+use Rattle.lane.specs.Kinds.{lane-size}
+use Rattle.lane.specs.Lane.{lane-of, lane-formed, Lane}
+use Rattle.region.specs.Region.{region-size, head-area, run-area, lane-at, lanes, lane-in, subscriptions-in, subscription-in}
+use Rattle.region.specs.Region.{meaning, session-of, region-formed, Good, run-bytes, Becomes, Changes}
+
+-- ==== the map, computed: the lanes stand one behind the other, behind the run
+
+lanes-apart : Apart lane-at lane-size (length kinds) region-size
+lanes-apart = apart lane-at lane-size (length kinds) region-size refl
+
+pub lane-ends : (kind : ℕ) → kind < length kinds → lane-at kind + lane-size kind ≤ region-size
+lane-ends = lanes-apart .ends
+
+pub behind-run : (kind : ℕ) → kind < length kinds → 8 + run-size ≤ lane-at kind
+behind-run kind h =
+    leb-true (8 + run-size) (lane-at kind) (each-below (length kinds) (λ (k : ℕ). leb (8 + run-size) (lane-at k)) refl kind h)
 
 -- ==== what is known of each
 
 pub record Parts (r : List ℕ) : Type 0 where
   pub head : head.Area (head-area r)
   pub run : run.Area (run-area r)
+  pub lanes : all (λ (formed : Bool). formed) (lanes lane-formed r) ≡ true
 
 pub parts : (r : List ℕ) → Good r → Parts r
 unfolding region-formed
 parts r g =
     let s = g .size in
-    let e = and-eq-true-iff (head-formed (head-area r)) (run-formed (run-area r)) .0 (g .formed) in
+    let tested = all (λ (formed : Bool). formed) (lanes lane-formed r) in
+    let e = and-eq-true-iff (head-formed (head-area r)) (run-formed (run-area r) && tested) .0 (g .formed) in
+    let f = and-eq-true-iff (run-formed (run-area r)) tested .0 (e .1) in
     record {
-      head = record { size = mid-len 0 32 r (omega arith); formed = e .0 };
-      run = record { size = mid-len 32 80 r (omega arith); formed = e .1 };
+      head = record { size = mid-len 0 head-size r (omega arith); formed = e .0 };
+      run = record { size = mid-len 8 (8 + run-size) r (omega arith); formed = f .0 };
+      lanes = f .1;
     }
 
--- what is known of a control that is well formed
-pub storable : (h : List ℕ) → head-formed h ≡ true → Storable (head-of h)
-unfolding head-of head-formed
-storable h e =
-    let p8 = and-eq-true-iff _ (forms-fit (getD h 0 0) (getD h 2 0) (getD h 5 0)) .0 e in
-    let p7 = and-eq-true-iff _ (leb (getD h 7 0) (most-held (room-of tightenings))) .0 (p8 .0) in
-    let p6 = and-eq-true-iff _ (ltb (getD h 6 0) given-up-at) .0 (p7 .0) in
-    let p5 = and-eq-true-iff _ (leb (getD h 5 0) 2) .0 (p6 .0) in
-    let p4 = and-eq-true-iff _ (leb (getD h 4 0) (most-held (room-of identifiers))) .0 (p5 .0) in
-    let p3 = and-eq-true-iff _ (ltb (getD h 3 0) given-up-at) .0 (p4 .0) in
-    let p2 = and-eq-true-iff _ (leb (getD h 2 0) 2) .0 (p3 .0) in
-    let p1 = and-eq-true-iff (leb (getD h 0 0) 2) (ltb (getD h 1 0) idle-limit) .0 (p2 .0) in
-    record {
-      idle = ltb-true _ idle-limit (p1 .1);
-      subscribed = fitting (getD h 2 0) (getD h 5 0) _ _ refl refl (getD h 0 0) (p8 .1);
-      i-clock = ltb-true _ given-up-at (p3 .1);
-      i-held = leb-true _ (most-held (room-of identifiers)) (p4 .1);
-      t-clock = ltb-true _ given-up-at (p6 .1);
-      t-held = leb-true _ (most-held (room-of tightenings)) (p7 .1);
-    }
-
-formed-of : (r : List ℕ) → head-formed (head-area r) ≡ true → run-formed (run-area r) ≡ true → region-formed r ≡ true
+pub good-of : (r : List ℕ) → length r ≡ region-size → head-formed (head-area r) ≡ true → run-formed (run-area r) ≡ true
+    → all (λ (formed : Bool). formed) (lanes lane-formed r) ≡ true → Good r
 unfolding region-formed
-formed-of r a b = and-eq-true-iff (head-formed (head-area r)) (run-formed (run-area r)) .1 (a, b)
+good-of r s a b c =
+    let tested = all (λ (formed : Bool). formed) (lanes lane-formed r) in
+    record {
+      size = s;
+      formed = and-eq-true-iff (head-formed (head-area r)) (run-formed (run-area r) && tested) .1
+          (a, and-eq-true-iff (run-formed (run-area r)) tested .1 (b, c));
+    }
+
+pub length-subscriptions : (r : List ℕ) → length (subscriptions-in r) ≡ length kinds
+unfolding subscriptions-in
+length-subscriptions r = length-areas lane-of lane-at lane-size 0 (length kinds) r
+
+module _ (r : List ℕ) (kind : ℕ) (few : kind < length kinds) where
+  pub subscription-at : getD (subscriptions-in r) kind unsubscribed ≡ subscription-in kind r
+  unfolding subscriptions-in
+  subscription-at = areas-at lane-of lane-at lane-size (length kinds) kind r unsubscribed few
+
+  pub there : kind < length (subscriptions-in r)
+  there = rw (length-subscriptions r) few
+
+  pub lane-length : length r ≡ region-size → length (lane-in kind r) ≡ lane-size kind
+  lane-length s =
+      let e = lane-ends kind few in
+      ap (λ (w : ℕ). length (midOf (lane-at kind) w r)) (sym (add-sub-cancel-left (lane-at kind) (lane-size kind)))
+      ∙ mid-len (lane-at kind) (lane-at kind + lane-size kind) r (omega arith) ∙ add-sub-cancel-left (lane-at kind) (lane-size kind)
+
+  pub lane-good : Good r → Lane kind (lane-in kind r)
+  lane-good g = record {
+    size = lane-length (g .size);
+    formed = passes lane-formed lane-at lane-size (length kinds) r (parts r g .lanes) kind few;
+  }
+
+-- what the region means, by its parts
+pub means : {r : List ℕ} {x : Session} {n : Run} {subs : List Subscription} {r′ : List ℕ} → Becomes r x n subs r′
+    → session-of r′ ≡ meaning x n subs
+unfolding session-of
+means {x = x} {n = n} {subs = subs} {r′ = r′} b =
+    ap₂ (λ (z : Session) (m : Run). meaning z m (subscriptions-in r′)) (b .head) (b .runs) ∙ ap (meaning x n) (b .subscriptions)
 
 -- ==== one of them was replaced
 
-module _ (r ys : List ℕ) (g : Good r) where
-  size-kept : (a e : ℕ) → e ≤ length r → length ys ≡ e - a → length (putMid a (e - a) r ys) ≡ region-size
-  size-kept a e f len = same-len-mid a (e - a) r ys (len ∙ sym (mid-len a e r f)) ∙ g .size
+module _ (r ys : List ℕ) (s : length r ≡ region-size) (a k : ℕ) (len : length ys ≡ k) (fits : a + k ≤ region-size) where
+  abbrev new : List ℕ
+  new = putMid a k r ys
 
-  module _ (x : Session) (len : length ys ≡ 32) (is-x : head-of ys ≡ x) (formed : head-formed ys ≡ true) where
-    pub head-replaced : Stands (putMid 0 32 r ys) x (run-of (run-area r)) (identifiers-area r) (tightenings-area r)
-    head-replaced =
-        let s = g .size in
-        let f : 0 + 32 ≤ length r = omega arith in
-        let same = area-same 0 32 r ys len f in
-        let after = area-after 0 32 r ys len f in
-        record {
-          good = record {
-            size = size-kept 0 32 f len;
-            formed =
-                formed-of (putMid 0 32 r ys) (ap head-formed same ∙ formed)
-                (ap run-formed (after 32 48 (lit≤ tt)) ∙ parts r g .run .formed);
-          };
-          head = ap head-of same ∙ is-x;
-          run = ap run-of (after 32 48 (lit≤ tt));
-          identifiers = after 80 50 (lit≤ tt);
-          tightenings = after 136 880 (lit≤ tt);
-        }
+  in-it : a + k ≤ length r
+  in-it = omega arith
 
-  module _ (n : Run) (len : length ys ≡ 48) (is-n : run-of ys ≡ n) (formed : run-formed ys ≡ true) where
-    pub run-replaced : Stands (putMid 32 48 r ys) (head-of (head-area r)) n (identifiers-area r) (tightenings-area r)
-    run-replaced =
-        let s = g .size in
-        let f : 32 + 48 ≤ length r = omega arith in
-        let same = area-same 32 48 r ys len f in
-        let before = area-before 32 48 r ys len f in
-        let after = area-after 32 48 r ys len f in
-        record {
-          good = record {
-            size = size-kept 32 80 f len;
-            formed =
-                formed-of (putMid 32 48 r ys) (ap head-formed (before 0 32 (lit≤ tt)) ∙ parts r g .head .formed)
-                (ap run-formed same ∙ formed);
-          };
-          head = ap head-of (before 0 32 (lit≤ tt));
-          run = ap run-of same ∙ is-n;
-          identifiers = after 80 50 (lit≤ tt);
-          tightenings = after 136 880 (lit≤ tt);
-        }
+  pub replaced-size : length new ≡ length r
+  replaced-size =
+      let w : length (midOf a k r) ≡ k =
+      ap (λ (n : ℕ). length (midOf a n r)) (sym (add-sub-cancel-left a k)) ∙ mid-len a (a + k) r in-it ∙ add-sub-cancel-left a k in
+      same-len-mid a k r ys (len ∙ sym w)
 
-  -- the control and the run are as they were
-  still-good : (a e : ℕ) → 80 ≤ a → a ≤ e → e ≤ length r → length ys ≡ e - a → Good (putMid a (e - a) r ys)
-  still-good a e low order f len =
-      let fits : a + (e - a) ≤ length r = omega arith in
-      let before = area-before a (e - a) r ys len fits in
-      record {
-        size = size-kept a e f len;
-        formed = formed-of (putMid a (e - a) r ys)
-            (ap head-formed (before 0 32 (omega arith)) ∙ parts r g .head .formed)
-            (ap run-formed (before 32 48 (omega arith)) ∙ parts r g .run .formed);
-      }
-
-  pub identifiers-replaced : length ys ≡ 50
-      → Stands (putMid 80 50 r ys) (head-of (head-area r)) (run-of (run-area r)) ys (tightenings-area r)
-  identifiers-replaced len =
-      let s = g .size in
-      let f : 80 + 50 ≤ length r = omega arith in
-      let before = area-before 80 50 r ys len f in
-      record {
-        good = still-good 80 130 (lit≤ tt) (lit≤ tt) f len;
-        head = ap head-of (before 0 32 (lit≤ tt));
-        run = ap run-of (before 32 48 (lit≤ tt));
-        identifiers = area-same 80 50 r ys len f;
-        tightenings = area-after 80 50 r ys len f 136 880 (lit≤ tt);
-      }
-
-  pub tightenings-replaced : length ys ≡ 880
-      → Stands (putMid 136 880 r ys) (head-of (head-area r)) (run-of (run-area r)) (identifiers-area r) ys
-  tightenings-replaced len =
-      let s = g .size in
-      let f : 136 + 880 ≤ length r = omega arith in
-      let before = area-before 136 880 r ys len f in
-      record {
-        good = still-good 136 1016 (lit≤ tt) (lit≤ tt) f len;
-        head = ap head-of (before 0 32 (lit≤ tt));
-        run = ap run-of (before 32 48 (lit≤ tt));
-        identifiers = before 80 50 (lit≤ tt);
-        tightenings = area-same 136 880 r ys len f;
-      }
-
--- ==== the places of a kind were replaced
+  -- what stands before the lanes leaves them as they are
+  pub lanes-behind : {A : Type 0} (f : ℕ → List ℕ → A) → a + k ≤ 8 + run-size → lanes f new ≡ lanes f r
+  lanes-behind f h =
+      areas-same f lane-at lane-size r new 0 (length kinds)
+      (λ j p q. let b = behind-run j q in area-after a k r ys len in-it (lane-at j) (lane-size j) (omega arith))
 
 module _ (r ys : List ℕ) (g : Good r) where
-  pub moved-identifiers : length ys ≡ 50 → Moved 0 r (putMid 80 50 r ys)
-  moved-identifiers len =
-      let s = identifiers-replaced r ys g len in
-      record { good = s .good; head = s .head; run = s .run; other = s .tightenings }
+  pub head-replaced : (x : Session) → head.Area ys → head-of ys ≡ x
+      → Changes r x (run-of (run-area r)) (subscriptions-in r) (putMid 0 head-size r ys)
+  unfolding subscriptions-in
+  head-replaced x h e =
+      let s = g .size in
+      let f : 0 + head-size ≤ length r = omega arith in
+      let same = area-same 0 head-size r ys (h .size) f in
+      let run = area-after 0 head-size r ys (h .size) f 8 run-size (lit≤ tt) in
+      let size = replaced-size r ys s 0 head-size (h .size) (lit≤ tt) in
+      let formed = lanes-behind r ys s 0 head-size (h .size) (lit≤ tt) lane-formed (lit≤ tt) in
+      let subs = lanes-behind r ys s 0 head-size (h .size) (lit≤ tt) lane-of (lit≤ tt) in
+      record {
+        becomes = record {
+          good =
+              good-of (putMid 0 head-size r ys) (size ∙ s) (ap head-formed same ∙ h .formed) (ap run-formed run ∙ parts r g .run .formed)
+              (ap (all (λ (formed : Bool). formed)) formed ∙ parts r g .lanes);
+          size = size;
+          head = ap head-of same ∙ e;
+          runs = ap run-of run;
+          subscriptions = subs;
+        };
+        bytes = ap bytes-of run;
+      }
 
-  pub moved-tightenings : length ys ≡ 880 → Moved 1 r (putMid 136 880 r ys)
-  moved-tightenings len =
-      let s = tightenings-replaced r ys g len in
-      record { good = s .good; head = s .head; run = s .run; other = s .identifiers }
+  pub run-replaced : (n : Run) → run.Area ys → run-of ys ≡ n
+      → Becomes r (head-of (head-area r)) n (subscriptions-in r) (putMid 8 run-size r ys)
+  unfolding subscriptions-in
+  run-replaced n h e =
+      let s = g .size in
+      let f : 8 + run-size ≤ length r = omega arith in
+      let same = area-same 8 run-size r ys (h .size) f in
+      let head = area-before 8 run-size r ys (h .size) f 0 head-size (lit≤ tt) in
+      let size = replaced-size r ys s 8 run-size (h .size) (lit≤ tt) in
+      let formed = lanes-behind r ys s 8 run-size (h .size) (lit≤ tt) lane-formed (lit≤ tt) in
+      let subs = lanes-behind r ys s 8 run-size (h .size) (lit≤ tt) lane-of (lit≤ tt) in
+      record {
+        good =
+            good-of (putMid 8 run-size r ys) (size ∙ s) (ap head-formed head ∙ parts r g .head .formed) (ap run-formed same ∙ h .formed)
+            (ap (all (λ (formed : Bool). formed)) formed ∙ parts r g .lanes);
+        size = size;
+        head = ap head-of head;
+        runs = ap run-of same ∙ e;
+        subscriptions = subs;
+      }
 
--- ==== an area is the places of a kind
+  -- it is over: its bytes stand as they stood
+  pub run-over : run.Over (run-area r) ys → run-bytes (putMid 8 run-size r ys) ≡ run-bytes r
+  run-over o =
+      let s = g .size in
+      ap bytes-of (area-same 8 run-size r ys (o .area .size) (omega arith)) ∙ o .bytes
 
-module _ (kind : ℕ) (r : List ℕ) where
-  pub places-of-identifiers : kind ≡ 0 → identifiers-area r ≡ places-of kind r
-  places-of-identifiers e = rw (eq-eqb kind 0 e)
+-- ==== a lane was replaced, as lending `&mut region[a..a + z]` has it
 
-  pub places-of-tightenings : (kind ≡ 0 → ⊥) → tightenings-area r ≡ places-of kind r
-  places-of-tightenings h = rw (ne-eqb kind 0 h)
+module _ (r : List ℕ) (kind : ℕ) (few : kind < length kinds) (a z : ℕ) (ea : a ≡ lane-at kind) (ez : z ≡ lane-size kind) where
+  pub lane-lies : length r ≡ region-size → a + z ≤ length r
+  lane-lies s = let e = lane-ends kind few in omega arith
 
-module _ (kind : ℕ) (r ys : List ℕ) (g : Good r) where
-  pub moved-0 : kind ≡ 0 → length ys ≡ 50 → Moved kind r (putMid 80 50 r ys)
-  moved-0 e len = subst (λ (k : ℕ). Moved k r (putMid 80 50 r ys)) (sym e) (moved-identifiers r ys g len)
+  pub lane-part : midOf a (a + z - a) r ≡ lane-in kind r
+  lane-part = rw (add-sub-cancel-left a z, ea, ez)
 
-  pub moved-1 : kind ≡ 1 → length ys ≡ 880 → Moved kind r (putMid 136 880 r ys)
-  moved-1 e len = subst (λ (k : ℕ). Moved k r (putMid 136 880 r ys)) (sym e) (moved-tightenings r ys g len)
+  module _ (ys : List ℕ) (s : length r ≡ region-size) (lane : Lane kind ys) where
+    abbrev replaced : List ℕ
+    replaced = putMid a (a + z - a) r ys
 
-module _ (kind : ℕ) (deed : Deed) (x x′ : Subscription) (p q r r′ : List ℕ) (e : p ≡ places-of kind r) (f : q ≡ places-of kind r′) where
-  pub dealt-there : Deals kind deed x p x′ q → Deals kind deed x (places-of kind r) x′ (places-of kind r′)
-  dealt-there d =
-      subst (λ (z : List ℕ). Deals kind deed x z x′ (places-of kind r′)) e (subst (λ (z : List ℕ). Deals kind deed x p x′ z) f d)
+    as-put : replaced ≡ putMid (lane-at kind) (lane-size kind) r ys
+    as-put = rw (add-sub-cancel-left a z, ea, ez)
 
-  pub put-there : {o o′ : List ℕ} {at to : ℕ} (s : ℕ) (st : Settings) → Put o at (dealt-bytes kind s st deed x p) to o′
-      → Put o at (dealt-bytes kind s st deed x (places-of kind r)) to o′
-  put-there {o} {o′} {at} {to} s st w = subst (λ (z : List ℕ). Put o at (dealt-bytes kind s st deed x z) to o′) e w
+    in-region : lane-at kind + lane-size kind ≤ length r
+    in-region = let e = lane-ends kind few in omega arith
 
--- the places of a kind are as long as they are to be
-pub size-0 : (kind : ℕ) (ys : List ℕ) → kind ≡ 0 → length ys ≡ places-size kind → length ys ≡ 50
-size-0 kind ys e l = l ∙ ap places-size e
+    pub lane-size-kept : length replaced ≡ length r
+    lane-size-kept =
+        ap length as-put ∙ replaced-size r ys s (lane-at kind) (lane-size kind) (lane .size) (lane-ends kind few)
 
-pub size-1 : (kind : ℕ) (ys : List ℕ) → kind ≡ 1 → length ys ≡ places-size kind → length ys ≡ 880
-size-1 kind ys e l = l ∙ ap places-size e
+    -- what stands before the lanes is as it was
+    before : (b m : ℕ) → b + m ≤ 8 + run-size → midOf b m replaced ≡ midOf b m r
+    before b m h =
+        let l = behind-run kind few in
+        ap (midOf b m) as-put ∙ area-before (lane-at kind) (lane-size kind) r ys (lane .size) in-region b m (omega arith)
+
+    pub head-kept : head-area replaced ≡ head-area r
+    head-kept = before 0 head-size (lit≤ tt)
+
+    pub run-kept : run-area replaced ≡ run-area r
+    run-kept = before 8 run-size (lit≤ tt)
+
+    pub lanes-put : {A : Type 0} (f : ℕ → List ℕ → A) → lanes f replaced ≡ set (lanes f r) kind (f kind ys)
+    lanes-put f =
+        ap (lanes f) (as-put ∙ ap (λ (w : ℕ). putMid (lane-at kind) w r ys) (sym (add-sub-cancel-left (lane-at kind) (lane-size kind))))
+        ∙ areas-put f lane-at lane-size lanes-apart r ys kind few (lane .size) (let q = s in omega arith)
+
+    pub lane-replaced : Good r
+        → Changes r (head-of (head-area r)) (run-of (run-area r)) (set (subscriptions-in r) kind (lane-of kind ys)) replaced
+    unfolding subscriptions-in
+    lane-replaced g =
+        record {
+          becomes = record {
+            good =
+                good-of replaced (lane-size-kept ∙ s) (ap head-formed head-kept ∙ parts r g .head .formed)
+                (ap run-formed run-kept ∙ parts r g .run .formed)
+                (ap (all (λ (formed : Bool). formed)) (lanes-put lane-formed ∙ ap (set (lanes lane-formed r) kind) (lane .formed))
+                ∙ all-set (lanes lane-formed r) kind (parts r g .lanes));
+            size = lane-size-kept;
+            head = ap head-of head-kept;
+            runs = ap run-of run-kept;
+            subscriptions = lanes-put lane-of;
+          };
+          bytes = ap bytes-of run-kept;
+        }

@@ -1,10 +1,6 @@
 pub mod Areas
-pub mod Outputs
-pub mod Both
-pub mod OneKind
+pub mod Says
+pub mod Walks
 pub mod Ticks
-pub mod Events
-pub mod Replies
-pub mod Carried
 pub mod Rulings
-pub mod Receives
+pub mod Ends

@@ -1,200 +1,205 @@
--- A tick to a session in its region is the model's. Assumes nothing.
+-- A tick and an event, to a session in its region. Assumes nothing.
 use mathlib.Core.Path.{_≡_, refl, sym, ap, ap₂, subst, _∙_}
-use Prim.Native.Nat.{ℕ, suc, _+_, _<_}
-use native.Mathlib.Numerals.{add-one}
+use mathlib.Core.Bool.{Bool, true, false, cond, true≢false}
+use mathlib.Core.List.{List, [], _∷_, map}
+use Prim.Native.Nat.{ℕ, _<_}
 use native.Mathlib.Omega.{arith}
-use mathlib.Core.Bool.{Bool, true, false, cond}
-use mathlib.Core.List.{List, [], _∷_, _++_, append-nil}
-use lib.Dec.{leb}
-use borrow.Author.Tests.{leb-true, leb-false, eq-eqb, ne-eqb}
-use Rattle.model.specs.Limits.{idle-limit}
+use lib.Dec.{eqb}
+use lib.ListN.{length, getD, set, replicate}
+use lib.Seq.{getD-set-same}
+use borrow.Author.Tests.{eqb-true}
 use Rattle.model.specs.Records.{Settings}
-use Rattle.model.specs.Runs.{Run, empty-run}
-use Rattle.model.specs.Events.{Notice}
-use Rattle.model.specs.Frames.{close-record}
-use Rattle.model.specs.Session.{closed, opened, started, is-closed, Emission, close}
+use Rattle.model.specs.Runs.{Run}
+use Rattle.model.specs.Kinds.{kinds, room-of}
+use Rattle.model.specs.Limits.{idle-limit}
+use Rattle.model.specs.Events.{Notice, kind-of}
+use Rattle.model.specs.Notices.{Subscription, unsubscribed, is-subscribed, beats, news, act}
+use Rattle.model.specs.Notices as notices
+use Rattle.model.specs.Session.{closed, started, Emission, copy, close, deal, dealt, only}
 use Rattle.model.specs.Session as model
-use Rattle.model.specs.Notices as notice
-use Rattle.model.specs.Local.{tick-at, step, tick}
-use Rattle.model.specs.Sharing.{shared-begun}
-use Rattle.text.specs.Put.{Put}
-use Rattle.text.proofs.Puts.{put-nothing, put-as}
-use Rattle.session.specs.Meaning.{session-as, session-in}
-use Rattle.session.specs.Control.{session, with-idle, idled, idled-from, idled-open, fresh, cleared}
+use Rattle.model.specs.Local.{step, tick, event, takes}
+use Rattle.model.specs.Row.{row, said}
+use Rattle.model.specs.Sharing.{Shared, shared-begun}
+use Rattle.text.proofs.Areas.{each-below}
+use Rattle.frame.specs.Places.{event-in, notice-in}
+use Rattle.session.specs.Meaning.{session-as}
+use Rattle.session.specs.Control.{cleared, idled}
+use Rattle.session.specs.Effects.{ticked-in, ticked-so}
 use Rattle.session.specs.declared.Phase.{Phase}
 use Rattle.session.specs.declared.Phase.the-variants.{Closed, Opened, Started}
 use Rattle.session.specs.declared.Session.{Session}
-use Rattle.session.specs.declared.Subscription.{Subscription}
 use Rattle.session.specs.declared.Idling.{Idling}
 use Rattle.session.specs.declared.Idling.the-variants.{Stays, TimesOut}
+use Rattle.session.proofs.Idles.{idle-right}
 use Rattle.run.specs.Area.{run-of}
-use Rattle.head.specs.Head.{head-of, Storable}
-use Rattle.notices.specs.Places.{notices-in}
-use Rattle.region.specs.Region.{head-area, run-area, identifiers-area, tightenings-area, meaning, session-of, Good, Stands, out-bytes}
-use Rattle.region.specs.Region.{Steps, tick-goes-on, by-idling}
+use Rattle.head.specs.Head.{head-of}
+use Rattle.lane.specs.Lane.{any}
+use Rattle.lane.specs.declared.Told.{Told}
+use Rattle.lane.proofs.Sayings.{told}
+use Rattle.region.specs.Region.{head-area, run-area, subscriptions-in, subscription-in, session-of, meaning, Good, Becomes, Changes}
+use Rattle.region.specs.Said.{copies, due-copies, acting, dues, AllReady, DealtTo, DealtToAll, TickStays, tick-said, Ticks}
+use Rattle.region.specs.Said.{event-said, Takes}
+use Rattle.region.specs.declared.Ticked.{Ticked}
+use Rattle.region.proofs.Areas.{length-subscriptions, subscription-at, there, means}
+use Rattle.region.proofs.Says.{sent-itself, row-acting, said-due, all-ready, row-one, said-one, none-due, none-ready}
 
--- ==== the idle count
-
-module _ (st : Settings) (run : Run) (is ts : List Notice) (idle : ℕ) (h : idle < idle-limit) where
-  -- it comes to idle + 1, and `otherwise` is what the tick does where that is no time-out
-  comes-to : (otherwise : model.Session × List Emission) (y : Session) (over : Bool) → leb idle-limit (idle + 1) ≡ over
-      → otherwise ≡ by-idling st run is ts (Stays y) → tick-at (suc idle) otherwise ≡ by-idling st run is ts (cond over TimesOut (Stays y))
-  comes-to otherwise y true p e =
-      let l = leb-true idle-limit (idle + 1) p in
-      rw (eq-eqb (suc idle) idle-limit (omega arith))
-  comes-to otherwise y false p e =
-      let l = leb-false idle-limit (idle + 1) p in
-      rw (ne-eqb (suc idle) idle-limit (λ q. omega arith)) e
-
-  idles : (i t : Subscription) (p : Phase)
-      → let x = session p idle i t in step (shared-begun st 0) tick (session-in x run is ts) ≡ by-idling st run is ts (idled x)
-  unfolding idled
-  idles i t Closed = refl
-  idles i t Opened = comes-to _ (session Opened (idle + 1) i t) (leb idle-limit (idle + 1)) refl (rw (add-one idle))
-  idles i t Started = comes-to _ (session Started (idle + 1) i t) (leb idle-limit (idle + 1)) refl (rw (add-one idle))
-
--- `session::idled` is what the model's tick does to the idle count
-pub idle-right : (st : Settings) (x : Session) (run : Run) (is ts : List Notice) → x .idle < idle-limit
-    → step (shared-begun st 0) tick (session-in x run is ts) ≡ by-idling st run is ts (idled x)
-idle-right st x run is ts h = idles st run is ts (x .idle) h (x .identifiers) (x .tightenings) (x .phase)
-
--- ==== what stands in a region is what it means
-pub means : (r : List ℕ) (x : Session) (run : Run) (is ts : List ℕ) → Stands r x run is ts → session-of r ≡ meaning x run is ts
+-- what a region means, by what was read of it
+pub means-so : (r : List ℕ) (x : Session) → x ≡ head-of (head-area r)
+    → session-of r ≡ meaning x (run-of (run-area r)) (subscriptions-in r)
 unfolding session-of
-means r x run is ts s = rw (s .head, s .run, s .identifiers, s .tightenings)
+means-so r x e = ap (λ (z : Session). meaning z (run-of (run-area r)) (subscriptions-in r)) (sym e)
 
--- a step that leaves a session and sends nothing
-pub silent : {s : ℕ} {r o : List ℕ} (x : Session) (run : Run) (is ts : List ℕ) (after : model.Session × List Emission) (at : ℕ)
-    → Stands r x run is ts → after ≡ (meaning x run is ts, []) → Steps s after r o at at o
-silent {s} {r} {o} x run is ts after at st e = record {
-  good = st .good;
-  session = means r x run is ts st ∙ sym (ap (λ (p : model.Session × List Emission). p .0) e);
-  bytes = put-as (ap (λ (p : model.Session × List Emission). out-bytes s (p .1)) (sym e)) (put-nothing o at);
-}
+pub unlike-closed : Closed ≡ Started → ⊥
+unlike-closed e = let z : _≡_ {A = ℕ} 0 1 = cc in omega arith
 
--- one that stays is as it was but for its idle count
-module _ (x : Session) where
-  injected : (y z : Session) → Stays y ≡ Stays z → y ≡ z
-  injected y z e = cc
+pub unlike-opened : Opened ≡ Started → ⊥
+unlike-opened e = let z : _≡_ {A = ℕ} 0 1 = cc in omega arith
 
-  never : (y : Session) → TimesOut ≡ Stays y → ⊥
-  never y e = let w : _≡_ {A = ℕ} 0 1 = cc in omega arith
+-- ==== a tick to one that stays
 
-  abbrev Same : Session → Type 0
-  Same y = (y .identifiers ≡ x .identifiers) × (y .tightenings ≡ x .tightenings) × (y .phase ≡ x .phase)
+module _ (x : Session) (r r₁ : List ℕ) (c : Changes r x (run-of (run-area r)) (subscriptions-in r) r₁) where
+  -- it is not started: nothing more is done
+  quiet-steps : (p : Phase) → (p ≡ Started → ⊥) → (st : Settings)
+      → ticked-in p st (x .idle) (run-of (run-area r)) (subscriptions-in r)
+      ≡ (session-as p (x .idle) (run-of (run-area r)) (subscriptions-in r), [])
+  quiet-steps Closed n st = refl
+  quiet-steps Opened n st = refl
+  quiet-steps Started n st = absurd (n refl)
 
-  from-path : (y z : Session) → z ≡ y → Same z → Same y
-  from-path y z e s = subst Same e s
-
-  idle-few : (y : Session) (over : Bool) → leb idle-limit (x .idle + 1) ≡ over
-      → cond over TimesOut (Stays (with-idle x (x .idle + 1))) ≡ Stays y → y .idle < idle-limit
-  idle-few y true p e = absurd (never y e)
-  idle-few y false p e =
-      let l = leb-false idle-limit (x .idle + 1) p in
-      subst (λ (z : Session). z .idle < idle-limit) (injected (with-idle x (x .idle + 1)) y e) (omega arith)
-
-  pub stays-storable : (y : Session) → idled x ≡ Stays y → Storable x → Same y × Storable y
-  unfolding idled
-  stays-storable y e k = by-phase (x .phase) e
-    where
-      few : Same y → y .idle < idle-limit → Storable y
-      few s l =
-          record {
-            idle = l;
-            subscribed = rw (s .0, s .1, s .2) (k .subscribed);
-            i-clock = rw (s .0) (k .i-clock);
-            i-held = rw (s .0) (k .i-held);
-            t-clock = rw (s .1) (k .t-clock);
-            t-held = rw (s .1) (k .t-held);
-          }
-
-      kept : (over : Bool) → cond over TimesOut (Stays (with-idle x (x .idle + 1))) ≡ Stays y → Same y
-      kept true e = absurd (never y e)
-      kept false e = from-path y (with-idle x (x .idle + 1)) (injected (with-idle x (x .idle + 1)) y e) (refl, refl, refl)
-
-      open-so : idled-open x ≡ Stays y → Same y × Storable y
-      open-so e =
-          let s = kept (leb idle-limit (x .idle + 1)) e in
-          (s, few s (idle-few y (leb idle-limit (x .idle + 1)) refl e))
-
-      by-phase : (p : Phase) → idled-from p x ≡ Stays y → Same y × Storable y
-      by-phase Closed e = subst (λ (z : Session). Same z × Storable z) (injected x y e) ((refl, refl, refl), k)
-      by-phase Opened e = open-so e
-      by-phase Started e = open-so e
-
--- ==== by the phase of one that stays
-
-module _ (s : ℕ) (st : Settings) (x : Session) (run : Run) (is ts : List ℕ) where
-  abbrev goes-on : Phase → model.Session × List Emission
-  goes-on p = tick-goes-on st run (notices-in 0 (x .identifiers .held) is) (notices-in 1 (x .tightenings .held) ts) p x
-
-  pub stays-closed : {r o : List ℕ} (at : ℕ) → x .phase ≡ Closed → Stands r x run is ts → Steps s (goes-on (x .phase)) r o at at o
-  stays-closed at e w = silent x run is ts (goes-on (x .phase)) at w (rw e)
-
-  pub stays-opened : {r o : List ℕ} (at : ℕ) → x .phase ≡ Opened → Stands r x run is ts → Steps s (goes-on (x .phase)) r o at at o
-  stays-opened at e w = silent x run is ts (goes-on (x .phase)) at w (rw e)
-
-  pub stays-started : {r o o′ : List ℕ} {at next : ℕ} → x .phase ≡ Started → Steps s (goes-on Started) r o at next o′
-      → Steps s (goes-on (x .phase)) r o at next o′
-  stays-started {r} {o} {o′} {at} {next} e w = subst (λ (p : Phase). Steps s (goes-on p) r o at next o′) (sym e) w
-
--- ==== the whole tick, by what the idle count says
-
-module _ (s : ℕ) (st : Settings) (r : List ℕ) (x : Session) (ex : x ≡ head-of (head-area r)) (k : Storable x) where
-  abbrev notices-i : Subscription → List Notice
-  notices-i i = notices-in 0 (i .held) (identifiers-area r)
-
-  abbrev notices-t : Subscription → List Notice
-  notices-t t = notices-in 1 (t .held) (tightenings-area r)
-
-  abbrev run-here : Run
-  run-here = run-of (run-area r)
-
-  -- the model's tick to what the region means
-  right : step (shared-begun st 0) tick (session-of r)
-      ≡ by-idling st run-here (notices-i (x .identifiers)) (notices-t (x .tightenings)) (idled x)
-  unfolding session-of
-  right =
-      ap (λ (z : Session). step (shared-begun st 0) tick (meaning z run-here (identifiers-area r) (tightenings-area r))) (sym ex)
-      ∙ idle-right st x run-here (notices-i (x .identifiers)) (notices-t (x .tightenings)) (let i = k .idle in omega arith)
-
-  pub tick-stays-so : {r′ o o′ : List ℕ} {at next : ℕ} (y : Session) → idled x ≡ Stays y
-      → Steps s (goes-on s st y run-here (identifiers-area r) (tightenings-area r) (y .phase)) r′ o at next o′
-      → Steps s (step (shared-begun st 0) tick (session-of r)) r′ o at next o′
-  tick-stays-so {r′} {o} {o′} {at} {next} y e w =
-      let same = stays-storable x y e k .0 in
-      let q : step (shared-begun st 0) tick (session-of r) ≡ goes-on s st y run-here (identifiers-area r) (tightenings-area r) (y .phase) =
-      right ∙ ap (by-idling st run-here (notices-i (x .identifiers)) (notices-t (x .tightenings))) e
-      ∙ ap₂ (λ (i t : Subscription). tick-goes-on st run-here (notices-i i) (notices-t t) (y .phase) y) (sym (same .0)) (sym (same .1)) in
-      subst (λ (z : model.Session × List Emission). Steps s z r′ o at next o′) (sym q) w
-
-  pub times-out : {r′ o o′ : List ℕ} {at next : ℕ} (run : Run) (is ts : List ℕ) → idled x ≡ TimesOut → Stands r′ cleared run is ts
-      → Put o at (close-record s) next o′ → Steps s (step (shared-begun st 0) tick (session-of r)) r′ o at next o′
-  times-out {r′} {o} {o′} {at} {next} run is ts e w p =
-      let q : step (shared-begun st 0) tick (session-of r) ≡ (closed, close ∷ []) =
-      right ∙ ap (by-idling st run-here (notices-i (x .identifiers)) (notices-t (x .tightenings))) e in
+  pub stays-quiet : (p : Phase) → x .phase ≡ p → (p ≡ Started → ⊥) → TickStays x r (replicate (length kinds) false) r₁
+  stays-quiet p e n =
+      let b = c .becomes in
       record {
-        good = w .good;
-        session = means r′ cleared run is ts w ∙ sym (ap (λ (z : model.Session × List Emission). z .0) q);
-        bytes = put-as (sym (append-nil (close-record s)) ∙ ap (λ (z : model.Session × List Emission). out-bytes s (z .1)) (sym q)) p;
+        good = b .good;
+        size = b .size;
+        ready = none-ready (length kinds) (subscriptions-in r₁) (length-subscriptions r₁);
+        steps = λ st.
+            quiet-steps (x .phase) (λ q. n (sym e ∙ q)) st
+            ∙ ap₂ (λ (m : model.Session) (es : List Emission). (m, es)) (sym (means b))
+            (sym (none-due st 0 (length kinds) (subscriptions-in r₁)));
       }
 
--- ==== whether it is closed, how it begins and ends
+  pub stays-started : (due : List Bool) (r₂ : List ℕ) → x .phase ≡ Started → DealtToAll (λ kind. beats) r₁ due r₂ → TickStays x r due r₂
+  stays-started due r₂ e d =
+      let xs = subscriptions-in r in
+      let b = c .becomes in
+      let f = d .changes .becomes in
+      let subs : subscriptions-in r₂ ≡ row (acting (λ kind. beats)) 0 xs =
+      f .subscriptions ∙ ap (row (acting (λ kind. beats)) 0) (b .subscriptions) in
+      let is-due : due ≡ dues (λ kind. beats) 0 xs = d .sends ∙ ap (dues (λ kind. beats) 0) (b .subscriptions) in
+      let now : session-of r₂ ≡ started (x .idle) (run-of (run-area r)) (row (acting (λ kind. beats)) 0 xs) =
+      means f ∙ (λ i. meaning (b .head i) (b .runs i) (row (acting (λ kind. beats)) 0 (b .subscriptions i)))
+      ∙ ap (λ (p : Phase). session-as p (x .idle) (run-of (run-area r)) (row (acting (λ kind. beats)) 0 xs)) e in
+      record {
+        good = f .good;
+        size = f .size ∙ b .size;
+        ready = rw (is-due, subs) (all-ready (λ kind. beats) (λ kind. tt) xs);
+        steps = λ st.
+            ap (λ (p : Phase). ticked-in p st (x .idle) (run-of (run-area r)) xs) e
+            ∙ ap₂ (λ (m : model.Session) (es : List Emission). (m, es))
+            (ap (started (x .idle) (run-of (run-area r))) (row-acting st (λ kind. beats) 0 xs) ∙ sym now)
+            (said-due (λ kind. beats) (λ kind. tt) st 0 xs ∙ ap₂ (due-copies st 0) (sym is-due) (sym subs));
+      }
 
-closed-as : (p : Phase) (idle : ℕ) (run : Run) (subs : List notice.Subscription)
-    → is-closed (session-as p idle run subs) ≡ is-closed (session-as p 0 empty-run [])
-closed-as Closed idle run subs = refl
-closed-as Opened idle run subs = refl
-closed-as Started idle run subs = refl
+-- ==== a tick
 
-pub closed-by : (r : List ℕ) (p : Phase) → (head-of (head-area r)) .phase ≡ p
-    → is-closed (session-of r) ≡ is-closed (session-as p 0 empty-run [])
-unfolding session-of
-closed-by r p e = closed-as (head-of (head-area r) .phase) _ _ _ ∙ ap (λ (q : Phase). is-closed (session-as q 0 empty-run [])) e
+module _ (r : List ℕ) (x : Session) (ex : x ≡ head-of (head-area r)) (few : x .idle < idle-limit) where
+  ticked : (g : Shared) (i : Idling) → i ≡ idled x
+      → step g tick (session-of r) ≡ ticked-so (g .settings) (run-of (run-area r)) (subscriptions-in r) i
+  ticked g i e =
+      ap (step g tick) (means-so r x ex) ∙ idle-right g (run-of (run-area r)) (subscriptions-in r) x few
+      ∙ ap (ticked-so (g .settings) (run-of (run-area r)) (subscriptions-in r)) (sym e)
 
-module _ (r : List ℕ) (x : Session) (run : Run) (is ts : List ℕ) (s : Stands r x run is ts) where
-  pub hung-up : x ≡ cleared → Good r × (session-of r ≡ closed)
-  hung-up e = (s .good, means r x run is ts s ∙ ap (λ (z : Session). meaning z run is ts) e)
+  pub tick-stays : (i : Idling) (y : Session) (due : List Bool) (r′ : List ℕ) → i ≡ idled x → i ≡ Stays y → TickStays y r due r′
+      → Ticks r (record { closes = false; due = due }) r′
+  tick-stays i y due r′ ei ey w = record {
+    good = w .good;
+    size = w .size;
+    ready = w .ready;
+    steps = λ g.
+        ticked g i ei ∙ ap (ticked-so (g .settings) (run-of (run-area r)) (subscriptions-in r)) ey ∙ w .steps (g .settings);
+  }
 
-  pub begun : x ≡ fresh → run ≡ empty-run → Good r × (session-of r ≡ model.fresh)
-  begun e f = (s .good, means r x run is ts s ∙ ap₂ (λ (z : Session) (n : Run). meaning z n is ts) e f)
+  pub tick-closes : (i : Idling) (r′ : List ℕ) → i ≡ idled x → i ≡ TimesOut
+      → Changes r cleared (run-of (run-area r)) (subscriptions-in r) r′
+      → Ticks r (record { closes = true; due = replicate (length kinds) false }) r′
+  tick-closes i r′ ei ey c =
+      let b = c .becomes in
+      record {
+        good = b .good;
+        size = b .size;
+        ready = none-ready (length kinds) (subscriptions-in r′) (length-subscriptions r′);
+        steps = λ g.
+            ticked g i ei ∙ ap (ticked-so (g .settings) (run-of (run-area r)) (subscriptions-in r)) ey
+            ∙ ap (λ (m : model.Session). (m, close ∷ [])) (sym (means b));
+      }
+
+-- ==== an event
+
+-- of the kind that it is of: one computed test
+pub kind-in : (kind : ℕ) (p : List ℕ) → kind < length kinds → kind-of (event-in kind p) ≡ kind
+kind-in kind p h = eqb-true _ kind (each-below (length kinds) (λ (k : ℕ). eqb (kind-of (event-in k p)) k) refl kind h)
+
+module _ (kind : ℕ) (p r : List ℕ) (few : kind < length kinds) (x : Session) (ex : x ≡ head-of (head-area r)) where
+  abbrev n : Notice
+  n = notice-in kind p
+
+  not-stepped : (st : Settings) (ph : Phase) → (ph ≡ Started → ⊥)
+      → step (shared-begun st 0) (event (event-in kind p)) (session-as ph (x .idle) (run-of (run-area r)) (subscriptions-in r))
+      ≡ (session-as ph (x .idle) (run-of (run-area r)) (subscriptions-in r), [])
+  not-stepped st Closed h = refl
+  not-stepped st Opened h = refl
+  not-stepped st Started h = absurd (h refl)
+
+  not-takes : (ph : Phase) → (ph ≡ Started → ⊥) → takes kind (session-as ph (x .idle) (run-of (run-area r)) (subscriptions-in r)) ≡ false
+  not-takes Closed h = refl
+  not-takes Opened h = refl
+  not-takes Started h = absurd (h refl)
+
+  pub takes-none : (ph : Phase) → x .phase ≡ ph → (ph ≡ Started → ⊥) → Good r → Takes kind p r (record { taken = false; tell = false }) r
+  takes-none ph e h g =
+      let other : x .phase ≡ Started → ⊥ = λ q. h (sym e ∙ q) in
+      let now = means-so r x ex in
+      record {
+        good = g;
+        size = refl;
+        takes = sym (ap (takes kind) now ∙ not-takes (x .phase) other);
+        ready = λ q. absurd (true≢false (sym q));
+        steps = λ st.
+            ap (step (shared-begun st 0) (event (event-in kind p))) now ∙ not-stepped st (x .phase) other
+            ∙ ap (λ (m : model.Session). (m, [])) (sym now);
+      }
+
+  pub takes-one : (told-so : Told) (r′ : List ℕ) → x .phase ≡ Started → DealtTo kind (news n) r (told-so .tell) r′
+      → told-so .taken ≡ notices.takes (room-of kind) (subscription-in kind r) → Takes kind p r told-so r′
+  takes-one t r′ e d takes-it =
+      let xs = subscriptions-in r in
+      let s = getD xs kind unsubscribed in
+      let is : s ≡ subscription-in kind r = subscription-at r kind few in
+      let y = act (room-of kind) (news n) s in
+      let b = d .changes .becomes in
+      let fits = there r kind few in
+      let subs : subscriptions-in r′ ≡ set xs kind (y .0) =
+      b .subscriptions ∙ ap (λ (z : Subscription). set xs kind ((act (room-of kind) (news n) z) .0)) (sym is) in
+      let now-is : subscription-in kind r′ ≡ y .0 =
+      sym (subscription-at r′ kind few) ∙ ap (λ (l : List Subscription). getD l kind unsubscribed) subs
+      ∙ getD-set-same xs kind (y .0) unsubscribed fits in
+      let tell : t .tell ≡ any (y .1) = d .sends ∙ ap (λ (z : Subscription). any ((act (room-of kind) (news n) z) .1)) (sym is) in
+      let before : session-of r ≡ started (x .idle) (run-of (run-area r)) xs =
+      means-so r x ex ∙ ap (λ (q : Phase). session-as q (x .idle) (run-of (run-area r)) xs) e in
+      let after : session-of r′ ≡ started (x .idle) (run-of (run-area r)) (set xs kind (y .0)) =
+      means b ∙ ap₂ (λ (z : Session) (l : List Subscription). meaning z (run-of (run-area r)) l) (sym ex) (sym (b .subscriptions) ∙ subs)
+      ∙ ap (λ (q : Phase). session-as q (x .idle) (run-of (run-area r)) (set xs kind (y .0))) e in
+      record {
+        good = b .good;
+        size = b .size;
+        takes = takes-it ∙ ap (notices.takes (room-of kind)) (sym is) ∙ sym (ap (takes kind) before);
+        ready = λ q. rw now-is (told (room-of kind) n s .there (sym tell ∙ q));
+        steps = λ st.
+            ap (step (shared-begun st 0) (event (event-in kind p))) before
+            ∙ ap (λ (k : ℕ). dealt st (x .idle) (run-of (run-area r)) (only k (news n)) xs) (kind-in kind p few)
+            ∙ ap₂ (λ (m : model.Session) (es : List Emission). (m, es))
+            (ap (started (x .idle) (run-of (run-area r))) (row-one kind (news n) xs fits st) ∙ sym after)
+            (said-one kind (news n) xs fits st ∙ sent-itself (room-of kind) n s st kind
+            ∙ ap₂ (λ (b : Bool) (z : Subscription). cond b (copies st kind z (n ∷ [])) []) (sym tell) (sym now-is));
+      }

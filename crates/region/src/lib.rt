@@ -1,253 +1,114 @@
-// A session in its region of the table.
+// A session in its region of the table: its phase and idle count, the run that it is receiving, and a lane for each kind of notice. What is
+// done here changes the region and nothing else, and tells by value what is then to be said.
 ghost use mathlib.Core.Path.{_≡_};
-ghost use mathlib.Core.Bool.{true};
-ghost use Prim.Native.Nat.{_+_, _≤_, _<_};
-ghost use lib.ListN.{length, take};
-ghost use Rattle.model.specs.Limits.{header-length, run-kept, identifier-length};
-ghost use Rattle.model.specs.Records.{settings-of, settings-length};
-ghost use Rattle.model.specs.Runs.{empty-run, longer, cut};
-ghost use Rattle.model.specs.Kinds.{kinds, kind-at, room-of, identifiers, tightenings, copy-most, copies-most, reply-most, session-most};
-ghost use Rattle.model.specs.Notices.{beats, acks, news, takes};
-ghost use Rattle.model.specs.Session.{dealt, closed, fresh, is-closed as is-closed-session, only};
-ghost use Rattle.model.specs.Sharing.{shared-begun};
-ghost use Rattle.model.specs.Local.{step, tick as one-tick, event as event-of, takes as takes-event};
-ghost use Rattle.text.specs.Put.{Put};
-ghost use Rattle.session.specs.Decisions.{subscription-of as subscription-at, after as after-so};
-ghost use Rattle.session.specs.Effects.{announced, replies, carried-out, AcknowledgedIn};
-ghost use Rattle.run.specs.Area.{run-of, Ends};
-ghost use Rattle.head.specs.Head.{head-of, Storable};
-ghost use Rattle.notices.specs.Places.{place-size, event-in, notice-in, notices-in, subscription-of, Kept, Deals, dealt-bytes};
-ghost use Rattle.region.specs.Region.{region-size, head-area, run-area, identifiers-area, tightenings-area, session-of};
-ghost use Rattle.region.specs.Region.{region-formed, Good, Stands, places-of, Moved, subscriptions-of, out-bytes, Steps};
-ghost use Rattle.region.specs.Region.{tick-goes-on, ending, Knows, Ruled, Hears};
-use notices::Dealt;
-use notices::Took;
+ghost use mathlib.Core.Bool.{Bool, false, cond};
+ghost use mathlib.Core.List.{List, [], map};
+ghost use Prim.Native.Nat.{_≤_, _<_};
+ghost use lib.ListN.{length};
+ghost use Rattle.model.specs.Limits.{run-kept, identifier-length, idle-limit};
+ghost use Rattle.model.specs.Bytes.{all, padded};
+ghost use Rattle.model.specs.Runs.{empty-run, longer};
+ghost use Rattle.model.specs.Kinds.{kinds};
+ghost use Rattle.model.specs.Notices.{is-subscribed, beats};
+ghost use Rattle.model.specs.Session.{closed, fresh, is-closed as is-closed-session, no-subscriptions};
+ghost use Rattle.frame.specs.Places.{place-size};
+ghost use Rattle.message.specs.Meaning.{standing-of};
+ghost use Rattle.session.specs.Meaning.{deed-of};
+ghost use Rattle.session.specs.Decisions.{is-started as is-started-so};
+ghost use Rattle.run.specs.Area.{run-of};
+ghost use Rattle.head.specs.Head.{head-of};
+ghost use Rattle.lane.specs.Lane.{lane-formed};
+ghost use Rattle.region.specs.Region.{region-size, head-area, run-area, lane-at as lane-begins, lanes, lane-in, subscriptions-in};
+ghost use Rattle.region.specs.Region.{session-of, region-formed, Good, run-bytes as bytes-of-run, Becomes, Changes, LanesCleared};
+ghost use Rattle.region.specs.Said.{DealtTo, DealtToAll, TickStays, Ticks, Takes, stood, Ruled, CarriesOut, ended-by, RunEnds};
+use lane::Told;
+use message::Standing;
+use model::IDENTIFIER_LENGTH;
+use model::IDENTIFIERS;
+use model::KIND_COUNT;
 use session::Decision;
+use session::Deed;
 use session::Idling;
 use session::Phase;
+use session::Reply;
 use session::Session;
-use session::Subscription;
 
 // How many bytes it has.
 pub const SIZE: usize = 1024;
 
-// ---- its areas
+// Where the phase and the idle count end, and where the run is.
+const HEAD_END: usize = 2;
+
+const RUN_AT: usize = 8;
+
+const RUN_END: usize = 56;
+
+// By kind: where its lane begins.
+fn lane_at(kind: usize) -> usize
+    requires { ⌜ kind < length kinds ⌝ }
+    ensures { λ r. ⌜ r ≡ lane-begins kind ⌝ }
+{
+    match kind {
+        IDENTIFIERS => 56,
+        _ => 128,
+    }
+}
+
+// ---- reading
+
+// The lane of a kind, as it stands.
+pub fn lane(region: &[u8], kind: usize) -> &[u8]
+    requires { ⌜ (length (now region) ≡ region-size) × (kind < length kinds) ⌝ }
+    ensures { λ r. ⌜ now r ≡ lane-in kind (now (region .entry)) ⌝ }
+{
+    let a = lane_at(kind);
+    let e = a + lane::size(kind);
+    &region[a..e]
+}
+
+// The bytes of the run that it has received last, as they stand.
+pub fn run_bytes(region: &[u8]) -> &[u8]
+    requires { ⌜ length (now region) ≡ region-size ⌝ }
+    ensures { λ r. ⌜ now r ≡ bytes-of-run (now (region .entry)) ⌝ }
+{
+    run::bytes(&region[RUN_AT..RUN_END])
+}
+
+// Whether every lane is well formed.
+fn lanes_formed(region: &[u8]) -> bool
+    requires { ⌜ length (now region) ≡ region-size ⌝ }
+    ensures { λ r. ⌜ r ≡ all (λ (formed : Bool). formed) (lanes lane-formed (now (region .entry))) ⌝ }
+{
+    let mut kind = 0;
+    while kind < KIND_COUNT {
+        if !lane::is_formed(lane(region, kind), kind) {
+            return false;
+        }
+        kind += 1;
+    }
+    true
+}
 
 pub fn is_formed(region: &[u8]) -> bool
     requires { ⌜ length (now region) ≡ region-size ⌝ }
     ensures { λ r. ⌜ r ≡ region-formed (now (region .entry)) ⌝ }
 {
-    if !head::is_formed(&region[0..32]) {
+    if !head::is_formed(&region[0..HEAD_END]) {
         return false;
     }
-    run::is_formed(&region[32..80])
+    if !run::is_formed(&region[RUN_AT..RUN_END]) {
+        return false;
+    }
+    lanes_formed(region)
 }
 
-// Whatever the bytes were, it is closed.
-pub fn start(region: &mut [u8])
-    requires { ⌜ length (now region) ≡ region-size ⌝ }
-    ensures { λ _. ⌜ Good (now (region .exit)) × (session-of (now (region .exit)) ≡ closed) ⌝ }
-{
-    head::store(&mut region[0..32], Session::cleared());
-    run::clear(&mut region[32..80]);
-}
-
-// Its control.
+// Its phase and its idle count.
 fn load(region: &[u8]) -> Session
     requires { ⌜ Good (now region) ⌝ }
-    ensures { λ r. ⌜ (r ≡ head-of (head-area (now (region .entry)))) × Storable r ⌝ }
+    ensures { λ r. ⌜ (r ≡ head-of (head-area (now (region .entry)))) × (r .idle < idle-limit) ⌝ }
 {
-    head::load(&region[0..32])
+    head::load(&region[0..HEAD_END])
 }
-
-fn store(region: &mut [u8], x: Session)
-    requires { ⌜ Good (now region) × Storable x ⌝ }
-    ensures { λ _. ⌜ Stands (now (region .exit)) x (run-of (run-area (now (region .entry)))) (identifiers-area (now (region .entry)))
-        (tightenings-area (now (region .entry))) ⌝ }
-{
-    head::store(&mut region[0..32], x);
-}
-
-// More bytes of its run.
-fn lengthen(region: &mut [u8], bytes: &[u8])
-    requires { ⌜ Good (now region) ⌝ }
-    ensures { λ _. ⌜ Stands (now (region .exit)) (head-of (head-area (now (region .entry))))
-        (longer (run-of (run-area (now (region .entry)))) (now (bytes .entry))) (identifiers-area (now (region .entry)))
-        (tightenings-area (now (region .entry))) ⌝ }
-{
-    run::lengthen(&mut region[32..80], bytes);
-}
-
-fn clear_run(region: &mut [u8])
-    requires { ⌜ Good (now region) ⌝ }
-    ensures { λ _. ⌜ Stands (now (region .exit)) (head-of (head-area (now (region .entry)))) empty-run
-        (identifiers-area (now (region .entry))) (tightenings-area (now (region .entry))) ⌝ }
-{
-    run::clear(&mut region[32..80]);
-}
-
-// ---- what is done to the notices of a kind
-
-// A tick.
-fn tick_kind(
-    region: &mut [u8],
-    out: &mut [u8],
-    at: usize,
-    s: u64,
-    kind: usize,
-    x: Subscription,
-    settings: &[u8],
-) -> Dealt
-    requires { ⌜ (at + copy-most (kind-at kind) ≤ length (now out)) × (s < 256) × (length (now settings) ≡ settings-length)
-        × (kind < length kinds) ⌝ }
-    requires { ⌜ Good (now region) × Kept kind x (places-of kind (now region)) ⌝ }
-    ensures { λ r. ⌜ (r .at ≤ at + copy-most (kind-at kind)) × Moved kind (now (region .entry)) (now (region .exit))
-        × Deals kind beats x (places-of kind (now (region .entry))) (r .next) (places-of kind (now (region .exit)))
-        × Put (now (out .entry)) at (dealt-bytes kind s (settings-of (now (settings .entry))) beats x
-        (places-of kind (now (region .entry)))) (r .at) (now (out .exit)) ⌝ }
-{
-    if kind == message::IDENTIFIERS {
-        return notices::tick(&mut region[80..130], out, at, s, kind, x, settings);
-    }
-    notices::tick(&mut region[136..1016], out, at, s, kind, x, settings)
-}
-
-// An acknowledge.
-fn acknowledge_kind(
-    region: &mut [u8],
-    out: &mut [u8],
-    at: usize,
-    s: u64,
-    kind: usize,
-    x: Subscription,
-    settings: &[u8],
-) -> Dealt
-    requires { ⌜ (at + copy-most (kind-at kind) ≤ length (now out)) × (s < 256) × (length (now settings) ≡ settings-length)
-        × (kind < length kinds) ⌝ }
-    requires { ⌜ Good (now region) × Kept kind x (places-of kind (now region)) ⌝ }
-    ensures { λ r. ⌜ (r .at ≤ at + copy-most (kind-at kind)) × Moved kind (now (region .entry)) (now (region .exit))
-        × Deals kind acks x (places-of kind (now (region .entry))) (r .next) (places-of kind (now (region .exit)))
-        × Put (now (out .entry)) at (dealt-bytes kind s (settings-of (now (settings .entry))) acks x
-        (places-of kind (now (region .entry)))) (r .at) (now (out .exit)) ⌝ }
-{
-    if kind == message::IDENTIFIERS {
-        return notices::acknowledge(&mut region[80..130], out, at, s, kind, x, settings);
-    }
-    notices::acknowledge(&mut region[136..1016], out, at, s, kind, x, settings)
-}
-
-// An event, whose notice is in `place`.
-fn take_kind(
-    region: &mut [u8],
-    out: &mut [u8],
-    at: usize,
-    s: u64,
-    kind: usize,
-    x: Subscription,
-    settings: &[u8],
-    place: &[u8],
-) -> Took
-    requires { ⌜ (at + copy-most (kind-at kind) ≤ length (now out)) × (s < 256) × (length (now settings) ≡ settings-length)
-        × (kind < length kinds) ⌝ }
-    requires { ⌜ Good (now region) × Kept kind x (places-of kind (now region)) × (length (now place) ≡ place-size kind) ⌝ }
-    ensures { λ r. ⌜ (r .at ≤ at + copy-most (kind-at kind)) × Moved kind (now (region .entry)) (now (region .exit))
-        × Deals kind (news (notice-in kind (now (place .entry)))) x (places-of kind (now (region .entry))) (r .next)
-        (places-of kind (now (region .exit))) × Put (now (out .entry)) at
-        (dealt-bytes kind s (settings-of (now (settings .entry))) (news (notice-in kind (now (place .entry)))) x
-        (places-of kind (now (region .entry)))) (r .at) (now (out .exit))
-        × (r .taken ≡ takes (room-of kind) (subscription-of kind x (places-of kind (now (region .entry))))) ⌝ }
-{
-    if kind == message::IDENTIFIERS {
-        return notices::take(&mut region[80..130], out, at, s, kind, x, settings, place);
-    }
-    notices::take(&mut region[136..1016], out, at, s, kind, x, settings, place)
-}
-
-// ---- a tick
-
-// What a tick does to one that is started and stays: its idle count has gone up already.
-fn tick_kinds(
-    region: &mut [u8],
-    out: &mut [u8],
-    at: usize,
-    s: u64,
-    settings: &[u8],
-    x: Session,
-) -> usize
-    requires { ⌜ (at + copies-most kinds ≤ length (now out)) × (s < 256) × (length (now settings) ≡ settings-length) × Good (now region)
-        × Storable x ⌝ }
-    ensures { λ r. ⌜ (r ≤ at + copies-most kinds) × Steps s
-        (dealt (settings-of (now (settings .entry))) (x .idle) (run-of (run-area (now (region .entry)))) (λ kind. beats)
-        (subscriptions-of x (now (region .entry)))) (now (region .exit)) (now (out .entry)) at r (now (out .exit)) ⌝ }
-{
-    let i = x.identifiers;
-    let i = tick_kind(region, out, at, s, message::IDENTIFIERS, i, settings);
-    let t = x.tightenings;
-    let t = tick_kind(region, out, i.at, s, message::TIGHTENINGS, t, settings);
-    let identifiers = i.next;
-    let tightenings = t.next;
-    store(
-        region,
-        Session {
-            phase: Phase::Started,
-            idle: x.idle,
-            identifiers,
-            tightenings,
-        },
-    );
-    t.at
-}
-
-// What a tick does to one that stays, by its phase.
-fn tick_stays(
-    region: &mut [u8],
-    out: &mut [u8],
-    at: usize,
-    s: u64,
-    settings: &[u8],
-    x: Session,
-) -> usize
-    requires { ⌜ (at + copies-most kinds ≤ length (now out)) × (s < 256) × (length (now settings) ≡ settings-length) × Good (now region)
-        × Storable x ⌝ }
-    ensures { λ r. ⌜ (r ≤ at + copies-most kinds) × Steps s
-        (tick-goes-on (settings-of (now (settings .entry))) (run-of (run-area (now (region .entry))))
-        (notices-in identifiers (x .identifiers .held) (identifiers-area (now (region .entry))))
-        (notices-in tightenings (x .tightenings .held) (tightenings-area (now (region .entry)))) (x .phase) x) (now (region .exit))
-        (now (out .entry)) at r (now (out .exit)) ⌝ }
-{
-    let phase = x.phase;
-    match phase {
-        Phase::Closed => {
-            store(region, x);
-            at
-        }
-        Phase::Opened => {
-            store(region, x);
-            at
-        }
-        Phase::Started => tick_kinds(region, out, at, s, settings, x),
-    }
-}
-
-// A tick to session s.
-pub fn tick(region: &mut [u8], out: &mut [u8], at: usize, s: u64, settings: &[u8]) -> usize
-    requires { ⌜ (at + copies-most kinds ≤ length (now out)) × (s < 256) × (length (now settings) ≡ settings-length) × Good (now region) ⌝ }
-    ensures { λ r. ⌜ (r ≤ at + copies-most kinds) × Steps s
-        (step (shared-begun (settings-of (now (settings .entry))) 0) one-tick (session-of (now (region .entry)))) (now (region .exit))
-        (now (out .entry)) at r (now (out .exit)) ⌝ }
-{
-    let x = load(region);
-    let idling = session::idled(x);
-    match idling {
-        Idling::Stays(y) => tick_stays(region, out, at, s, settings, y),
-        Idling::TimesOut => {
-            store(region, Session::cleared());
-            frame::put_close(out, at, s)
-        }
-    }
-}
-
-// ---- an opening, a hang-up
 
 pub fn is_closed(region: &[u8]) -> bool
     requires { ⌜ Good (now region) ⌝ }
@@ -260,6 +121,90 @@ pub fn is_closed(region: &[u8]) -> bool
         Phase::Opened => false,
         Phase::Started => false,
     }
+}
+
+// ---- its areas change
+
+fn store(region: &mut [u8], x: Session)
+    requires { ⌜ Good (now region) × (x .idle < idle-limit) ⌝ }
+    ensures { λ _. ⌜ Changes (now (region .entry)) x (run-of (run-area (now (region .entry)))) (subscriptions-in (now (region .entry)))
+        (now (region .exit)) ⌝ }
+{
+    head::store(&mut region[0..HEAD_END], x);
+}
+
+// More bytes of its run.
+pub fn lengthen(region: &mut [u8], bytes: &[u8])
+    requires { ⌜ Good (now region) ⌝ }
+    ensures { λ _. ⌜ Becomes (now (region .entry)) (head-of (head-area (now (region .entry))))
+        (longer (run-of (run-area (now (region .entry)))) (now (bytes .entry))) (subscriptions-in (now (region .entry)))
+        (now (region .exit)) ⌝ }
+{
+    run::lengthen(&mut region[RUN_AT..RUN_END], bytes);
+}
+
+// Its run is over.
+fn clear_run(region: &mut [u8])
+    requires { ⌜ Good (now region) ⌝ }
+    ensures { λ _. ⌜ Changes (now (region .entry)) (head-of (head-area (now (region .entry)))) empty-run
+        (subscriptions-in (now (region .entry))) (now (region .exit)) ⌝ }
+{
+    run::clear(&mut region[RUN_AT..RUN_END]);
+}
+
+// What is done to the notices of one kind: whether a copy of the one that is then open is due.
+fn deal(region: &mut [u8], kind: usize, deed: Deed) -> bool
+    requires { ⌜ Good (now region) × (kind < length kinds) ⌝ }
+    ensures { λ r. ⌜ DealtTo kind (deed-of deed) (now (region .entry)) r (now (region .exit)) ⌝ }
+{
+    if let Deed::Nothing = deed {
+        return false;
+    }
+    let a = lane_at(kind);
+    let e = a + lane::size(kind);
+    lane::deal(&mut region[a..e], kind, deed)
+}
+
+// A second passes for the notices of every kind: of which a copy is due.
+fn beat(region: &mut [u8]) -> [bool; KIND_COUNT]
+    requires { ⌜ Good (now region) ⌝ }
+    ensures { λ r. ⌜ DealtToAll (λ kind. beats) (now (region .entry)) r (now (region .exit)) ⌝ }
+{
+    let mut due = [false; KIND_COUNT];
+    let mut kind = 0;
+    while kind < KIND_COUNT {
+        let a = lane_at(kind);
+        let e = a + lane::size(kind);
+        due[kind] = lane::beat(&mut region[a..e], kind);
+        kind += 1;
+    }
+    due
+}
+
+// Nothing is held of any kind, whatever the bytes of the lanes were.
+fn clear_lanes(region: &mut [u8])
+    requires { ⌜ length (now region) ≡ region-size ⌝ }
+    ensures { λ _. ⌜ LanesCleared (now (region .entry)) (now (region .exit)) ⌝ }
+{
+    let mut kind = 0;
+    while kind < KIND_COUNT {
+        let a = lane_at(kind);
+        let e = a + lane::size(kind);
+        lane::clear(&mut region[a..e], kind);
+        kind += 1;
+    }
+}
+
+// ---- a start, an opening, a hang-up
+
+// Whatever the bytes were, it is closed.
+pub fn start(region: &mut [u8])
+    requires { ⌜ length (now region) ≡ region-size ⌝ }
+    ensures { λ _. ⌜ Good (now (region .exit)) × (session-of (now (region .exit)) ≡ closed) ⌝ }
+{
+    head::store(&mut region[0..HEAD_END], Session::cleared());
+    run::clear(&mut region[RUN_AT..RUN_END]);
+    clear_lanes(region);
 }
 
 // The session begins.
@@ -279,343 +224,230 @@ pub fn hang_up(region: &mut [u8])
     store(region, Session::cleared());
 }
 
-// ---- an event
+// ---- a tick
 
-// What an event did to a session: the place behind what went out, and whether it was taken.
-pub struct Told {
-    pub at: usize,
-    pub taken: bool,
+// What a tick leaves to say: that the session is closed; or of which kinds a copy of the open notice.
+pub struct Ticked {
+    pub closes: bool,
+    pub due: [bool; KIND_COUNT],
 }
 
-// To one that is started.
-fn happened(
-    region: &mut [u8],
-    out: &mut [u8],
-    at: usize,
-    s: u64,
-    settings: &[u8],
-    x: Session,
-    kind: usize,
-    place: &[u8],
-) -> Told
-    requires { ⌜ (at + copy-most (kind-at kind) ≤ length (now out)) × (s < 256) × (length (now settings) ≡ settings-length)
-        × Good (now region)
-        × Storable x × (x .phase ≡ Phase.Started) × (kind < length kinds) × (length (now place) ≡ place-size kind) ⌝ }
-    ensures { λ r. ⌜ (r .at ≤ at + copy-most (kind-at kind))
-        × Steps s (dealt (settings-of (now (settings .entry))) (x .idle) (run-of (run-area (now (region .entry))))
-        (only kind (news (notice-in kind (now (place .entry))))) (subscriptions-of x (now (region .entry)))) (now (region .exit))
-        (now (out .entry)) at (r .at) (now (out .exit))
-        × (r .taken ≡ takes (room-of kind) (subscription-of kind (subscription-at x kind) (places-of kind (now (region .entry))))) ⌝ }
+// What a tick does to one that stays: x is its phase, and its idle count, which has gone up already.
+fn tick_stays(region: &mut [u8], x: Session) -> [bool; KIND_COUNT]
+    requires { ⌜ Good (now region) × (x .idle < idle-limit) ⌝ }
+    ensures { λ r. ⌜ TickStays x (now (region .entry)) r (now (region .exit)) ⌝ }
 {
-    let sub = session::subscription_of(x, kind);
-    let t = take_kind(region, out, at, s, kind, sub, settings, place);
-    let next = t.next;
-    store(region, session::with_subscription(x, kind, next));
-    Told {
-        at: t.at,
-        taken: t.taken,
+    store(region, x);
+    let phase = x.phase;
+    match phase {
+        Phase::Closed => [false; KIND_COUNT],
+        Phase::Opened => [false; KIND_COUNT],
+        Phase::Started => beat(region),
     }
 }
 
-// An event of that kind, whose notice is in `place`, to session s.
-pub fn event(
-    region: &mut [u8],
-    out: &mut [u8],
-    at: usize,
-    s: u64,
-    settings: &[u8],
-    kind: usize,
-    place: &[u8],
-) -> Told
-    requires { ⌜ (at + copy-most (kind-at kind) ≤ length (now out)) × (s < 256) × (length (now settings) ≡ settings-length)
-        × Good (now region)
-        × (kind < length kinds) × (length (now place) ≡ place-size kind) ⌝ }
-    ensures { λ r. ⌜ (r .at ≤ at + copy-most (kind-at kind))
-        × Steps s (step (shared-begun (settings-of (now (settings .entry))) 0) (event-of (event-in kind (now (place .entry))))
-        (session-of (now (region .entry)))) (now (region .exit)) (now (out .entry)) at (r .at) (now (out .exit))
-        × (r .taken ≡ takes-event kind (session-of (now (region .entry)))) ⌝ }
+pub fn tick(region: &mut [u8]) -> Ticked
+    requires { ⌜ Good (now region) ⌝ }
+    ensures { λ r. ⌜ Ticks (now (region .entry)) r (now (region .exit)) ⌝ }
+{
+    let idling = session::idled(load(region));
+    match idling {
+        Idling::Stays(x) => {
+            let due = tick_stays(region, x);
+            Ticked { closes: false, due }
+        }
+        Idling::TimesOut => {
+            store(region, Session::cleared());
+            Ticked {
+                closes: true,
+                due: [false; KIND_COUNT],
+            }
+        }
+    }
+}
+
+// ---- an event
+
+// An event of that kind, whose notice is in `place`.
+pub fn take(region: &mut [u8], kind: usize, place: &[u8]) -> Told
+    requires { ⌜ Good (now region) × (kind < length kinds) × (length (now place) ≡ place-size kind) ⌝ }
+    ensures { λ r. ⌜ Takes kind (now (place .entry)) (now (region .entry)) r (now (region .exit)) ⌝ }
 {
     let x = load(region);
     let phase = x.phase;
     match phase {
-        Phase::Closed => Told { at, taken: false },
-        Phase::Opened => Told { at, taken: false },
-        Phase::Started => happened(region, out, at, s, settings, x, kind, place),
+        Phase::Closed => Told {
+            taken: false,
+            tell: false,
+        },
+        Phase::Opened => Told {
+            taken: false,
+            tell: false,
+        },
+        Phase::Started => {
+            let a = lane_at(kind);
+            let e = a + lane::size(kind);
+            lane::take(&mut region[a..e], kind, place)
+        }
     }
 }
 
-// ---- a message
+// ---- the end of a run
 
-// 01, "What a message does": the reply to session s, if the decision has one. The run is the one that was decided on: the header of a
-// 9999 goes back as it came.
-fn reply(out: &mut [u8], at: usize, s: u64, settings: &[u8], run: &[u8], d: Decision) -> usize
-    requires { ⌜ (at + reply-most ≤ length (now out)) × (s < 256) × (length (now settings) ≡ settings-length)
-        × (d ≡ Decision.Mirror → header-length ≤ length (now run)) ⌝ }
-    ensures { λ r. ⌜ (r ≤ at + reply-most) × Put (now (out .entry)) at (out-bytes s (replies (settings-of (now (settings .entry)))
-        (take header-length (now (run .entry))) d)) r (now (out .exit)) ⌝ }
+fn is_started(phase: Phase) -> bool
+    ensures { λ r. ⌜ r ≡ is-started-so phase ⌝ }
 {
-    match d {
-        Decision::Nothing => at,
-        Decision::Heard => at,
-        Decision::Error { mid, code } => frame::put_0004(out, at, s, mid, code),
-        Decision::Start => frame::put_0002(out, at, s, settings),
-        Decision::Stop { mid } => frame::put_0005(out, at, s, mid),
-        Decision::Identify { mid } => frame::put_0005(out, at, s, mid),
-        Decision::Subscribe {
-            kind: _,
-            mid,
-            revision: _,
-            no_acknowledge: _,
-        } => frame::put_0005(out, at, s, mid),
-        Decision::Unsubscribe { kind: _, mid } => frame::put_0005(out, at, s, mid),
-        Decision::Acknowledge { kind: _ } => at,
-        Decision::Mirror => frame::put_9999(out, at, s, run),
+    match phase {
+        Phase::Closed => false,
+        Phase::Opened => false,
+        Phase::Started => true,
     }
 }
 
-// An acknowledge, to one that is started.
-fn acknowledged(
-    region: &mut [u8],
-    out: &mut [u8],
-    at: usize,
-    s: u64,
-    settings: &[u8],
-    x: Session,
-    kind: usize,
-) -> usize
-    requires { ⌜ (at + copy-most (kind-at kind) ≤ length (now out)) × (s < 256) × (length (now settings) ≡ settings-length)
-        × Good (now region)
-        × Storable x × (x .phase ≡ Phase.Started) × (kind < length kinds) ⌝ }
-    ensures { λ r. ⌜ (r ≤ at + copy-most (kind-at kind))
-        × Steps s (dealt (settings-of (now (settings .entry))) (x .idle) (run-of (run-area (now (region .entry)))) (only kind acks)
-        (subscriptions-of x (now (region .entry)))) (now (region .exit)) (now (out .entry)) at r (now (out .exit)) ⌝ }
+// To which kinds of notice it is subscribed.
+fn subscribed(region: &[u8]) -> [bool; KIND_COUNT]
+    requires { ⌜ Good (now region) ⌝ }
+    ensures { λ r. ⌜ r ≡ map is-subscribed (subscriptions-in (now (region .entry))) ⌝ }
 {
-    let sub = session::subscription_of(x, kind);
-    let t = acknowledge_kind(region, out, at, s, kind, sub, settings);
-    let next = t.next;
-    store(region, session::with_subscription(x, kind, next));
-    t.at
+    let mut known = [false; KIND_COUNT];
+    let mut kind = 0;
+    while kind < KIND_COUNT {
+        known[kind] = lane::is_subscribed(lane(region, kind));
+        kind += 1;
+    }
+    known
 }
 
-// What a decision does to the session, whose control is x, and the notice that it sends.
-fn carry_out(
-    region: &mut [u8],
-    out: &mut [u8],
-    at: usize,
-    s: u64,
-    settings: &[u8],
-    x: Session,
-    d: Decision,
-) -> usize
-    requires { ⌜ (at + copies-most kinds ≤ length (now out)) × (s < 256) × (length (now settings) ≡ settings-length) × Good (now region) ⌝ }
-    requires { ⌜ Storable x × Storable (after-so x d) × AcknowledgedIn (x .phase) d ⌝ }
-    ensures { λ r. ⌜ (r ≤ at + copies-most kinds) × Steps s
-        (carried-out (settings-of (now (settings .entry))) x
-        (notices-in identifiers (x .identifiers .held) (identifiers-area (now (region .entry))))
-        (notices-in tightenings (x .tightenings .held) (tightenings-area (now (region .entry)))) d) (now (region .exit))
-        (now (out .entry)) at r (now (out .exit)) ⌝ }
+// What the tests of a message look at.
+fn standing(region: &[u8], x: Session, granted: bool) -> Standing
+    requires { ⌜ Good (now region) ⌝ }
+    ensures { λ r. ⌜ standing-of r ≡ stood x «granted» (subscriptions-in (now (region .entry))) ⌝ }
+{
+    let phase = x.phase;
+    Standing {
+        started: is_started(phase),
+        granted,
+        subscribed: subscribed(region),
+    }
+}
+
+// An identifier is made known: what a data field says, padded right with spaces, is put in its place.
+fn announce(place: &mut [u8], data_field: &[u8])
+    requires { ⌜ (length (now place) ≡ identifier-length) × (length (now data_field) ≤ identifier-length) ⌝ }
+    ensures { λ _. ⌜ now (place .exit) ≡ padded identifier-length (now (data_field .entry)) ⌝ }
+{
+    let n = text::copy(data_field, place, 0);
+    text::fill(place, n, IDENTIFIER_LENGTH - n, b' ');
+}
+
+// The decision on a run of so many bytes, of which `run` are kept, to one that stands so.
+fn rule(x: Session, standing: Standing, run: &[u8], count: usize, place: &mut [u8]) -> Decision
+    requires { ⌜ (length (now run) ≤ run-kept) × (length (now place) ≡ identifier-length) ⌝ }
+    ensures { λ r. ⌜ Ruled x standing (record { kept = now (run .entry); count = count }) (now (place .entry)) r (now (place .exit)) ⌝ }
+{
+    let d = session::decide(x, standing, run, count);
+    if d.identifies {
+        announce(place, frame::data_field(run));
+    }
+    d
+}
+
+// What it held is gone, where it begins.
+fn let_go(region: &mut [u8], begins: bool)
+    requires { ⌜ Good (now region) ⌝ }
+    ensures { λ _. ⌜ Changes (now (region .entry)) (head-of (head-area (now (region .entry)))) (run-of (run-area (now (region .entry))))
+        (cond begins no-subscriptions (subscriptions-in (now (region .entry)))) (now (region .exit)) ⌝ }
+{
+    if !begins {
+        return;
+    }
+    clear_lanes(region);
+}
+
+// What a decision does to the session: whether a copy of the notice of its kind that is then open is due.
+fn carry_out(region: &mut [u8], d: Decision) -> bool
+    requires { ⌜ Good (now region) × (d .kind < length kinds) × (d .next .idle < idle-limit) ⌝ }
+    ensures { λ r. ⌜ CarriesOut d (now (region .entry)) r (now (region .exit)) ⌝ }
 {
     clear_run(region);
-    let Decision::Acknowledge { kind } = d else {
-        store(region, session::after(x, d));
-        return at;
-    };
-    acknowledged(region, out, at, s, settings, session::heard(x), kind)
+    let_go(region, d.begins);
+    let next = d.next;
+    store(region, next);
+    let deed = d.deed;
+    deal(region, d.kind, deed)
 }
 
-// Whether identifiers are taken over the net.
-fn is_granted(settings: &[u8]) -> bool
-    requires { ⌜ length (now settings) ≡ settings-length ⌝ }
-    ensures { λ r. ⌜ r ≡ settings-of (now (settings .entry)) .granted ⌝ }
-{
-    text::little(settings, 3, 1) == 1
-}
-
-// The identifier that a decision makes known, if it does, in its place.
-fn announce(place: &mut [u8], data_field: &[u8], d: Decision) -> bool
-    requires { ⌜ (length (now place) ≡ identifier-length) × (length (now data_field) ≤ identifier-length) ⌝ }
-    ensures { λ r. ⌜ Knows (announced d (now (data_field .entry))) (now (place .entry)) r (now (place .exit)) ⌝ }
-{
-    let Decision::Identify { mid: _ } = d else {
-        return false;
-    };
-    let n = text::copy(data_field, place, 0);
-    text::fill(place, n, 25 - n, b' ');
-    true
-}
-
-// What a run comes to, the place behind the reply, and whether an identifier is made known.
-struct Ruling {
-    decision: Decision,
-    at: usize,
-    identified: bool,
-}
-
-// A run of so many bytes, of which `run` are kept, is at its end.
-fn rule(
-    out: &mut [u8],
-    at: usize,
-    s: u64,
-    settings: &[u8],
-    x: Session,
-    run: &[u8],
-    count: usize,
-    place: &mut [u8],
-) -> Ruling
-    requires { ⌜ (at + reply-most ≤ length (now out)) × (s < 256) × (length (now settings) ≡ settings-length)
-        × (length (now run) ≤ run-kept)
-        × (length (now place) ≡ identifier-length) ⌝ }
-    ensures { λ r. ⌜ Ruled s (settings-of (now (settings .entry))) x (record { kept = now (run .entry); count = count })
-        (now (out .entry)) at (now (place .entry)) (r .decision) (r .at) (r .identified) (now (out .exit)) (now (place .exit)) ⌝ }
-{
-    let decision = session::decide(x, is_granted(settings), run, count);
-    let data_field = frame::data_field(run);
-    let identified = announce(place, data_field, decision);
-    let next = reply(out, at, s, settings, run, decision);
-    Ruling {
-        decision,
-        at: next,
-        identified,
-    }
-}
-
-// A run that is kept is at its end.
-fn rule_kept(
-    region: &[u8],
-    out: &mut [u8],
-    at: usize,
-    s: u64,
-    settings: &[u8],
-    x: Session,
-    place: &mut [u8],
-) -> Ruling
-    requires { ⌜ (at + reply-most ≤ length (now out)) × (s < 256) × (length (now settings) ≡ settings-length) × Good (now region)
-        × (length (now place) ≡ identifier-length) ⌝ }
-    ensures { λ r. ⌜ Ruled s (settings-of (now (settings .entry))) x (run-of (run-area (now (region .entry)))) (now (out .entry)) at
-        (now (place .entry)) (r .decision) (r .at) (r .identified) (now (out .exit)) (now (place .exit)) ⌝ }
-{
-    let area = &region[32..80];
-    rule(
-        out,
-        at,
-        s,
-        settings,
-        x,
-        run::kept(area),
-        run::count(area),
-        place,
-    )
-}
-
-// What came of received bytes: the place behind what went out, and whether an identifier was made known, which is then in its place.
-pub struct Received {
-    pub at: usize,
+// What the end of a run leaves to say: the reply, whose header, if it is one that was received, stands in the slice that is lent or in the
+// region; of that kind a copy of the open notice, where it is due; and the identifier that is made known, if one is, to all.
+pub struct Ended {
+    pub whole: bool,
+    pub reply: Reply,
+    pub kind: usize,
+    pub sends: bool,
     pub identified: bool,
 }
 
+fn left_to_say(d: Decision, whole: bool, sends: bool) -> Ended
+    ensures { λ r. ⌜ r ≡ ended-by d «whole» «sends» ⌝ }
+{
+    let reply = d.reply;
+    Ended {
+        whole,
+        reply,
+        kind: d.kind,
+        sends,
+        identified: d.identifies,
+    }
+}
+
 // A run ends that stands whole in the slice: it is read there.
-fn end_whole(
-    region: &mut [u8],
-    out: &mut [u8],
-    at: usize,
-    s: u64,
-    settings: &[u8],
-    bytes: &[u8],
-    place: &mut [u8],
-) -> Received
-    requires { ⌜ (at + session-most ≤ length (now out)) × (s < 256) × (length (now settings) ≡ settings-length) × Good (now region)
-        × (length (now place) ≡ identifier-length) × (run-of (run-area (now region)) ≡ empty-run) ⌝ }
-    ensures { λ r. ⌜ Hears s (settings-of (now (settings .entry))) (ending (now (bytes .entry))) (now (region .entry))
-        (now (out .entry)) at (now (place .entry)) (r .at) (r .identified) (now (region .exit)) (now (out .exit)) (now (place .exit)) ⌝ }
+fn end_whole(region: &mut [u8], granted: bool, bytes: &[u8], place: &mut [u8]) -> Ended
+    requires { ⌜ Good (now region) × (length (now place) ≡ identifier-length) × (run-of (run-area (now region)) ≡ empty-run) ⌝ }
+    ensures { λ r. ⌜ RunEnds «granted» (now (bytes .entry)) (now (region .entry)) (now (place .entry)) r (now (region .exit))
+        (now (place .exit)) ⌝ }
 {
     let x = load(region);
-    let r = rule(
-        out,
-        at,
-        s,
-        settings,
+    let d = rule(
         x,
+        standing(region, x, granted),
         run::kept_of(bytes),
         run::count_of(bytes),
         place,
     );
-    let d = r.decision;
-    let next = carry_out(region, out, r.at, s, settings, x, d);
-    Received {
-        at: next,
-        identified: r.identified,
-    }
+    let sends = carry_out(region, d);
+    left_to_say(d, true, sends)
+}
+
+// The decision on a run that is kept.
+fn rule_kept(region: &[u8], x: Session, standing: Standing, place: &mut [u8]) -> Decision
+    requires { ⌜ Good (now region) × (length (now place) ≡ identifier-length) ⌝ }
+    ensures { λ r. ⌜ Ruled x standing (run-of (run-area (now (region .entry)))) (now (place .entry)) r (now (place .exit)) ⌝ }
+{
+    let area = &region[RUN_AT..RUN_END];
+    rule(x, standing, run::kept(area), run::count(area), place)
 }
 
 // A run ends that began in earlier slices: it is read where it is kept.
-fn end_kept(
-    region: &mut [u8],
-    out: &mut [u8],
-    at: usize,
-    s: u64,
-    settings: &[u8],
-    bytes: &[u8],
-    place: &mut [u8],
-) -> Received
-    requires { ⌜ (at + session-most ≤ length (now out)) × (s < 256) × (length (now settings) ≡ settings-length) × Good (now region)
-        × (length (now place) ≡ identifier-length) ⌝ }
-    ensures { λ r. ⌜ Hears s (settings-of (now (settings .entry))) (ending (now (bytes .entry))) (now (region .entry))
-        (now (out .entry)) at (now (place .entry)) (r .at) (r .identified) (now (region .exit)) (now (out .exit)) (now (place .exit)) ⌝ }
+fn end_kept(region: &mut [u8], granted: bool, place: &mut [u8]) -> Ended
+    requires { ⌜ Good (now region) × (length (now place) ≡ identifier-length) ⌝ }
+    ensures { λ r. ⌜ (r .whole ≡ false) × RunEnds «granted» [] (now (region .entry)) (now (place .entry)) r (now (region .exit))
+        (now (place .exit)) ⌝ }
 {
-    lengthen(region, bytes);
     let x = load(region);
-    let r = rule_kept(region, out, at, s, settings, x, place);
-    let d = r.decision;
-    let next = carry_out(region, out, r.at, s, settings, x, d);
-    Received {
-        at: next,
-        identified: r.identified,
-    }
+    let d = rule_kept(region, x, standing(region, x, granted), place);
+    let sends = carry_out(region, d);
+    left_to_say(d, false, sends)
 }
 
-// A run ends.
-fn end_run(
-    region: &mut [u8],
-    out: &mut [u8],
-    at: usize,
-    s: u64,
-    settings: &[u8],
-    bytes: &[u8],
-    place: &mut [u8],
-) -> Received
-    requires { ⌜ (at + session-most ≤ length (now out)) × (s < 256) × (length (now settings) ≡ settings-length) × Good (now region)
-        × (length (now place) ≡ identifier-length) ⌝ }
-    ensures { λ r. ⌜ Hears s (settings-of (now (settings .entry))) (ending (now (bytes .entry))) (now (region .entry))
-        (now (out .entry)) at (now (place .entry)) (r .at) (r .identified) (now (region .exit)) (now (out .exit)) (now (place .exit)) ⌝ }
+// The bytes end a run, where identifiers over the net are granted or not. An identifier that is made known is put in `place`.
+pub fn end_run(region: &mut [u8], granted: bool, bytes: &[u8], place: &mut [u8]) -> Ended
+    requires { ⌜ Good (now region) × (length (now place) ≡ identifier-length) ⌝ }
+    ensures { λ r. ⌜ RunEnds «granted» (now (bytes .entry)) (now (region .entry)) (now (place .entry)) r (now (region .exit))
+        (now (place .exit)) ⌝ }
 {
-    if run::count(&region[32..80]) == 0 {
-        return end_whole(region, out, at, s, settings, bytes, place);
-    }
-    end_kept(region, out, at, s, settings, bytes, place)
-}
-
-// Received bytes, which are read up to `end`, to session s. An identifier that they make known is put in `place`.
-pub fn receive(
-    region: &mut [u8],
-    out: &mut [u8],
-    at: usize,
-    s: u64,
-    settings: &[u8],
-    bytes: &[u8],
-    end: usize,
-    place: &mut [u8],
-) -> Received
-    requires { ⌜ (at + session-most ≤ length (now out)) × (s < 256) × (length (now settings) ≡ settings-length) × Good (now region)
-        × (length (now place) ≡ identifier-length) × Ends (now bytes) end ⌝ }
-    ensures { λ r. ⌜ Hears s (settings-of (now (settings .entry))) (cut (now (bytes .entry))) (now (region .entry)) (now (out .entry)) at
-        (now (place .entry)) (r .at) (r .identified) (now (region .exit)) (now (out .exit)) (now (place .exit)) ⌝ }
-{
-    if end < bytes.len() {
-        return end_run(region, out, at, s, settings, &bytes[0..end], place);
+    if run::count(&region[RUN_AT..RUN_END]) == 0 {
+        return end_whole(region, granted, bytes, place);
     }
     lengthen(region, bytes);
-    Received {
-        at,
-        identified: false,
-    }
+    end_kept(region, granted, place)
 }

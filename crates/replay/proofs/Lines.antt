@@ -10,6 +10,7 @@ use lib.Seq.{length-take-le}
 use borrow.Author.Tests.{eq-eqb, ne-eqb, eqb-true, eqb-false}
 use Rattle.model.specs.Bytes.{space, little, digits}
 use Rattle.model.specs.Program.{shown, printed}
+use Rattle.model.specs.Records.{record-head}
 use Rattle.text.proofs.Lists.{drop-next}
 use Rattle.controller.specs.declared.Answer.{Answer}
 use Rattle.replay.specs.Lines.{line-in, lines-in, text-of}
@@ -25,33 +26,34 @@ shown-length [] = refl
 shown-length (b ∷ l) = ap suc (shown-length l)
 
 module _ (slice : List ℕ) (n : ℕ) (e : n ≡ little (take 1 (drop 2 slice))) where
-  pub close-line : length slice ≡ 4 → digits 1 n ++ space ∷ 0x43 ∷ 0x0A ∷ [] ≡ line-in slice ++ 0x0A ∷ []
+  pub close-line : length slice ≡ record-head → digits 1 n ++ space ∷ 0x43 ∷ 0x0A ∷ [] ≡ line-in slice ++ 0x0A ∷ []
   unfolding line-in digits
-  close-line h = rw (eq-eqb (length slice) 4 h, e)
+  close-line h = rw (eq-eqb (length slice) record-head h, e)
 
-  pub frame-line : (m : ℕ) → m ≡ length slice - 5 → (length slice ≡ 4 → ⊥)
-      → ((digits 1 n ++ space ∷ 0x53 ∷ space ∷ []) ++ shown (take m (drop 4 slice))) ++ 0x0A ∷ [] ≡ line-in slice ++ 0x0A ∷ []
+  pub frame-line : (m : ℕ) → m ≡ length slice - suc record-head → (length slice ≡ record-head → ⊥)
+      → ((digits 1 n ++ space ∷ 0x53 ∷ space ∷ []) ++ shown (take m (drop record-head slice))) ++ 0x0A ∷ [] ≡ line-in slice ++ 0x0A ∷ []
   unfolding line-in digits
-  frame-line m k h = rw (ne-eqb (length slice) 4 h, e, k)
+  frame-line m k h = rw (ne-eqb (length slice) record-head h, e, k)
 
 -- a line is as long as its record
-pub line-length : (slice : List ℕ) → 4 ≤ length slice → length (line-in slice ++ 0x0A ∷ []) ≡ length slice
+pub line-length : (slice : List ℕ) → record-head ≤ length slice → length (line-in slice ++ 0x0A ∷ []) ≡ length slice
 unfolding line-in digits
-line-length slice h = go (eqb (length slice) 4) refl
+line-length slice h = go (eqb (length slice) record-head) refl
   where
-    go : (b : Bool) → eqb (length slice) 4 ≡ b → length (line-in slice ++ 0x0A ∷ []) ≡ length slice
-    go true e = rw e (sym (eqb-true (length slice) 4 e))
+    go : (b : Bool) → eqb (length slice) record-head ≡ b → length (line-in slice ++ 0x0A ∷ []) ≡ length slice
+    go true e = rw e (sym (eqb-true (length slice) record-head e))
     go false e =
-        let ne = eqb-false (length slice) 4 e in
-        let frame = take (length slice - 5) (drop 4 slice) in
-        let d = length-drop 4 slice in
-        let n : length frame ≡ length slice - 5 = length-take-le (length slice - 5) (drop 4 slice) (omega arith) in
+        let ne = eqb-false (length slice) record-head e in
+        let frame = take (length slice - suc record-head) (drop record-head slice) in
+        let d = length-drop record-head slice in
+        let n : length frame ≡ length slice - suc record-head =
+        length-take-le (length slice - suc record-head) (drop record-head slice) (omega arith) in
         let a = length-append (shown frame) (0x0A ∷ []) in
         let k = shown-length frame in
-        let five : 5 ≤ length slice = over ne in
+        let five : record-head < length slice = over ne in
         rw e (omega arith)
       where
-        over : (length slice ≡ 4 → ⊥) → 5 ≤ length slice
+        over : (length slice ≡ record-head → ⊥) → record-head < length slice
         over ne = omega (arith, ne, h)
 
 -- the first record's line, and then the others

@@ -12,6 +12,7 @@ use borrow.Author.Tests.{leb-true}
 use Rattle.model.specs.Limits.{table-least, payload-longest}
 use Rattle.model.specs.Bytes.{little, places}
 use Rattle.model.specs.Program.{State, zeros, given, all-given, program, printed}
+use Rattle.model.specs.Records.{record-head}
 use Rattle.text.proofs.Lists.{take-sets, drop-take}
 use Rattle.table.specs.Table.{table-formed}
 use Rattle.shared.specs.Shared.{shared-formed}
@@ -24,19 +25,19 @@ use Rattle.replay.proofs.Records.{waits-next, waits-none}
 -- ==== a record that is whole stays the first, whatever comes behind
 
 record Is-whole (bs : List ℕ) : Type 0 where
-  pub size : whole-size bs ≡ 4 + little (places 1 2 bs)
+  pub size : whole-size bs ≡ record-head + little (places 1 2 bs)
   pub short : little (places 1 2 bs) ≤ payload-longest
-  pub fits : 4 + little (places 1 2 bs) ≤ length bs
+  pub fits : record-head + little (places 1 2 bs) ≤ length bs
 
 is-whole : (bs : List ℕ) → 0 < whole-size bs → Is-whole bs
 unfolding whole-size
-is-whole bs h = go (leb 4 (length bs)) (leb n payload-longest) (leb (4 + n) (length bs)) refl refl refl h
+is-whole bs h = go (leb record-head (length bs)) (leb n payload-longest) (leb (record-head + n) (length bs)) refl refl refl h
   where
     n : ℕ
     n = little (places 1 2 bs)
 
-    go : (a b c : Bool) → leb 4 (length bs) ≡ a → leb n payload-longest ≡ b → leb (4 + n) (length bs) ≡ c
-        → 0 < cond (a && b && c) (4 + n) 0 → Is-whole bs
+    go : (a b c : Bool) → leb record-head (length bs) ≡ a → leb n payload-longest ≡ b → leb (record-head + n) (length bs) ≡ c
+        → 0 < cond (a && b && c) (record-head + n) 0 → Is-whole bs
     go true true true p q r z = record {
       size = rw (p, q, r);
       short = leb-true _ _ q;
@@ -53,7 +54,7 @@ size-append xs ys h =
     let short = w .short in
     let n : little (places 1 2 (xs ++ ys)) ≡ little (places 1 2 xs) = ap little (take-append-le 2 xs ys (omega arith)) in
     let a = length-append xs ys in
-    sym (size-whole (xs ++ ys) (omega arith) (omega arith)) ∙ ap (λ (k : ℕ). 4 + k) n ∙ sym (w .size)
+    sym (size-whole (xs ++ ys) (omega arith) (omega arith)) ∙ ap (λ (k : ℕ). record-head + k) n ∙ sym (w .size)
 
 -- ==== what waits is the end of the input
 

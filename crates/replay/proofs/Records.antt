@@ -10,7 +10,8 @@ use lib.Seq.{length-take-le, drop-drop}
 use borrow.Author.Tests.{ne-eqb, lt-leb}
 use Rattle.model.specs.Bytes.{within, little, places}
 use Rattle.model.specs.Calls.{Call, start, open-session, hang-up-session, bytes, one-tick, tool}
-use Rattle.model.specs.Program.{State, called, fed, call-of, given, all-given}
+use Rattle.model.specs.Program.{State, called, fed, call-of, given, all-given, bytes-kind, is-of}
+use Rattle.model.specs.Records.{record-head}
 use Rattle.replay.specs.Whole.{whole-size, records, waits}
 use Rattle.replay.specs.States.{Follows}
 use Rattle.replay.proofs.Sizes.{slices-first, slices-none}
@@ -23,15 +24,19 @@ module _ (x : State) (slice : List ℕ) (kind : ℕ) (k : kind ≡ little (place
   -- a record of that kind: received bytes, or another call
   abbrev by-kind : Bool → ℕ → State
   by-kind b n =
-      elim b [ true ↦ fed (suc (length (drop 4 slice))) x (n - 48) (drop 4 slice) | false ↦ called x (call-of n slice) ]
+      elim b [
+        | true ↦ fed (suc (length (drop record-head slice))) x (n - bytes-kind) (drop record-head slice)
+        | false ↦ called x (call-of n slice)
+      ]
 
-  as-given : (b : Bool) → within 48 63 kind ≡ b → by-kind b kind ≡ given x slice
-  as-given b e = ap (λ (c : Bool). by-kind c kind) (sym e) ∙ ap (λ (n : ℕ). by-kind (within 48 63 n) n) k
+  as-given : (b : Bool) → is-of bytes-kind kind ≡ b → by-kind b kind ≡ given x slice
+  as-given b e = ap (λ (c : Bool). by-kind c kind) (sym e) ∙ ap (λ (n : ℕ). by-kind (is-of bytes-kind n) n) k
 
-  pub given-bytes : (bs : List ℕ) → within 48 63 kind ≡ true → bs ≡ drop 4 slice → fed (suc (length bs)) x (kind - 48) bs ≡ given x slice
-  given-bytes bs e d = ap (λ (l : List ℕ). fed (suc (length l)) x (kind - 48) l) d ∙ as-given true e
+  pub given-bytes : (bs : List ℕ) → is-of bytes-kind kind ≡ true → bs ≡ drop record-head slice
+      → fed (suc (length bs)) x (kind - bytes-kind) bs ≡ given x slice
+  given-bytes bs e d = ap (λ (l : List ℕ). fed (suc (length l)) x (kind - bytes-kind) l) d ∙ as-given true e
 
-  pub given-call : within 48 63 kind ≡ false → called x (call-of kind slice) ≡ given x slice
+  pub given-call : is-of bytes-kind kind ≡ false → called x (call-of kind slice) ≡ given x slice
   given-call e = as-given false e
 
 -- ==== the records of an input

@@ -10,57 +10,61 @@ use borrow.Author.Tests.{le-leb, lt-leb, ltb-true, ltb-false}
 use Rattle.model.specs.Limits.{payload-longest}
 use Rattle.model.specs.Bytes.{little, places}
 use Rattle.model.specs.Program.{slices}
+use Rattle.model.specs.Records.{record-head}
 use Rattle.replay.specs.Whole.{whole-size, too-long}
 
 module _ (bs : List ℕ) where
   abbrev payload : ℕ
   payload = little (places 1 2 bs)
 
-  pub size-cut : length bs < 4 → 0 ≡ whole-size bs
+  pub size-cut : length bs < record-head → 0 ≡ whole-size bs
   unfolding whole-size
-  size-cut h = rw (lt-leb 4 (length bs) h)
+  size-cut h = rw (lt-leb record-head (length bs) h)
 
   pub size-too-long : payload-longest < payload → 0 ≡ whole-size bs
   unfolding whole-size
-  size-too-long h = go (leb 4 (length bs)) (lt-leb payload payload-longest h)
+  size-too-long h = go (leb record-head (length bs)) (lt-leb payload payload-longest h)
     where
       go : (b : Bool) → leb payload payload-longest ≡ false
-          → 0 ≡ cond (b && leb payload payload-longest && leb (4 + payload) (length bs)) (4 + payload) 0
+          → 0 ≡ cond (b && leb payload payload-longest && leb (record-head + payload) (length bs)) (record-head + payload) 0
       go true e = rw e
       go false e = refl
 
-  pub size-missing : length bs < 4 + payload → 0 ≡ whole-size bs
+  pub size-missing : length bs < record-head + payload → 0 ≡ whole-size bs
   unfolding whole-size
-  size-missing h = go (leb 4 (length bs)) (leb payload payload-longest) (lt-leb (4 + payload) (length bs) h)
+  size-missing h = go (leb record-head (length bs)) (leb payload payload-longest) (lt-leb (record-head + payload) (length bs) h)
     where
-      go : (b d : Bool) → leb (4 + payload) (length bs) ≡ false → 0 ≡ cond (b && d && leb (4 + payload) (length bs)) (4 + payload) 0
+      go : (b d : Bool) → leb (record-head + payload) (length bs) ≡ false
+          → 0 ≡ cond (b && d && leb (record-head + payload) (length bs)) (record-head + payload) 0
       go true true e = rw e
       go true false e = refl
       go false d e = refl
 
-  pub size-whole : payload ≤ payload-longest → 4 + payload ≤ length bs → 4 + payload ≡ whole-size bs
+  pub size-whole : payload ≤ payload-longest → record-head + payload ≤ length bs → record-head + payload ≡ whole-size bs
   unfolding whole-size
-  size-whole h g = rw (le-leb 4 (length bs) (omega arith), le-leb payload payload-longest h, le-leb (4 + payload) (length bs) g)
+  size-whole h g =
+      rw (le-leb record-head (length bs) (omega arith), le-leb payload payload-longest h, le-leb (record-head + payload) (length bs) g)
 
   -- ==== a whole record, and what follows it
 
   pub slices-next : (m : ℕ) → 0 < whole-size bs → slices (suc m) bs ≡ take (whole-size bs) bs ∷ slices m (drop (whole-size bs) bs)
   unfolding whole-size
-  slices-next m h = go (leb 4 (length bs) && leb payload payload-longest && leb (4 + payload) (length bs)) h
+  slices-next m h = go (leb record-head (length bs) && leb payload payload-longest && leb (record-head + payload) (length bs)) h
     where
-      go : (b : Bool) → 0 < cond b (4 + payload) 0
-          → elim b [ true ↦ take (4 + payload) bs ∷ slices m (drop (4 + payload) bs) | false ↦ [] ]
-          ≡ take (cond b (4 + payload) 0) bs ∷ slices m (drop (cond b (4 + payload) 0) bs)
+      go : (b : Bool) → 0 < cond b (record-head + payload) 0
+          → elim b [ true ↦ take (record-head + payload) bs ∷ slices m (drop (record-head + payload) bs) | false ↦ [] ]
+          ≡ take (cond b (record-head + payload) 0) bs ∷ slices m (drop (cond b (record-head + payload) 0) bs)
       go true h = refl
       go false h = absurd (omega arith)
 
   pub slices-none : (m : ℕ) → whole-size bs ≡ 0 → slices m bs ≡ []
   unfolding whole-size
   slices-none zero e = refl
-  slices-none (suc m) e = go (leb 4 (length bs) && leb payload payload-longest && leb (4 + payload) (length bs)) e
+  slices-none (suc m) e = go (leb record-head (length bs) && leb payload payload-longest && leb (record-head + payload) (length bs)) e
     where
-      go : (b : Bool) → cond b (4 + payload) 0 ≡ 0
-          → _≡_ {A = List (List ℕ)} (elim b [ true ↦ take (4 + payload) bs ∷ slices m (drop (4 + payload) bs) | false ↦ [] ]) []
+      go : (b : Bool) → cond b (record-head + payload) 0 ≡ 0
+          → _≡_ {A = List (List ℕ)}
+          (elim b [ true ↦ take (record-head + payload) bs ∷ slices m (drop (record-head + payload) bs) | false ↦ [] ]) []
       go true e = absurd (omega arith)
       go false e = refl
 
@@ -92,13 +96,13 @@ slices-first bs size e h =
     (slices-enough (length bs) (suc (length bs)) bs (omega arith) (omega arith) ∙ slices-next bs (length bs) p
     ∙ ap (λ (ss : List (List ℕ)). take (whole-size bs) bs ∷ ss) (slices-enough (length bs) (length rest) rest (omega arith) (omega arith)))
 
-pub is-short : (bs : List ℕ) → length bs < 4 → false ≡ too-long bs
+pub is-short : (bs : List ℕ) → length bs < record-head → false ≡ too-long bs
 unfolding too-long
-is-short bs h = rw (lt-leb 4 (length bs) h)
+is-short bs h = rw (lt-leb record-head (length bs) h)
 
-pub is-long : (bs : List ℕ) (n : ℕ) → n ≡ little (places 1 2 bs) → 4 ≤ length bs → ltb payload-longest n ≡ too-long bs
+pub is-long : (bs : List ℕ) (n : ℕ) → n ≡ little (places 1 2 bs) → record-head ≤ length bs → ltb payload-longest n ≡ too-long bs
 unfolding too-long
-is-long bs n e h = rw (le-leb 4 (length bs) h, ← e) (go (ltb payload-longest n) refl)
+is-long bs n e h = rw (le-leb record-head (length bs) h, ← e) (go (ltb payload-longest n) refl)
   where
     go : (t : Bool) → ltb payload-longest n ≡ t → t ≡ not (leb n payload-longest)
     go true q = rw (lt-leb n payload-longest (ltb-true payload-longest n q))

@@ -1,6 +1,6 @@
 -- 01, "Counted and compared": what a call has the program print are the model's lines for it. Assumes nothing.
 use mathlib.Core.Path.{_≡_, refl, sym, ap, ap₂, _∙_}
-use Prim.Native.Nat.{ℕ, _+_, _-_, _%_, _≤_, _<_}
+use Prim.Native.Nat.{ℕ, suc, _+_, _-_, _%_, _≤_, _<_}
 use native.Mathlib.Omega.{arith}
 use mathlib.Core.Bool.{Bool, cond}
 use mathlib.Core.List.{List, [], _∷_, _++_, map}
@@ -11,7 +11,7 @@ use borrow.Author.Tests.{ne-eqb}
 use Rattle.model.specs.Limits.{session-count, output-least}
 use Rattle.model.specs.Bytes.{NUL, space, digits, in-bytes, little, places}
 use Rattle.model.specs.Frames.{frame-record, close-record}
-use Rattle.model.specs.Records.{house-record}
+use Rattle.model.specs.Records.{house-record, record-head}
 use Rattle.model.specs.Session.{Emission, reply, copy, close}
 use Rattle.model.specs.Calls.{Call, output-record, output, step}
 use Rattle.model.specs.Calls as model
@@ -30,7 +30,7 @@ use Rattle.replay.proofs.Sizes.{size-whole, slices-first}
 
 -- ==== a record, and more behind it
 
-record-length : (kind : ℕ) (payload : List ℕ) → length (house-record kind payload) ≡ 4 + length payload
+record-length : (kind : ℕ) (payload : List ℕ) → length (house-record kind payload) ≡ record-head + length payload
 unfolding in-bytes
 record-length kind payload = omega arith
 
@@ -45,7 +45,7 @@ record-size kind payload more few =
     let b = record-length kind payload in
     let n = announced kind payload more (omega arith) in
     let a = length-append (house-record kind payload) more in
-    b ∙ ap (λ (k : ℕ). 4 + k) (sym n) ∙ size-whole (house-record kind payload ++ more) (omega arith) (omega arith)
+    b ∙ ap (λ (k : ℕ). record-head + k) (sym n) ∙ size-whole (house-record kind payload ++ more) (omega arith) (omega arith)
 
 -- ==== its line
 
@@ -53,16 +53,18 @@ session-in : (s kind : ℕ) (payload : List ℕ) → kind % 256 ≡ s → digits
 unfolding in-bytes
 session-in s kind payload e = ap (digits 1) (omega arith)
 
-frame-length : (s : ℕ) (frame : List ℕ) → length (frame-record s frame) ≡ 5 + length frame
+frame-length : (s : ℕ) (frame : List ℕ) → length (frame-record s frame) ≡ suc record-head + length frame
 unfolding frame-record
 frame-length s frame =
     let n = length-append frame (NUL ∷ []) in
     let m = record-length (256 + s) (frame ++ NUL ∷ []) in
     omega arith
 
-frame-body : (s : ℕ) (frame : List ℕ) → take (length (frame-record s frame) - 5) (drop 4 (frame-record s frame)) ≡ frame
+frame-body : (s : ℕ) (frame : List ℕ)
+    → take (length (frame-record s frame) - suc record-head) (drop record-head (frame-record s frame)) ≡ frame
 unfolding frame-record in-bytes
-frame-body s frame = let n = frame-length s frame in take-at frame (NUL ∷ []) (length (frame-record s frame) - 5) (omega arith)
+frame-body s frame =
+    let n = frame-length s frame in take-at frame (NUL ∷ []) (length (frame-record s frame) - suc record-head) (omega arith)
 
 frame-session : (s : ℕ) (frame : List ℕ) → s < session-count → digits 1 (little (places 3 3 (frame-record s frame))) ≡ digits 1 s
 unfolding frame-record
@@ -77,7 +79,8 @@ frame-line s frame h =
     let d = digits 1 (little (places 3 3 r)) in
     let closing : List ℕ = space ∷ 0x43 ∷ [] in
     let sending : List ℕ = space ∷ 0x53 ∷ space ∷ [] in
-    ap (λ (b : Bool). d ++ cond b closing (sending ++ shown (take (length r - 5) (drop 4 r)))) (ne-eqb (length r) 4 (λ e. omega arith))
+    ap (λ (b : Bool). d ++ cond b closing (sending ++ shown (take (length r - suc record-head) (drop record-head r))))
+    (ne-eqb (length r) record-head (λ e. omega arith))
     ∙ ap (λ (l : List ℕ). d ++ sending ++ shown l) (frame-body s frame)
     ∙ ap (λ (x : List ℕ). x ++ sending ++ shown frame) (frame-session s frame h)
 

@@ -13,7 +13,8 @@ use Rattle.model.specs.Bytes.{within}
 use Rattle.model.specs.Runs.{cut, consumed-by}
 use Rattle.model.specs.World.{World}
 use Rattle.model.specs.Calls.{Call, start, open-session, hang-up-session, bytes, one-tick, tool, does, answered, output, refusal, step}
-use Rattle.model.specs.Program.{call-of}
+use Rattle.model.specs.Program.{call-of, open-kind, hang-up-kind, bytes-kind, tick-kind, session-greatest, is-of}
+use Rattle.model.specs.Records.{settings-kind}
 use Rattle.model.proofs.Cuts.{consumes}
 use Rattle.table.specs.Table.{decode}
 use Rattle.refusal.specs.Numbers.{number}
@@ -23,27 +24,29 @@ use Rattle.controller.proofs.Outputs.{so-long, stands}
 
 -- ==== the call of a record
 
-pub at-least : (least greatest n : ℕ) → within least greatest n ≡ true → least ≤ n
-at-least least greatest n e = leb-true least n (and-eq-true-iff (leb least n) (leb n greatest) .0 e .0)
+pub at-least : (least n : ℕ) → is-of least n ≡ true → least ≤ n
+at-least least n e = leb-true least n (and-eq-true-iff (leb least n) (leb n (least + session-greatest)) .0 e .0)
 
 module _ (kind : ℕ) (slice : List ℕ) where
-  start-call : kind ≡ 3 → start slice ≡ call-of kind slice
-  start-call e = rw (eq-eqb kind 3 e)
+  start-call : kind ≡ settings-kind → start slice ≡ call-of kind slice
+  start-call e = rw (eq-eqb kind settings-kind e)
 
-  pub open-call : (kind ≡ 3 → ⊥) → within 16 31 kind ≡ true → open-session (kind - 16) ≡ call-of kind slice
-  open-call h e = rw (ne-eqb kind 3 h, e)
+  pub open-call : (kind ≡ settings-kind → ⊥) → is-of open-kind kind ≡ true → open-session (kind - open-kind) ≡ call-of kind slice
+  open-call h e = rw (ne-eqb kind settings-kind h, e)
 
-  pub hang-up-call : (kind ≡ 3 → ⊥) → within 16 31 kind ≡ false → within 32 47 kind ≡ true
-      → hang-up-session (kind - 32) ≡ call-of kind slice
-  hang-up-call h e f = rw (ne-eqb kind 3 h, e, f)
+  pub hang-up-call : (kind ≡ settings-kind → ⊥) → is-of open-kind kind ≡ false → is-of hang-up-kind kind ≡ true
+      → hang-up-session (kind - hang-up-kind) ≡ call-of kind slice
+  hang-up-call h e f = rw (ne-eqb kind settings-kind h, e, f)
 
-  pub tick-call : (kind ≡ 3 → ⊥) → within 16 31 kind ≡ false → within 32 47 kind ≡ false → within 48 63 kind ≡ false → kind ≡ 64
+  pub tick-call : (kind ≡ settings-kind → ⊥) → is-of open-kind kind ≡ false → is-of hang-up-kind kind ≡ false
+      → is-of bytes-kind kind ≡ false → kind ≡ tick-kind
       → one-tick ≡ call-of kind slice
-  tick-call h e f g k = rw (ne-eqb kind 3 h, e, f, g, eq-eqb kind 64 k)
+  tick-call h e f g k = rw (ne-eqb kind settings-kind h, e, f, g, eq-eqb kind tick-kind k)
 
-  pub tool-call : (kind ≡ 3 → ⊥) → within 16 31 kind ≡ false → within 32 47 kind ≡ false → within 48 63 kind ≡ false → (kind ≡ 64 → ⊥)
+  pub tool-call : (kind ≡ settings-kind → ⊥) → is-of open-kind kind ≡ false → is-of hang-up-kind kind ≡ false
+      → is-of bytes-kind kind ≡ false → (kind ≡ tick-kind → ⊥)
       → tool slice ≡ call-of kind slice
-  tool-call h e f g k = rw (ne-eqb kind 3 h, e, f, g, ne-eqb kind 64 k)
+  tool-call h e f g k = rw (ne-eqb kind settings-kind h, e, f, g, ne-eqb kind tick-kind k)
 
 pub as-call : {c d : Call} {t o : List ℕ} {r : Answer} {t′ o′ : List ℕ} → c ≡ d → Outcome c t o r t′ o′ → Outcome d t o r t′ o′
 as-call {t = t} {o = o} {r = r} {t′ = t′} {o′ = o′} e out = subst (λ (x : Call). Outcome x t o r t′ o′) e out
@@ -53,7 +56,8 @@ nothing : (l : List ℕ) → length l ≡ 0 → [] ≡ l
 nothing [] e = refl
 nothing (x ∷ l) e = absurd (omega arith)
 
-pub started : {t o : List ℕ} {r : Answer} {t′ : List ℕ} (kind : ℕ) (slice : List ℕ) → kind ≡ 3 → Outcome (start slice) t [] r t′ []
+pub started : {t o : List ℕ} {r : Answer} {t′ : List ℕ} (kind : ℕ) (slice : List ℕ) → kind ≡ settings-kind
+    → Outcome (start slice) t [] r t′ []
     → Outcome (call-of kind slice) t o r t′ o
 unfolding step refusal
 started {t = t} {o = o} {r = r} kind slice e out =

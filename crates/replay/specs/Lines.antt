@@ -1,10 +1,11 @@
 -- 01, "Counted and compared": the lines that an output stands for, read off its bytes. Assumes nothing: these are definitions.
-use Prim.Native.Nat.{ℕ, _-_}
+use Prim.Native.Nat.{ℕ, suc, _-_}
 use mathlib.Core.Bool.{cond}
 use mathlib.Core.List.{List, [], _∷_, _++_, map}
 use lib.Dec.{eqb}
 use lib.ListN.{length, take, drop}
 use Rattle.model.specs.Bytes.{space, places, little, digits}
+use Rattle.model.specs.Records.{record-head}
 use Rattle.model.specs.Program.{shown, slices, printed}
 use Rattle.controller.specs.declared.Answer.{Answer}
 
@@ -13,7 +14,8 @@ use Rattle.controller.specs.declared.Answer.{Answer}
 unfoldable pub line-in : List ℕ → List ℕ
 line-in slice =
     digits 1 (little (places 3 3 slice))
-    ++ cond (eqb (length slice) 4) (space ∷ 0x43 ∷ []) ((space ∷ 0x53 ∷ space ∷ []) ++ shown (take (length slice - 5) (drop 4 slice)))
+    ++ cond (eqb (length slice) record-head) (space ∷ 0x43 ∷ [])
+    ((space ∷ 0x53 ∷ space ∷ []) ++ shown (take (length slice - suc record-head) (drop record-head slice)))
 
 -- the lines of the records in an output
 unfoldable pub lines-in : List ℕ → List (List ℕ)

@@ -7,7 +7,8 @@ ghost use Prim.Native.Nat.{suc, _+_, _≤_, _<_};
 ghost use lib.ListN.{length, take};
 ghost use Rattle.model.specs.Limits.{output-least};
 ghost use Rattle.model.specs.Bytes.{space, within};
-ghost use Rattle.model.specs.Program.{shown as shown-bytes, call-of, printed, fed, given as given-state, all-given};
+ghost use Rattle.model.specs.Records.{record-head};
+ghost use Rattle.model.specs.Program.{shown as shown-bytes, bytes-kind, is-of, call-of, printed, fed, given as given-state, all-given};
 ghost use Rattle.text.specs.Put.{Put};
 ghost use Rattle.controller.specs.Contract.{Outcome};
 ghost use Rattle.replay.specs.Lines.{line-in, lines-in, text-of};
@@ -15,9 +16,28 @@ ghost use Rattle.replay.specs.Whole.{whole-size, too-long, records, wait
 ghost use Rattle.replay.specs.States.{Lends, free-from, Behind, Follows, Turned, Ran};
 use controller::Answer;
 use model::OUTPUT_LEAST;
+use model::RECORD_HEAD;
+use model::SETTINGS_KIND;
 use model::TABLE_LEAST;
 
 const PAYLOAD_LONGEST: u64 = 8192;
+
+// The kinds of record that stand for the calls of a session, of session 0 and of the last one; and the kind of a tick.
+const SESSION_GREATEST: u64 = 15;
+
+const OPEN_KIND: u64 = 16;
+
+const OPEN_LAST: u64 = OPEN_KIND + SESSION_GREATEST;
+
+const HANG_UP_KIND: u64 = 32;
+
+const HANG_UP_LAST: u64 = HANG_UP_KIND + SESSION_GREATEST;
+
+const BYTES_KIND: u64 = 48;
+
+const BYTES_LAST: u64 = BYTES_KIND + SESSION_GREATEST;
+
+const TICK_KIND: u64 = 64;
 
 // ---- what it prints
 
@@ -42,18 +62,18 @@ fn shown(frame: &[u8], lines: &mut [u8], at: usize) -> usize
 
 // The line of an output record: a frame has a payload, the order to close has none.
 fn line(slice: &[u8], lines: &mut [u8], at: usize) -> usize
-    requires { ⌜ (4 ≤ length (now slice)) × (at + length (now slice) ≤ length (now lines)) ⌝ }
+    requires { ⌜ (record-head ≤ length (now slice)) × (at + length (now slice) ≤ length (now lines)) ⌝ }
     ensures { λ r. ⌜ Put (now (lines .entry)) at (line-in (now (slice .entry)) ++ 0x0A ∷ []) r (now (lines .exit))
         × (r ≡ at + length (now (slice .entry))) ⌝ }
 {
     let session = text::little(slice, 2, 1);
     let a = text::put_digits(lines, at, 1, session);
-    if slice.len() == 4 {
+    if slice.len() == RECORD_HEAD {
         return text::copy(b" C\n", lines, a);
     }
     let b = text::copy(b" S ", lines, a);
     let end = slice.len() - 1;
-    let c = shown(&slice[4..end], lines, b);
+    let c = shown(&slice[RECORD_HEAD..end], lines, b);
     text::copy(b"\n", lines, c)
 }
 
@@ -61,16 +81,16 @@ fn line(slice: &[u8], lines: &mut [u8], at: usize) -> usize
 
 // The size of the record that bytes begin with; 0 if there is no whole one, or one that is too long.
 fn whole(bytes: &[u8]) -> usize
-    ensures { λ r. ⌜ (r ≡ whole-size (now (bytes .entry))) × (r ≤ length (now (bytes .entry))) × (0 < r → 4 ≤ r) ⌝ }
+    ensures { λ r. ⌜ (r ≡ whole-size (now (bytes .entry))) × (r ≤ length (now (bytes .entry))) × (0 < r → record-head ≤ r) ⌝ }
 {
-    if bytes.len() < 4 {
+    if bytes.len() < RECORD_HEAD {
         return 0;
     }
     let payload = text::little(bytes, 0, 2);
     if payload > PAYLOAD_LONGEST {
         return 0;
     }
-    let size = 4 + payload as usize;
+    let size = RECORD_HEAD + payload as usize;
     if bytes.len() < size {
         return 0;
     }
@@ -180,20 +200,20 @@ fn feed(
 
 // The call that a record of any other kind stands for.
 fn call(table: &mut [u8], output: &mut [u8], kind: u64, slice: &[u8]) -> Answer
-    requires { ⌜ within 48 63 kind ≡ false ⌝ }
+    requires { ⌜ is-of bytes-kind kind ≡ false ⌝ }
     ensures { λ r. ⌜ Outcome (call-of kind (now (slice .entry))) (now (table .entry)) (now (output .entry)) r (now (table .exit))
         (now (output .exit)) ⌝ }
 {
-    if kind == 3 {
+    if kind == SETTINGS_KIND {
         return controller::start(table, slice);
     }
-    if is_within(16, 31, kind) {
-        return controller::open(table, output, kind - 16);
+    if is_within(OPEN_KIND, OPEN_LAST, kind) {
+        return controller::open(table, output, kind - OPEN_KIND);
     }
-    if is_within(32, 47, kind) {
-        return controller::hang_up(table, output, kind - 32);
+    if is_within(HANG_UP_KIND, HANG_UP_LAST, kind) {
+        return controller::hang_up(table, output, kind - HANG_UP_KIND);
     }
-    if kind == 64 {
+    if kind == TICK_KIND {
         return controller::tick(table, output);
     }
     controller::tool_record(table, output, slice)
@@ -201,14 +221,21 @@ fn call(table: &mut [u8], output: &mut [u8], kind: u64, slice: &[u8]) -> Answer
 
 // One record, as a slice.
 fn given(table: &mut [u8], output: &mut [u8], lines: &mut [u8], at: usize, slice: &[u8]) -> usize
-    requires { ⌜ Lends (now table) (now output) (now lines) × (at ≤ length (now lines)) × (4 ≤ length (now slice)) ⌝ }
+    requires { ⌜ Lends (now table) (now output) (now lines) × (at ≤ length (now lines)) × (record-head ≤ length (now slice)) ⌝ }
     ensures follows { λ r. ⌜ Follows (λ x. given-state x (now (slice .entry))) (length (now (lines .entry)))
         (now (table .entry)) (take at (now (lines .entry))) (now (table .exit)) (take r (now (lines .exit))) ⌝ }
     ensures within { λ r. ⌜ r ≤ length (now (lines .entry)) ⌝ }
 {
     let kind = text::little(slice, 2, 2);
-    if is_within(48, 63, kind) {
-        return feed(table, output, lines, at, kind - 48, &slice[4..]);
+    if is_within(BYTES_KIND, BYTES_LAST, kind) {
+        return feed(
+            table,
+            output,
+            lines,
+            at,
+            kind - BYTES_KIND,
+            &slice[RECORD_HEAD..],
+        );
     }
     let answer = call(table, output, kind, slice);
     print(answer, output, lines, at)
@@ -218,7 +245,7 @@ fn given(table: &mut [u8], output: &mut [u8], lines: &mut [u8], at: usize, slice
 fn is_too_long(input: &[u8]) -> bool
     ensures { λ r. ⌜ r ≡ too-long (now (input .entry)) ⌝ }
 {
-    if input.len() < 4 {
+    if input.len() < RECORD_HEAD {
         return false;
     }
     text::little(input, 0, 2) > PAYLOAD_LONGEST

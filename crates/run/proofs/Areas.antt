@@ -13,7 +13,7 @@ use Rattle.model.specs.Bytes.{little, in-bytes}
 use Rattle.model.specs.Runs.{Run, empty-run, longer}
 use Rattle.text.proofs.Lists.{drop-sets, drop-sets-after, take-sets, take-least, take-over}
 use Rattle.text.proofs.Numbers.{in-bytes-length}
-use Rattle.run.specs.Area.{run-of, run-formed, Area}
+use Rattle.run.specs.Area.{run-size, run-of, run-formed, Area, Over}
 
 pub counted : (a : List ℕ) → Area a → little (take 2 a) ≤ 10000
 unfolding run-formed
@@ -38,7 +38,7 @@ past : (z : List ℕ) (v : ℕ) → drop 2 (sets z 0 (in-bytes 2 v)) ≡ drop 2 
 unfolding in-bytes
 past z v = drop-sets-after (in-bytes 2 v) z 0 2 (omega arith)
 
-pub recounted : (z : List ℕ) (v : ℕ) → length z ≡ 48 → v ≤ 10000
+pub recounted : (z : List ℕ) (v : ℕ) → length z ≡ run-size → v ≤ 10000
     → (run-of (sets z 0 (in-bytes 2 v)) ≡ record { kept = take (min 45 v) (drop 2 z); count = v }) × Area (sets z 0 (in-bytes 2 v))
 unfolding run-of run-formed
 recounted z v h f =
@@ -47,8 +47,8 @@ recounted z v h f =
       record { size = length-sets z 0 (in-bytes 2 v) ∙ h; formed = ap (λ (n : ℕ). leb n 10000) e ∙ le-leb v 10000 f },
     )
 
-pub cleared : (a : List ℕ) → length a ≡ 48 → (run-of (sets a 0 (in-bytes 2 0)) ≡ empty-run) × Area (sets a 0 (in-bytes 2 0))
-cleared a h = recounted a 0 h (omega arith)
+pub cleared : (a : List ℕ) → length a ≡ run-size → Over a (sets a 0 (in-bytes 2 0))
+cleared a h = let z = recounted a 0 h (omega arith) in record { area = z .1; none = z .0; bytes = ap (take 45) (past a 0) }
 
 fit : (k m n : ℕ) → k + m ≤ 45 → n ≡ 46 → k ≤ n
 fit k m n h e = omega arith

@@ -8,7 +8,10 @@ use lib.Dec.{leb, ltb}
 use lib.ListN.{length, take, drop}
 use Rattle.model.specs.Limits.{run-kept, run-counted}
 use Rattle.model.specs.Bytes.{little}
-use Rattle.model.specs.Runs.{Run, cut}
+use Rattle.model.specs.Runs.{Run, empty-run, cut}
+
+abbrev pub run-size : ℕ
+run-size = 48
 
 unfoldable pub run-of : List ℕ → Run
 run-of a = record { kept = take (min run-kept (little (take 2 a))) (drop 2 a); count = little (take 2 a) }
@@ -18,8 +21,18 @@ unfoldable pub run-formed : List ℕ → Bool
 run-formed a = leb (little (take 2 a)) run-counted
 
 pub record Area (a : List ℕ) : Type 0 where
-  pub size : length a ≡ 48
+  pub size : length a ≡ run-size
   pub formed : run-formed a ≡ true
+
+-- its bytes, or those of the one before, where it is over: so many places as are kept
+abbrev pub bytes-of : List ℕ → List ℕ
+bytes-of a = take run-kept (drop 2 a)
+
+-- it is over, and its bytes stand as they stood
+pub record Over (a a′ : List ℕ) : Type 0 where
+  pub area : Area a′
+  pub none : run-of a′ ≡ empty-run
+  pub bytes : bytes-of a′ ≡ bytes-of a
 
 -- how far a piece of received bytes was looked through: what was passed has no NUL, and the rest is to be looked at
 pub record Passed (bs : List ℕ) (i : ℕ) : Type 0 where

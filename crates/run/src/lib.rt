@@ -5,7 +5,7 @@ ghost use Prim.Native.Nat.{_≤_, _<_, min};
 ghost use lib.ListN.{length};
 ghost use Rattle.model.specs.Limits.{run-counted};
 ghost use Rattle.model.specs.Runs.{empty-run, longer as longer-run, cut, consumed-by};
-ghost use Rattle.run.specs.Area.{run-of, run-formed, Area, Passed, Ends};
+ghost use Rattle.run.specs.Area.{run-size, run-of, run-formed, bytes-of, Area, Over, Passed, Ends};
 
 const KEPT: usize = 45;
 
@@ -97,7 +97,7 @@ pub fn count_of(bytes: &[u8]) -> usize
 // ---- the run in its area
 
 pub fn is_formed(area: &[u8]) -> bool
-    requires { ⌜ length (now area) ≡ 48 ⌝ }
+    requires { ⌜ length (now area) ≡ run-size ⌝ }
     ensures { λ r. ⌜ r ≡ run-formed (now (area .entry)) ⌝ }
 {
     text::little(area, 0, 2) <= COUNTED as u64
@@ -120,6 +120,14 @@ pub fn kept(area: &[u8]) -> &[u8]
     &area[2..2 + k]
 }
 
+// Its bytes, or those of the one before, as they stand.
+pub fn bytes(area: &[u8]) -> &[u8]
+    requires { ⌜ length (now area) ≡ run-size ⌝ }
+    ensures { λ r. ⌜ now r ≡ bytes-of (now (area .entry)) ⌝ }
+{
+    &area[2..2 + KEPT]
+}
+
 // More bytes of it.
 pub fn lengthen(area: &mut [u8], bytes: &[u8])
     requires { ⌜ Area (now area) ⌝ }
@@ -136,8 +144,8 @@ pub fn lengthen(area: &mut [u8], bytes: &[u8])
 
 // It is over.
 pub fn clear(area: &mut [u8])
-    requires { ⌜ length (now area) ≡ 48 ⌝ }
-    ensures { λ _. ⌜ (run-of (now (area .exit)) ≡ empty-run) × Area (now (area .exit)) ⌝ }
+    requires { ⌜ length (now area) ≡ run-size ⌝ }
+    ensures { λ _. ⌜ Over (now (area .entry)) (now (area .exit)) ⌝ }
 {
     text::put_little(area, 0, 2, 0);
 }

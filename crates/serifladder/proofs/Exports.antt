@@ -8,7 +8,7 @@ use lib.Dec.{ltb}
 use lib.ListN.{length}
 use lib.Seq.{sets}
 use borrow.Author.Tests.{lt-ltb, le-ltb}
-use Rattle.model.specs.Limits.{answer-least, output-least}
+use Rattle.model.specs.Limits.{answer-least, answer-too-short, output-least}
 use Rattle.model.specs.World.{World, uncounted}
 use Rattle.model.specs.Calls.{Call, Returned, answer-bytes, output, step}
 use Rattle.model.specs.Calls as model
@@ -25,7 +25,7 @@ still t = refl
 
 module _ (c : Call) (t o a : List ℕ) where
   abbrev not-made-so : Returned
-  not-made-so = record { number = 10; world = decode t; to-answer = []; to-output = [] }
+  not-made-so = record { number = answer-too-short; world = decode t; to-answer = []; to-output = [] }
 
   abbrev made-so : Returned
   made-so =
@@ -38,7 +38,7 @@ module _ (c : Call) (t o a : List ℕ) where
       }
 
   -- the answer is too short: nothing is altered
-  pub not-made : length a < answer-least → Exported c t o a 10 t o a
+  pub not-made : length a < answer-least → Exported c t o a answer-too-short t o a
   not-made h =
       let e : told c t o a ≡ not-made-so = ap (λ (b : Bool). cond b not-made-so made-so) (lt-ltb (length a) answer-least h) in
       record {

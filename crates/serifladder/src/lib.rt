@@ -4,6 +4,7 @@ ghost use mathlib.Core.List.{[]};
 ghost use Prim.Native.Nat.{_≤_};
 ghost use lib.ListN.{length};
 ghost use lib.Seq.{sets};
+ghost use Rattle.model.specs.Limits.{answer-least};
 ghost use Rattle.model.specs.Calls.{
   start as start-call,
   open-session,
@@ -16,15 +17,14 @@ ghost use Rattle.model.specs.Calls.{
 ghost use Rattle.controller.specs.Contract.{model-answer};
 ghost use Rattle.serifladder.specs.Export.{Exported};
 use controller::Answer;
+use model::ANSWER_LEAST;
 
 // What C is told where the answer is too short for the four numbers: nothing is done.
 const ANSWER_TOO_SHORT: u64 = 10;
 
-const ANSWER_SIZE: usize = 32;
-
 // The four numbers, 8 bytes each, and the first of them.
 fn give(answer: &mut [u8], x: Answer) -> u64
-    requires { ⌜ 32 ≤ length (now answer) ⌝ }
+    requires { ⌜ answer-least ≤ length (now answer) ⌝ }
     ensures { λ r. ⌜ (r ≡ x .number) × (now (answer .exit) ≡ sets (now (answer .entry)) 0 (answer-bytes (model-answer x))) ⌝ }
 {
     let a = text::put_little(answer, 0, 8, x.number);
@@ -39,7 +39,7 @@ pub extern "C" fn serifladder_start(table: &mut [u8], settings: &[u8], answer: &
     ensures { λ r. ⌜ Exported (start-call (now (settings .entry))) (now (table .entry)) [] (now (answer .entry)) r (now (table .exit)) []
         (now (answer .exit)) ⌝ }
 {
-    if answer.len() < ANSWER_SIZE {
+    if answer.len() < ANSWER_LEAST {
         return ANSWER_TOO_SHORT;
     }
     let x = controller::start(table, settings);
@@ -56,7 +56,7 @@ pub extern "C" fn serifladder_open(
     ensures { λ r. ⌜ Exported (open-session session) (now (table .entry)) (now (output .entry)) (now (answer .entry)) r (now (table .exit))
         (now (output .exit)) (now (answer .exit)) ⌝ }
 {
-    if answer.len() < ANSWER_SIZE {
+    if answer.len() < ANSWER_LEAST {
         return ANSWER_TOO_SHORT;
     }
     let x = controller::open(table, output, session);
@@ -73,7 +73,7 @@ pub extern "C" fn serifladder_hang_up(
     ensures { λ r. ⌜ Exported (hang-up-session session) (now (table .entry)) (now (output .entry)) (now (answer .entry)) r
         (now (table .exit)) (now (output .exit)) (now (answer .exit)) ⌝ }
 {
-    if answer.len() < ANSWER_SIZE {
+    if answer.len() < ANSWER_LEAST {
         return ANSWER_TOO_SHORT;
     }
     let x = controller::hang_up(table, output, session);
@@ -91,7 +91,7 @@ pub extern "C" fn serifladder_bytes(
     ensures { λ r. ⌜ Exported (bytes-call session (now (bytes .entry))) (now (table .entry)) (now (output .entry)) (now (answer .entry)) r
         (now (table .exit)) (now (output .exit)) (now (answer .exit)) ⌝ }
 {
-    if answer.len() < ANSWER_SIZE {
+    if answer.len() < ANSWER_LEAST {
         return ANSWER_TOO_SHORT;
     }
     let x = controller::bytes(table, output, session, bytes);
@@ -103,7 +103,7 @@ pub extern "C" fn serifladder_tick(table: &mut [u8], output: &mut [u8], answer: 
     ensures { λ r. ⌜ Exported one-tick (now (table .entry)) (now (output .entry)) (now (answer .entry)) r (now (table .exit))
         (now (output .exit)) (now (answer .exit)) ⌝ }
 {
-    if answer.len() < ANSWER_SIZE {
+    if answer.len() < ANSWER_LEAST {
         return ANSWER_TOO_SHORT;
     }
     let x = controller::tick(table, output);
@@ -120,7 +120,7 @@ pub extern "C" fn serifladder_record(
     ensures { λ r. ⌜ Exported (tool (now (slice .entry))) (now (table .entry)) (now (output .entry)) (now (answer .entry)) r
         (now (table .exit)) (now (output .exit)) (now (answer .exit)) ⌝ }
 {
-    if answer.len() < ANSWER_SIZE {
+    if answer.len() < ANSWER_LEAST {
         return ANSWER_TOO_SHORT;
     }
     let x = controller::tool_record(table, output, slice);

@@ -1,8 +1,7 @@
 pub mod Tests
 pub mod Notices
-pub mod Dealing
-pub mod Sessions
+pub mod Idles
 pub mod Hearing
-pub mod Afterwards
-pub mod Acknowledges
+pub mod Decided
+pub mod Replies
 pub mod Lent

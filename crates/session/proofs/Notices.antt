@@ -138,7 +138,7 @@ module _ (n : Notice) where
   takes-at (up-to most) Acknowledged revision clock held (m ∷ ns) some h =
       rw (ne-eqb held 0 (λ e. let q = h .held in omega arith)) (waits-behind most revision clock held n m ns h)
 
-  -- `session::take_identifier` and `session::take_tightening` are the model's event, each with the room of its kind
+  -- what `taken` says of an event, by the room of its kind, is the model's event
   pub take-right : (room : Room) → 0 < most-held room → (x : Subscription) (ns : List Notice) → Holds room x ns
       → Took room (act room (news n) (subscription-in x ns)) (takes room (subscription-in x ns)) n ns (taken room x)
   take-right room some x ns h = takes-at room (x .form) (x .revision) (x .clock) (x .held) ns some h

@@ -18,6 +18,8 @@ use Rattle.session.specs.declared.Clock.{Clock}
 use Rattle.session.specs.declared.Due.{Due}
 use Rattle.session.specs.declared.Due.the-variants as due
 use Rattle.session.specs.declared.Step.{Step}
+use Rattle.session.specs.declared.Deed.{Deed}
+use Rattle.session.specs.declared.Deed.the-variants.{Nothing, Beats, Acks, Asks, Drops}
 use Rattle.session.specs.declared.Take.{Take}
 use Rattle.session.specs.declared.Take.the-variants as take
 use Rattle.session.specs.declared.Taken.{Taken}
@@ -43,14 +45,14 @@ subscribed x revision no-acknowledge = subscribed-from (x .form) x revision no-a
 
 -- ==== how an opening begins, and what is left of one that is closed
 
-abbrev pub session : Phase → ℕ → Subscription → Subscription → Session
-session phase idle is ts = record { phase = phase; idle = idle; identifiers = is; tightenings = ts }
+abbrev pub session : Phase → ℕ → Session
+session phase idle = record { phase = phase; idle = idle }
 
 abbrev pub fresh : Session
-fresh = session phase.Opened 0 unsubscribed unsubscribed
+fresh = session phase.Opened 0
 
 abbrev pub cleared : Session
-cleared = session phase.Closed 0 unsubscribed unsubscribed
+cleared = session phase.Closed 0
 
 -- ==== the clock of an open notice: plus 1, and what it is time for
 
@@ -112,6 +114,15 @@ acknowledged-from form.Acknowledged x = next-goes-out x
 unfoldable pub acknowledged : Subscription → Step
 acknowledged x = acknowledged-from (x .form) x
 
+-- ==== a deed, an event aside
+
+abbrev pub dealt : Subscription → Deed → Step
+dealt x Nothing = still x
+dealt x Beats = ticked x
+dealt x Acks = acknowledged x
+dealt x (Asks revision no-acknowledge) = still (subscribed x revision no-acknowledge)
+dealt x Drops = still unsubscribed
+
 -- ==== an event
 
 abbrev pub takes : Take → Subscription → Taken
@@ -125,7 +136,7 @@ take-from form.Acknowledged x busy = cond (eqb (x .held) 0) (takes take.Opens (h
 abbrev pub take-or : Subscription → Taken → Taken
 take-or x busy = take-from (x .form) x busy
 
--- where one is open: the newest waits alone; or it waits behind the others, where there is room
+-- by the room of its kind, where one is open: the newest waits alone; or it waits behind the others, where there is room
 abbrev pub taken-busy : Room → Subscription → Taken
 taken-busy the-newest x = takes (take.Waits 1) (holding x (x .clock) (most-held the-newest))
 taken-busy (up-to most) x =
@@ -136,11 +147,8 @@ taken room x = take-or x (taken-busy room x)
 
 -- ==== the idle count
 
-abbrev pub with-idle : Session → ℕ → Session
-with-idle x idle = session (x .phase) idle (x .identifiers) (x .tightenings)
-
 abbrev pub idled-open : Session → Idling
-idled-open x = cond (leb idle-limit (x .idle + 1)) TimesOut (Stays (with-idle x (x .idle + 1)))
+idled-open x = cond (leb idle-limit (x .idle + 1)) TimesOut (Stays (session (x .phase) (x .idle + 1)))
 
 abbrev pub idled-from : Phase → Session → Idling
 idled-from phase.Closed x = Stays x

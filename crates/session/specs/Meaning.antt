@@ -1,28 +1,26 @@
--- What a session by value is among the model's definitions. The lists are the notices that it holds, by kind and in order, which are
--- kept elsewhere. Assumes nothing: these are definitions.
-use Prim.Native.Nat.{ℕ, _+_, _≤_, _<_}
+-- What a subscription, and a session, by value is among the model's definitions. The lists are the notices that a subscription holds, in
+-- order, which are kept elsewhere. Assumes nothing: these are definitions.
+use Prim.Native.Nat.{ℕ, _≤_, _<_}
 use mathlib.Core.Path.{_≡_}
 use mathlib.Core.Bool.{Bool, true, false}
-use mathlib.Core.List.{List, [], _∷_, _++_, map}
+use mathlib.Core.List.{List, [], _∷_, _++_}
 use lib.ListN.{length, take}
-use Rattle.model.specs.Limits.{idle-limit, given-up-at}
-use Rattle.model.specs.Records.{Settings}
+use Rattle.model.specs.Limits.{given-up-at}
 use Rattle.model.specs.Runs.{Run}
 use Rattle.model.specs.Events.{Notice}
-use Rattle.model.specs.Kinds.{identifiers, tightenings}
-use Rattle.model.specs.Kinds.{Room, the-newest, up-to, room-of}
+use Rattle.model.specs.Kinds.{Room, the-newest, up-to}
 use Rattle.model.specs.Notices.{Pending, empty, busy, unsubscribed, plain, acked}
 use Rattle.model.specs.Notices as model
-use Rattle.model.specs.Session.{closed, opened, started, Emission, copy, copies-to}
-use Rattle.model.specs.Row.{tag}
+use Rattle.model.specs.Session.{closed, opened, started}
 use Rattle.model.specs.Session as model-session
 use Rattle.session.specs.declared.Form.{Form}
 use Rattle.session.specs.declared.Form.the-variants as form
 use Rattle.session.specs.declared.Phase.{Phase}
 use Rattle.session.specs.declared.Phase.the-variants.{Closed, Opened, Started}
 use Rattle.session.specs.declared.Subscription.{Subscription}
-use Rattle.session.specs.declared.Session.{Session}
 use Rattle.session.specs.declared.Step.{Step}
+use Rattle.session.specs.declared.Deed.{Deed}
+use Rattle.session.specs.declared.Deed.the-variants as deed
 use Rattle.session.specs.declared.Take.{Take}
 use Rattle.session.specs.declared.Take.the-variants.{Not, Once, Opens, Waits}
 use Rattle.session.specs.declared.Taken.{Taken}
@@ -72,6 +70,14 @@ pub record Stepped (room : Room) (becomes : model.Subscription × List Notice) (
   pub acts : becomes ≡ (subscription-in (s .next) (shifted (s .shift) ns), sent (s .send) (shifted (s .shift) ns))
   pub holds : Holds room (s .next) (shifted (s .shift) ns)
 
+-- the model's deed
+abbrev pub deed-of : Deed → model.Deed
+deed-of deed.Nothing = model.nothing
+deed-of deed.Beats = model.beats
+deed-of deed.Acks = model.acks
+deed-of (deed.Asks revision no-acknowledge) = model.asks revision no-acknowledge
+deed-of deed.Drops = model.drops
+
 -- ==== 01, "Notices and the clock": what is said of an event
 
 -- n at the place, as the last of those held
@@ -106,7 +112,8 @@ place-of Opens = 0
 place-of (Waits place) = place
 
 -- the event n is taken as `taken` says, and the subscription becomes `becomes`, and sends what stands with it, where it held ns
-pub record Took (room : Room) (becomes : model.Subscription × List Notice) (taken : Bool) (n : Notice) (ns : List Notice) (t : Taken) : Type 0 where
+pub record Took (room : Room) (becomes : model.Subscription × List Notice) (taken : Bool) (n : Notice) (ns : List Notice)
+    (t : Taken) : Type 0 where
   pub acts : becomes ≡ (subscription-in (t .next) (kept (t .take) n ns), told (t .take) n)
   pub takes : taken ≡ is-taken (t .take)
   pub holds : Holds room (t .next) (kept (t .take) n ns)
@@ -131,28 +138,3 @@ abbrev pub session-as : Phase → ℕ → Run → List model.Subscription → mo
 session-as Closed idle run subs = closed
 session-as Opened idle run subs = opened idle run
 session-as Started idle run subs = started idle run subs
-
-abbrev pub subscriptions-in : Session → List Notice → List Notice → List model.Subscription
-subscriptions-in x is ts = subscription-in (x .identifiers) is ∷ subscription-in (x .tightenings) ts ∷ []
-
-abbrev pub session-in : Session → Run → List Notice → List Notice → model-session.Session
-session-in x run is ts = session-as (x .phase) (x .idle) run (subscriptions-in x is ts)
-
--- one that is not started is subscribed to nothing
-abbrev pub SubscribedIn : Phase → Subscription → Subscription → Type 0
-SubscribedIn Closed i t = (i .form ≡ form.Not) × (t .form ≡ form.Not)
-SubscribedIn Opened i t = (i .form ≡ form.Not) × (t .form ≡ form.Not)
-SubscribedIn Started i t = Unit {0}
-
--- what is true of one that holds those identifiers and those tightenings
-pub record Sound (x : Session) (is ts : List Notice) : Type 0 where
-  pub idle : x .idle < idle-limit
-  pub subscribed : SubscribedIn (x .phase) (x .identifiers) (x .tightenings)
-  pub of-identifiers : Holds (room-of identifiers) (x .identifiers) is
-  pub of-tightenings : Holds (room-of tightenings) (x .tightenings) ts
-
--- ==== 01, "Notices and the clock": what goes out to a session
-
--- copies of notices of a kind, to one that is subscribed to it so
-abbrev pub copies : Settings → ℕ → Subscription → List Notice → List Emission
-copies st kind x ns = map copy (tag kind (copies-to st (subscription-in x []) ns))

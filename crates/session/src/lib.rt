@@ -1,11 +1,14 @@
-// One session by value: what a tick, an event, an acknowledge and a message do to it. The bytes of its notices and of its run are
-// kept elsewhere: the answers here say which place is written, whether the places shift down, and whether the first one is sent.
+// One session by value: what a tick and a message do to it, and what is done to a subscription of it. The bytes of its notices and of its
+// run are kept elsewhere: the answers here say which place is written, whether the places shift down, and whether the first one is sent.
 ghost use mathlib.Core.Path.{_≡_};
 ghost use mathlib.Core.Bool.{cond};
-ghost use lib.ListN.{drop};
+ghost use Prim.Native.Nat.{_+_, _≤_};
+ghost use lib.ListN.{length, take, drop};
 ghost use Rattle.model.specs.Limits.{header-length};
+ghost use Rattle.model.specs.Records.{settings-of, settings-length};
+ghost use Rattle.model.specs.Kinds.{reply-most};
 ghost use Rattle.model.specs.Messages.{entry-of};
-ghost use Rattle.model.specs.Kinds.{room-of, identifiers, tightenings};
+ghost use Rattle.text.specs.Put.{Put};
 ghost use Rattle.frame.specs.Header.{header-of};
 ghost use Rattle.message.specs.Meaning.{effect-in, effect-listed, error-in};
 ghost use Rattle.session.specs.Control.{
@@ -21,36 +24,32 @@ ghost use Rattle.session.specs.Control.{
   ticked as ticked-to,
   acknowledged as acknowledged-to,
   holding as holding-so,
-  take-or as take-or-else,
-  taken,
+  dealt as dealt-to,
   subscribed as subscribed-to,
   unsubscribed as unsubscribed-one,
-  with-idle as with-idle-at,
   idled-open as idled-open-to,
   idled as idled-to,
 };
 ghost use Rattle.session.specs.Decisions.{
-  subscription-of as subscription-at,
-  with-subscription as with-subscription-at,
-  is-subscribed as is-subscribed-so,
-  is-started as is-started-so,
-  standing,
+  begun as begun-so,
+  replied as replied-so,
+  start as start-so,
+  identify as identify-so,
+  deal as deal-so,
   no-error,
   refused as refused-with,
   accepted as accepted-as,
   decided-started,
   decided-opened,
   decision,
-  heard as heard-so,
-  begun as begun-so,
-  after as after-so,
 };
+ghost use Rattle.session.specs.Effects.{replies, out-bytes, ReplyLent};
 use frame::Header;
+use frame::To;
 use message::Effect;
-use message::IDENTIFIERS;
 use message::Standing;
-use message::TIGHTENINGS;
 use message::Verdict;
+use model::IDENTIFIERS;
 
 // ---- a session
 
@@ -75,11 +74,10 @@ pub struct Subscription {
     pub held: u64,
 }
 
+// What it is besides its subscriptions, which stand with the notices that they hold.
 pub struct Session {
     pub phase: Phase,
     pub idle: u64,
-    pub identifiers: Subscription,
-    pub tightenings: Subscription,
 }
 
 impl Session {
@@ -105,8 +103,6 @@ impl Session {
         Session {
             phase: Phase::Opened,
             idle: 0,
-            identifiers: unsubscribed(),
-            tightenings: unsubscribed(),
         }
     }
 
@@ -117,8 +113,6 @@ impl Session {
         Session {
             phase: Phase::Closed,
             idle: 0,
-            identifiers: unsubscribed(),
-            tightenings: unsubscribed(),
         }
     }
 }
@@ -333,6 +327,32 @@ pub fn acknowledged(x: Subscription) -> Step
     }
 }
 
+// ---- a deed, to a subscription
+
+// What is done to a subscription, an event aside: nothing; a tick; an acknowledge; it is subscribed to; it is unsubscribed from.
+pub enum Deed {
+    Nothing,
+    Beats,
+    Acks,
+    Asks { revision: u64, no_acknowledge: bool },
+    Drops,
+}
+
+pub fn dealt(x: Subscription, deed: Deed) -> Step
+    ensures { λ r. ⌜ r ≡ dealt-to x deed ⌝ }
+{
+    match deed {
+        Deed::Nothing => still(x),
+        Deed::Beats => ticked(x),
+        Deed::Acks => acknowledged(x),
+        Deed::Asks {
+            revision,
+            no_acknowledge,
+        } => still(subscribed(x, revision, no_acknowledge)),
+        Deed::Drops => still(unsubscribed()),
+    }
+}
+
 // ---- an event, to a subscription
 
 // What becomes of its notice: it is not taken; sent once, and not held; held at place 0 as the open one, and sent; held at the
@@ -350,83 +370,12 @@ pub struct Taken {
     pub next: Subscription,
 }
 
-// Where one is open, `busy` is the answer.
-fn take_or(x: Subscription, busy: Taken) -> Taken
-    ensures { λ r. ⌜ r ≡ take-or-else x busy ⌝ }
-{
-    let form = x.form;
-    match form {
-        Form::Not => Taken {
-            take: Take::Not,
-            next: x,
-        },
-        Form::Plain => Taken {
-            take: Take::Once,
-            next: x,
-        },
-        Form::Acknowledged => {
-            if x.held == 0 {
-                return Taken {
-                    take: Take::Opens,
-                    next: holding(x, 0, 1),
-                };
-            }
-            busy
-        }
-    }
-}
-
-// A newer identifier replaces the one that waits.
-pub fn take_identifier(x: Subscription) -> Taken
-    ensures { λ r. ⌜ r ≡ taken (room-of identifiers) x ⌝ }
-{
-    let busy = Taken {
-        take: Take::Waits(1),
-        next: holding(x, x.clock, Session::IDENTIFIERS_HELD),
-    };
-    take_or(x, busy)
-}
-
-// As many tightenings as there is room for.
-pub fn take_tightening(x: Subscription) -> Taken
-    ensures { λ r. ⌜ r ≡ taken (room-of tightenings) x ⌝ }
-{
-    let held = x.held;
-    if held >= Session::TIGHTENINGS_HELD {
-        let full = Taken {
-            take: Take::Not,
-            next: x,
-        };
-        return take_or(x, full);
-    }
-    let busy = Taken {
-        take: Take::Waits(held),
-        next: holding(x, x.clock, held + 1),
-    };
-    take_or(x, busy)
-}
-
 // ---- the idle count
 
 // What a tick does to a session's idle count: the session stays, or times out.
 pub enum Idling {
     Stays(Session),
     TimesOut,
-}
-
-// The same session, with that idle count.
-fn with_idle(x: Session, idle: u64) -> Session
-    ensures { λ r. ⌜ r ≡ with-idle-at x idle ⌝ }
-{
-    let phase = x.phase;
-    let identifiers = x.identifiers;
-    let tightenings = x.tightenings;
-    Session {
-        phase,
-        idle,
-        identifiers,
-        tightenings,
-    }
 }
 
 fn idled_open(x: Session) -> Idling
@@ -436,7 +385,11 @@ fn idled_open(x: Session) -> Idling
     if idle >= Session::IDLE_LIMIT - 1 {
         return Idling::TimesOut;
     }
-    Idling::Stays(with_idle(x, idle + 1))
+    let phase = x.phase;
+    Idling::Stays(Session {
+        phase,
+        idle: idle + 1,
+    })
 }
 
 pub fn idled(x: Session) -> Idling
@@ -450,88 +403,95 @@ pub fn idled(x: Session) -> Idling
     }
 }
 
-// ---- the subscriptions of a session, by kind
-
-pub fn subscription_of(x: Session, kind: usize) -> Subscription
-    ensures { λ r. ⌜ r ≡ subscription-at x kind ⌝ }
-{
-    match kind {
-        IDENTIFIERS => x.identifiers,
-        TIGHTENINGS => x.tightenings,
-        _ => unsubscribed(),
-    }
-}
-
-// The same session, with that subscription of the kind.
-pub fn with_subscription(x: Session, kind: usize, s: Subscription) -> Session
-    ensures { λ r. ⌜ r ≡ with-subscription-at x kind s ⌝ }
-{
-    let phase = x.phase;
-    match kind {
-        IDENTIFIERS => {
-            let tightenings = x.tightenings;
-            Session {
-                phase,
-                idle: x.idle,
-                identifiers: s,
-                tightenings,
-            }
-        }
-        TIGHTENINGS => {
-            let identifiers = x.identifiers;
-            Session {
-                phase,
-                idle: x.idle,
-                identifiers,
-                tightenings: s,
-            }
-        }
-        _ => x,
-    }
-}
-
 // ---- a message, to a session
 
-// What a run does. Nothing: it is no message, or none that counts before the start. Heard: the message has no other effect than
-// that a message came. The MID is the one that the reply names, the code that of the error.
-pub enum Decision {
+// What goes back to whom a message came from: nothing; 0002; 0005, with the message's number; 0004, with that and the error's; its own
+// header.
+pub enum Reply {
     Nothing,
-    Heard,
-    Error {
-        mid: u64,
-        code: u64,
-    },
-    Start,
-    Stop {
-        mid: u64,
-    },
-    Identify {
-        mid: u64,
-    },
-    Subscribe {
-        kind: usize,
-        mid: u64,
-        revision: u64,
-        no_acknowledge: bool,
-    },
-    Unsubscribe {
-        kind: usize,
-        mid: u64,
-    },
-    Acknowledge {
-        kind: usize,
-    },
-    Mirror,
+    Started,
+    Accepted { mid: u64 },
+    Error { mid: u64, code: u64 },
+    Mirrored,
 }
 
-fn is_subscribed(x: Subscription) -> bool
-    ensures { λ r. ⌜ r ≡ is-subscribed-so (x .form) ⌝ }
+// What a run does.
+pub struct Decision {
+    pub reply: Reply,
+    // The session after it, but for its subscriptions.
+    pub next: Session,
+    // What it was subscribed to, and held, is gone.
+    pub begins: bool,
+    // Then the deed is done to its notices of that kind.
+    pub kind: usize,
+    pub deed: Deed,
+    // The data field is made known as an identifier.
+    pub identifies: bool,
+}
+
+// It is started, and a message came.
+fn begun() -> Session
+    ensures { λ r. ⌜ r ≡ begun-so ⌝ }
 {
-    let form = x.form;
-    match form {
-        Form::Not => false,
-        Form::Plain => true,
-        Form::Acknowledged => true,
+    Session {
+        phase: Phase::Started,
+        idle: 0,
+    }
+}
+
+// A reply, and nothing is done to its notices.
+fn replied(reply: Reply, next: Session) -> Decision
+    ensures { λ r. ⌜ r ≡ replied-so reply next ⌝ }
+{
+    Decision {
+        reply,
+        next,
+        begins: false,
+        kind: IDENTIFIERS,
+        deed: Deed::Nothing,
+        identifies: false,
+    }
+}
+
+// 0001 is accepted.
+fn start() -> Decision
+    ensures { λ r. ⌜ r ≡ start-so ⌝ }
+{
+    Decision {
+        reply: Reply::Started,
+        next: begun(),
+        begins: true,
+        kind: IDENTIFIERS,
+        deed: Deed::Nothing,
+        identifies: false,
+    }
+}
+
+// 0050 is accepted.
+fn identify(mid: u64) -> Decision
+    ensures { λ r. ⌜ r ≡ identify-so mid ⌝ }
+{
+    Decision {
+        reply: Reply::Accepted { mid },
+        next: begun(),
+        begins: false,
+        kind: IDENTIFIERS,
+        deed: Deed::Nothing,
+        identifies: true,
+    }
+}
+
+// A message for one kind of notice is accepted.
+fn deal(reply: Reply, kind: usize, deed: Deed) -> Decision
+    ensures { λ r. ⌜ r ≡ deal-so reply kind deed ⌝ }
+{
+    Decision {
+        reply,
+        next: begun(),
+        begins: false,
+        kind,
+        deed,
+        identifies: false,
     }
 }
 
@@ -555,12 +515,10 @@ fn refused(mid: u64, e: Effect, v: Verdict) -> Decision
     ensures { λ r. ⌜ r ≡ refused-with mid (effect-in e) (error-in v) ⌝ }
 {
     if message::gets_reply(e) {
-        return Decision::Error {
-            mid,
-            code: message::error_code(v),
-        };
+        let code = message::error_code(v);
+        return replied(Reply::Error { mid, code }, begun());
     }
-    Decision::Heard
+    replied(Reply::Nothing, begun())
 }
 
 // A message with no error, to a session that is started.
@@ -568,19 +526,20 @@ fn accepted(mid: u64, revision: u64, no_acknowledge: bool, e: Effect) -> Decisio
     ensures { λ r. ⌜ r ≡ accepted-as mid revision «no_acknowledge» (effect-in e) ⌝ }
 {
     match e {
-        Effect::Unknown => Decision::Heard,
-        Effect::Starts => Decision::Heard,
-        Effect::Stops => Decision::Stop { mid },
-        Effect::Identifies { error: _ } => Decision::Identify { mid },
-        Effect::Subscribes { kind, error: _ } => Decision::Subscribe {
-            kind,
-            mid,
-            revision,
-            no_acknowledge,
-        },
-        Effect::Unsubscribes { kind, error: _ } => Decision::Unsubscribe { kind, mid },
-        Effect::Acknowledges { kind } => Decision::Acknowledge { kind },
-        Effect::Mirrors => Decision::Mirror,
+        Effect::Unknown => replied(Reply::Nothing, begun()),
+        Effect::Starts => replied(Reply::Nothing, begun()),
+        Effect::Stops => replied(Reply::Accepted { mid }, Session::fresh()),
+        Effect::Identifies { error: _ } => identify(mid),
+        Effect::Subscribes { kind, error: _ } => {
+            let asks = Deed::Asks {
+                revision,
+                no_acknowledge,
+            };
+            deal(Reply::Accepted { mid }, kind, asks)
+        }
+        Effect::Unsubscribes { kind, error: _ } => deal(Reply::Accepted { mid }, kind, Deed::Drops),
+        Effect::Acknowledges { kind } => deal(Reply::Nothing, kind, Deed::Acks),
+        Effect::Mirrors => replied(Reply::Mirrored, begun()),
     }
 }
 
@@ -595,51 +554,24 @@ fn decide_started(mid: u64, revision: u64, no_acknowledge: bool, v: Verdict) -> 
 }
 
 // 0001 alone counts.
-fn decide_opened(mid: u64, v: Verdict) -> Decision
-    ensures { λ r. ⌜ r ≡ decided-opened mid (error-in v) ⌝ }
+fn decide_opened(x: Session, mid: u64, v: Verdict) -> Decision
+    ensures { λ r. ⌜ r ≡ decided-opened x mid (error-in v) ⌝ }
 {
     match mid {
         1 => {
             if is_fine(v) {
-                return Decision::Start;
+                return start();
             }
-            Decision::Error {
-                mid,
-                code: message::error_code(v),
-            }
+            let code = message::error_code(v);
+            replied(Reply::Error { mid, code }, x)
         }
-        _ => Decision::Nothing,
-    }
-}
-
-// What the tests look at, of a session that is started and of one that is not.
-fn standing_of(x: Session, granted: bool) -> Standing
-    ensures { λ r. ⌜ r ≡ standing x granted ⌝ }
-{
-    let phase = x.phase;
-    let identifiers = is_subscribed(x.identifiers);
-    let tightenings = is_subscribed(x.tightenings);
-    Standing {
-        started: is_started(phase),
-        granted,
-        identifiers,
-        tightenings,
-    }
-}
-
-fn is_started(phase: Phase) -> bool
-    ensures { λ r. ⌜ r ≡ is-started-so phase ⌝ }
-{
-    match phase {
-        Phase::Closed => false,
-        Phase::Opened => false,
-        Phase::Started => true,
+        _ => replied(Reply::Nothing, x),
     }
 }
 
 // What a run does whose header is h.
-fn decided(x: Session, granted: bool, h: Header, data_field: &[u8]) -> Decision
-    ensures { λ r. ⌜ r ≡ decision x granted h (now (data_field .entry)) ⌝ }
+fn decide_read(x: Session, standing: Standing, h: Header, data_field: &[u8]) -> Decision
+    ensures { λ r. ⌜ r ≡ decision x standing h (now (data_field .entry)) ⌝ }
 {
     let Header::Message {
         size,
@@ -648,85 +580,47 @@ fn decided(x: Session, granted: bool, h: Header, data_field: &[u8]) -> Decision
         no_acknowledge,
     } = h
     else {
-        return Decision::Nothing;
+        return replied(Reply::Nothing, x);
     };
-    let v = message::judge(standing_of(x, granted), mid, size, revision, data_field);
+    let v = message::judge(standing, mid, size, revision, data_field);
     let phase = x.phase;
     match phase {
-        Phase::Closed => Decision::Nothing,
-        Phase::Opened => decide_opened(mid, v),
+        Phase::Closed => replied(Reply::Nothing, x),
+        Phase::Opened => decide_opened(x, mid, v),
         Phase::Started => decide_started(mid, revision, no_acknowledge, v),
     }
 }
 
 // What a run of count bytes does, whose first are these.
-pub fn decide(x: Session, granted: bool, run: &[u8], count: usize) -> Decision
-    ensures { λ r. ⌜ r ≡ decision x granted (header-of (now (run .entry)) «count») (drop header-length (now (run .entry))) ⌝ }
+pub fn decide(x: Session, standing: Standing, run: &[u8], count: usize) -> Decision
+    ensures { λ r. ⌜ r ≡ decision x standing (header-of (now (run .entry)) «count») (drop header-length (now (run .entry))) ⌝ }
 {
     let read = frame::read_header(run, count);
-    decided(x, granted, read.header, read.field)
+    decide_read(x, standing, read.header, read.field)
 }
 
-// ---- the session after a decision
+// ---- the reply, as an output record
 
-// A message came: one that is started is not idle.
-pub fn heard(x: Session) -> Session
-    ensures { λ r. ⌜ r ≡ heard-so x ⌝ }
+// The run is the one that was decided on: the header of a 9999 goes back as it came.
+pub fn put_reply(out: &mut [u8], to: To, settings: &[u8], run: &[u8], reply: Reply) -> usize
+    requires { ⌜ ReplyLent (now out) (now settings) (now run) to reply ⌝ }
+    ensures { λ r. ⌜ (r ≤ to .at + reply-most) × Put (now (out .entry)) (to .at)
+        (out-bytes (to .session) (replies (settings-of (now (settings .entry))) (take header-length (now (run .entry))) reply))
+        r (now (out .exit)) ⌝ }
 {
-    let phase = x.phase;
-    match phase {
-        Phase::Closed => x,
-        Phase::Opened => x,
-        Phase::Started => with_idle(x, 0),
+    match reply {
+        Reply::Nothing => to.at,
+        Reply::Started => frame::put_0002(out, to, settings),
+        Reply::Accepted { mid } => frame::put_0005(out, to, mid),
+        Reply::Error { mid, code } => frame::put_0004(out, to, mid, code),
+        Reply::Mirrored => frame::put_9999(out, to, run),
     }
 }
 
-// It is started, and holds nothing.
-fn begun() -> Session
-    ensures { λ r. ⌜ r ≡ begun-so ⌝ }
+// Whether identifiers are taken over the net.
+pub fn is_granted(settings: &[u8]) -> bool
+    requires { ⌜ length (now settings) ≡ settings-length ⌝ }
+    ensures { λ r. ⌜ r ≡ settings-of (now (settings .entry)) .granted ⌝ }
 {
-    Session {
-        phase: Phase::Started,
-        idle: 0,
-        identifiers: unsubscribed(),
-        tightenings: unsubscribed(),
-    }
-}
-
-fn after_subscribe(x: Session, kind: usize, revision: u64, no_acknowledge: bool) -> Session
-    ensures { λ r. ⌜ r ≡ with-subscription-at (heard-so x) kind (subscribed-to (subscription-at x kind) revision «no_acknowledge») ⌝ }
-{
-    let s = subscribed(subscription_of(x, kind), revision, no_acknowledge);
-    with_subscription(heard(x), kind, s)
-}
-
-fn after_acknowledge(x: Session, kind: usize) -> Session
-    ensures { λ r. ⌜ r ≡ with-subscription-at (heard-so x) kind ((acknowledged-to (subscription-at x kind)) .next) ⌝ }
-{
-    let s = acknowledged(subscription_of(x, kind));
-    let next = s.next;
-    with_subscription(heard(x), kind, next)
-}
-
-// Of an acknowledge `acknowledged` says besides what becomes of the notices.
-pub fn after(x: Session, d: Decision) -> Session
-    ensures { λ r. ⌜ r ≡ after-so x d ⌝ }
-{
-    match d {
-        Decision::Nothing => x,
-        Decision::Heard => heard(x),
-        Decision::Error { mid: _, code: _ } => heard(x),
-        Decision::Start => begun(),
-        Decision::Stop { mid: _ } => Session::fresh(),
-        Decision::Identify { mid: _ } => heard(x),
-        Decision::Subscribe {
-            kind,
-            mid: _,
-            revision,
-            no_acknowledge,
-        } => after_subscribe(x, kind, revision, no_acknowledge),
-        Decision::Unsubscribe { kind, mid: _ } => with_subscription(heard(x), kind, unsubscribed()),
-        Decision::Acknowledge { kind } => after_acknowledge(x, kind),
-        Decision::Mirror => heard(x),
-    }
+    text::little(settings, 3, 1) == 1
 }

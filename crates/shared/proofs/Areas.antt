@@ -1,22 +1,23 @@
--- What the sessions share, in its 1,024 bytes: what a write leaves of it. Assumes nothing.
+-- What the sessions share, in its bytes: what a write leaves of it. Assumes nothing.
 use mathlib.Core.Path.{_≡_, refl, ap, _∙_}
-use Prim.Native.Nat.{suc, ℕ, _+_, _<_, _≤_}
+use Prim.Native.Nat.{suc, ℕ, _+_, _-_, _<_, _≤_}
 use native.Mathlib.Omega.{arith}
 use mathlib.Core.Bool.{true, false}
 use mathlib.Core.List.{List}
 use lib.Dec.{eqb, lit≤}
 use lib.ListN.{length, take, drop, replicate}
 use lib.Seq.{sets, length-sets}
-use Rattle.model.specs.Limits.{identifier-length, number-greatest}
+use Rattle.model.specs.Limits.{identifier-length, number-length, number-greatest}
 use Rattle.model.specs.Bytes.{little, in-bytes, spaces}
 use Rattle.model.specs.Records.{settings-of, settings-length}
 use Rattle.text.proofs.Numbers.{in-bytes-length}
 use Rattle.text.proofs.Cells.{stored-same, stored-before, stored-after}
-use Rattle.shared.specs.Shared.{shared-size, settings-part, in-force-of, last-of, mark, shared-formed, Area, Holds}
+use Rattle.shared.specs.Shared.{shared-size, mark-length, last-at, settings-at, in-force-at}
+use Rattle.shared.specs.Shared.{settings-part, in-force-of, last-of, mark, shared-formed, Area, Holds}
 
 -- ==== numbers, written and read
 
-pub four : (v : ℕ) → v < suc number-greatest → little (in-bytes 4 v) ≡ v
+pub four : (v : ℕ) → v < suc number-greatest → little (in-bytes number-length v) ≡ v
 unfolding in-bytes
 four v h = omega arith
 
@@ -25,7 +26,7 @@ abbrev mark-number : ℕ
 mark-number = 0x44414C4649524553
 
 abbrev marks : List ℕ
-marks = in-bytes 8 mark-number
+marks = in-bytes mark-length mark-number
 
 eight : little marks ≡ little mark
 unfolding in-bytes
@@ -34,48 +35,49 @@ eight = refl
 -- ==== what is well formed, and stays so
 
 -- an area is well formed by its mark
-marked : (a : List ℕ) → little (take 8 a) ≡ little mark → shared-formed a ≡ true
+marked : (a : List ℕ) → little (take mark-length a) ≡ little mark → shared-formed a ≡ true
 unfolding shared-formed
 marked a e = ap (λ (n : ℕ). eqb n (little mark)) e
 
 -- a write behind the mark
-area-still : (a : List ℕ) (at k : ℕ) (ys : List ℕ) → Area a → length ys ≡ k → at + k ≤ shared-size → 8 ≤ at → Area (sets a at ys)
+area-still : (a : List ℕ) (at k : ℕ) (ys : List ℕ) → Area a → length ys ≡ k → at + k ≤ shared-size → mark-length ≤ at → Area (sets a at ys)
 unfolding shared-formed
 area-still a at k ys h e f g =
     let s = h .size in
     let room : at + k ≤ length a = omega arith in
     record {
       size = length-sets a at ys ∙ s;
-      formed = ap (λ (l : List ℕ). eqb (little l) (little mark)) (stored-before at k a ys e room 0 8 g) ∙ h .formed;
+      formed = ap (λ (l : List ℕ). eqb (little l) (little mark)) (stored-before at k a ys e room 0 mark-length g) ∙ h .formed;
     }
 
 -- ==== an identifier comes in force
 
-pub force-put : (a x : List ℕ) → Area a → length x ≡ identifier-length → Holds (settings-part a) x (last-of a) (sets a 56 x)
+pub force-put : (a x : List ℕ) → Area a → length x ≡ identifier-length → Holds (settings-part a) x (last-of a) (sets a in-force-at x)
 unfolding settings-part in-force-of last-of
 force-put a x h e =
     let s = h .size in
-    let r : 56 + 25 ≤ length a = omega arith in
+    let r : in-force-at + identifier-length ≤ length a = omega arith in
     record {
-      area = area-still a 56 25 x h e (lit≤ tt) (lit≤ tt);
-      settings = stored-before 56 25 a x e r 16 33 (lit≤ tt);
-      in-force = stored-same 56 25 a x e r;
-      last = ap little (stored-before 56 25 a x e r 8 4 (lit≤ tt));
+      area = area-still a in-force-at identifier-length x h e (lit≤ tt) (lit≤ tt);
+      settings = stored-before in-force-at identifier-length a x e r settings-at settings-length (lit≤ tt);
+      in-force = stored-same in-force-at identifier-length a x e r;
+      last = ap little (stored-before in-force-at identifier-length a x e r last-at number-length (lit≤ tt));
     }
 
 -- ==== a number becomes the last
 
-pub last-put : (a : List ℕ) (n : ℕ) → Area a → n < suc number-greatest → Holds (settings-part a) (in-force-of a) n (sets a 8 (in-bytes 4 n))
+pub last-put : (a : List ℕ) (n : ℕ) → Area a → n < suc number-greatest
+    → Holds (settings-part a) (in-force-of a) n (sets a last-at (in-bytes number-length n))
 unfolding settings-part in-force-of last-of
 last-put a n h f =
     let s = h .size in
-    let r : 8 + 4 ≤ length a = omega arith in
-    let e = in-bytes-length 4 n in
+    let r : last-at + number-length ≤ length a = omega arith in
+    let e = in-bytes-length number-length n in
     record {
-      area = area-still a 8 4 (in-bytes 4 n) h e (lit≤ tt) (lit≤ tt);
-      settings = stored-after 8 4 a (in-bytes 4 n) e r 16 33 (lit≤ tt);
-      in-force = stored-after 8 4 a (in-bytes 4 n) e r 56 25 (lit≤ tt);
-      last = ap little (stored-same 8 4 a (in-bytes 4 n) e r) ∙ four n f;
+      area = area-still a last-at number-length (in-bytes number-length n) h e (lit≤ tt) (lit≤ tt);
+      settings = stored-after last-at number-length a (in-bytes number-length n) e r settings-at settings-length (lit≤ tt);
+      in-force = stored-after last-at number-length a (in-bytes number-length n) e r in-force-at identifier-length (lit≤ tt);
+      last = ap little (stored-same last-at number-length a (in-bytes number-length n) e r) ∙ four n f;
     }
 
 -- ==== a start
@@ -84,33 +86,41 @@ last-put a n h f =
 mark-put : (a : List ℕ) → length a ≡ shared-size → Area (sets a 0 marks)
 mark-put a s = record {
   size = length-sets a 0 marks ∙ s;
-  formed = marked (sets a 0 marks) (ap little (stored-same 0 8 a marks (in-bytes-length 8 mark-number) (omega arith)) ∙ eight);
+  formed =
+      marked (sets a 0 marks)
+      (ap little (stored-same 0 mark-length a marks (in-bytes-length mark-length mark-number) (omega arith)) ∙ eight);
 }
 
 -- the settings, written
-settings-put : (a p : List ℕ) → Area a → length p ≡ settings-length → Holds p (in-force-of a) (last-of a) (sets a 16 p)
+settings-put : (a p : List ℕ) → Area a → length p ≡ settings-length → Holds p (in-force-of a) (last-of a) (sets a settings-at p)
 unfolding settings-part in-force-of last-of
 settings-put a p h e =
     let s = h .size in
-    let r : 16 + 33 ≤ length a = omega arith in
+    let r : settings-at + settings-length ≤ length a = omega arith in
     record {
-      area = area-still a 16 33 p h e (lit≤ tt) (lit≤ tt);
-      settings = stored-same 16 33 a p e r;
-      in-force = stored-after 16 33 a p e r 56 25 (lit≤ tt);
-      last = ap little (stored-before 16 33 a p e r 8 4 (lit≤ tt));
+      area = area-still a settings-at settings-length p h e (lit≤ tt) (lit≤ tt);
+      settings = stored-same settings-at settings-length a p e r;
+      in-force = stored-after settings-at settings-length a p e r in-force-at identifier-length (lit≤ tt);
+      last = ap little (stored-before settings-at settings-length a p e r last-at number-length (lit≤ tt));
     }
 
-pub started : (a p : List ℕ) (n : ℕ) → length a ≡ shared-size → length p ≡ settings-length → n ≡ little (take 4 (drop 29 p))
+-- where the last number stands in a payload of settings: at its end
+abbrev settings-last-at : ℕ
+settings-last-at = settings-length - number-length
+
+pub started : (a p : List ℕ) (n : ℕ) → length a ≡ shared-size → length p ≡ settings-length
+    → n ≡ little (take number-length (drop settings-last-at p))
     → n < suc number-greatest
-    → Holds p (spaces 25) (settings-of p .last) (sets (sets (sets (sets a 0 marks) 8 (in-bytes 4 n)) 16 p) 56 (replicate 25 0x20))
+    → Holds p (spaces identifier-length) (settings-of p .last)
+    (sets (sets (sets (sets a 0 marks) last-at (in-bytes number-length n)) settings-at p) in-force-at (spaces identifier-length))
 unfolding settings-of
 started a p n s e en f =
     let a₁ = sets a 0 marks in
-    let a₂ = sets a₁ 8 (in-bytes 4 n) in
-    let a₃ = sets a₂ 16 p in
+    let a₂ = sets a₁ last-at (in-bytes number-length n) in
+    let a₃ = sets a₂ settings-at p in
     let h₂ = last-put a₁ n (mark-put a s) f in
     let h₃ = settings-put a₂ p (h₂ .area) e in
-    let h₄ = force-put a₃ (replicate 25 0x20) (h₃ .area) refl in
+    let h₄ = force-put a₃ (spaces identifier-length) (h₃ .area) refl in
     record {
       area = h₄ .area;
       settings = h₄ .settings ∙ h₃ .settings;

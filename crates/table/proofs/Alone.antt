@@ -5,7 +5,7 @@ use mathlib.Core.Bool.{true, false≢true}
 use mathlib.Core.List.{List, [], _∷_, append-nil}
 use lib.ListN.{length, set}
 use Rattle.model.specs.Limits.{session-count}
-use Rattle.model.specs.Sharing.{Shared}
+use Rattle.model.specs.Sharing.{Shared, shared-begun}
 use Rattle.model.specs.Session.{Session, closed, opened, started, fresh, is-closed, Emission}
 use Rattle.model.specs.Local.{Local, opening, hang-up, step}
 use Rattle.model.specs.Row.{tag}
@@ -14,9 +14,11 @@ use Rattle.model.specs.Calls.{output}
 use Rattle.model.proofs.Erase.{output-append}
 use Rattle.model.proofs.InTurn.{next-to, emits-to, either-emits}
 use Rattle.text.specs.Put.{Put}
-use Rattle.text.proofs.Puts.{put-as, put-then}
-use Rattle.region.specs.Region.{session-of, Good, Steps}
-use Rattle.table.specs.Table.{decode, Table, Becomes, Went}
+use Rattle.model.proofs.BySettings.{step-bare}
+use Rattle.text.proofs.Puts.{put-nothing, put-as, put-then}
+use Rattle.session.specs.Effects.{out-bytes}
+use Rattle.region.specs.Region.{session-of, Good}
+use Rattle.table.specs.Table.{decode, settings-in, Table, Becomes, Went}
 use Rattle.table.proofs.Regions.{part, put, so-many-sessions, part-is, put-means}
 
 -- ==== one moment has passed
@@ -66,10 +68,32 @@ module _ (t : List ℕ) (s : ℕ) (l : Local) (table : Table t) (few : s < sessi
       (put-means t s r (set (decode t .sessions) s ((step (decode t .shared) l (session-at (decode t) s)) .0)) table few g
       (ap (set (decode t .sessions) s) (e ∙ sym (ap (λ (p : Session × List Emission). p .0) here))))
 
-  pub went-alone : {r o o′ : List ℕ} {at to : ℕ} → Steps s taken r o at to o′ → Went t o at (alone s l ∷ []) to (put t s r) o′
-  went-alone {r} w =
-      went-one (became-alone r (w .good) (w .session))
-      (put-as (ap output (sym (emits-to (decode t) s l there ∙ ap (λ (p : Session × List Emission). tag s (p .1)) here))) (w .bytes))
+  -- the region has become r, and what that emits was written
+  pub went-alone : {r o o′ : List ℕ} {at to : ℕ} (es : List Emission) → Good r → taken ≡ (session-of r, es)
+      → Put o at (out-bytes s es) to o′ → Went t o at (alone s l ∷ []) to (put t s r) o′
+  went-alone {r} es g e p =
+      let said : taken .1 ≡ es = ap (λ (q : Session × List Emission). q .1) e in
+      went-one (became-alone r g (sym (ap (λ (q : Session × List Emission). q .0) e)))
+      (put-as (ap output (sym (emits-to (decode t) s l there ∙ ap (λ (q : Session × List Emission). tag s (q .1)) here
+      ∙ ap (tag s) said))) p)
+
+-- a region's step is told the settings alone
+pub by-settings : (t : List ℕ) (l : Local) (x : Session) → step (decode t .shared) l x ≡ step (shared-begun (settings-in t) 0) l x
+unfolding decode
+by-settings t l x = step-bare (decode t .shared) l x
+
+-- the table keeps no count of events
+pub uncounted-yet : (t : List ℕ) (s : ℕ) (l : Local) → next (decode t) (alone s l) .shared .events ≡ 0
+unfolding decode
+uncounted-yet t s l = refl
+
+-- nothing has passed
+pub went-none : (t o : List ℕ) (at : ℕ) → Table t → Went t o at [] at t o
+unfolding decode
+went-none t o at h = record {
+  table = record { table = h; size = refl; past = refl; meaning = refl };
+  bytes = put-nothing o at;
+}
 
 -- ==== an opening and a hang-up
 

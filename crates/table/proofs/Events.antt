@@ -1,40 +1,31 @@
 -- An event: who takes it, and what it leaves to all sessions. Assumes nothing.
-use mathlib.Core.Path.{_≡_, sym, ap, subst, _∙_}
+use mathlib.Core.Path.{_≡_, refl, sym, ap, ap₂, subst, _∙_}
 use Prim.Native.Nat.{ℕ, suc, _+_, _*_, _^_, _≤_, _<_}
-use native.Mathlib.Nat.{add-zero, add-suc, suc-add, suc-mul, mul-le-mul-right, pow-suc, pow-le-pow-right}
+use native.Mathlib.Nat.{add-zero, add-suc, suc-add, pow-suc, pow-le-pow-right}
 use native.Mathlib.Numerals.{add-one}
 use lib.Dec.{lit≤}
 use native.Mathlib.Omega.{arith}
 use mathlib.Core.Bool.{Bool, true, false, cond}
 use mathlib.Core.List.{List, [], _∷_}
-use lib.ListN.{length, take, drop, drop-of-length-le}
+use lib.ListN.{length, getD, set, take, drop, drop-of-length-le}
+use lib.Seq.{drop-cons, drop-set-lt}
 use Rattle.model.specs.Limits.{session-count}
 use Rattle.model.specs.Bytes.{little}
 use Rattle.model.specs.Records.{settings-of}
 use Rattle.model.specs.Sharing.{Shared}
 use Rattle.model.specs.Session.{Session, closed}
-use Rattle.model.specs.Local.{takes}
-use Rattle.model.specs.World.{World}
+use Rattle.model.specs.Events.{Event}
+use Rattle.model.specs.Local.{event, takes, step}
+use Rattle.model.specs.World.{World, uncounted, session-at, to as alone}
 use Rattle.model.specs.Calls.{takers}
+use Rattle.model.proofs.InTurn.{next-to}
 use Rattle.frame.specs.Layout.{result-of}
-use Rattle.notices.specs.Places.{event-in}
+use Rattle.frame.specs.Places.{event-in}
 use Rattle.shared.specs.Shared.{settings-part, in-force-of, last-of, Holds}
-use Rattle.region.specs.Region.{session-of, Good}
-use Rattle.table.specs.Table.{shared-area, regions, decode, Table, Becomes, noted}
-use Rattle.table.proofs.Regions.{part, put, region-at, length-regions, put-regions, front, front-size, front-past, front-shared}
+use Rattle.region.specs.Region.{session-of}
+use Rattle.table.specs.Table.{shared-area, regions, decode, Table, Becomes, noted, Went}
+use Rattle.table.proofs.Regions.{so-many-sessions, length-regions, front, front-size, front-past, front-shared}
 use Rattle.table.proofs.Regions.{front-regions, front-table, table-means}
-use Rattle.table.proofs.Walks.{takers-next}
-
--- ==== the room for so many bytes a session
-
-pub room-left : (most s : ℕ) → s < session-count → s * most + most ≤ session-count * most
-room-left most s h = let n : suc s ≤ session-count = h in omega (arith, suc-mul s most, mul-le-mul-right most n)
-
-pub room-all : (most at to s : ℕ) → s ≤ session-count → to ≤ at + s * most → to ≤ at + session-count * most
-room-all most at to s h k = omega (arith, mul-le-mul-right most h)
-
-pub room-next : (most at to next s : ℕ) → to ≤ at + s * most → next ≤ to + most → next ≤ at + (s + 1) * most
-room-next most at to next s h k = omega (arith, suc-mul s most, ap (λ (n : ℕ). n * most) (add-one s))
 
 -- ==== who takes it
 
@@ -79,30 +70,44 @@ share-fits false bit h = omega arith
 pub doubles : (bit s : ℕ) → bit ≡ 2 ^ s → s < session-count → bit * 2 ≤ 131_072
 doubles bit s e h = omega (arith, bit-fits bit s e h)
 
-pub adds : (kind : ℕ) (t₀ : List ℕ) (taken rest share bit s : ℕ) (b : Bool) → taken + rest ≡ takers kind 0 (regions session-of t₀)
+pub adds : (kind : ℕ) (t₀ : List ℕ) (taken rest share bit s : ℕ) (b : Bool) → taken + rest ≡ takers kind 0 (decode t₀ .sessions)
     → share ≡ cond b bit 0 → bit ≡ 2 ^ s → s < session-count → taken + share ≤ 131_072
-unfolding decode
 adds kind t₀ taken rest share bit s b e es eb h =
     omega (arith, e, es, takers-below kind t₀, sum-fits, share-fits b bit (bit-fits bit s eb h))
 
--- a walk that adds them up: what is left to add is all of it
-pub taken-next : (kind : ℕ) (t r : List ℕ) (s taken share sum : ℕ) (b : Bool) → Table t → s < session-count → Good r
-    → b ≡ takes kind (session-of (part t s))
-    → share ≡ cond b (2 ^ s) 0 → taken + takers kind s (drop s (regions session-of t)) ≡ sum
-    → taken + share + takers kind (s + 1) (drop (s + 1) (regions session-of (put t s r))) ≡ sum
-taken-next kind t r s taken share sum b h few g eb es e =
-    let next = takers-next (regions session-of t) s (session-of (part t s)) (session-of r)
-    (rw (length-regions session-of t) few) (region-at session-of t s closed few) kind in
-    let new = ap (λ (l : List Session). takers kind (s + 1) (drop (s + 1) l)) (put-regions t s r (h .size) few (g .size) session-of) in
-    let mine : share ≡ cond (takes kind (session-of (part t s))) (2 ^ s) 0 = es ∙ ap (λ (z : Bool). cond z (2 ^ s) 0) eb in
-    omega (arith, next, new, mine, e)
+-- the others are as they were when one has had its turn: x stood at s, and y takes its place
+module _ (l : List Session) (s : ℕ) (x y : Session) (h : s < length l) (at-s : getD l s closed ≡ x) where
+  behind : drop (s + 1) (set l s y) ≡ drop (suc s) l
+  behind = ap (λ (n : ℕ). drop n (set l s y)) (add-one s) ∙ drop-set-lt (suc s) l s y (omega arith)
 
-pub taken-all : (kind : ℕ) (t : List ℕ) (s taken sum : ℕ) → session-count ≤ s → taken + takers kind s (drop s (regions session-of t)) ≡ sum
-    → taken ≡ sum
+  takers-next : (kind : ℕ) → takers kind s (drop s l) ≡ cond (takes kind x) (2 ^ s) 0 + takers kind (s + 1) (drop (s + 1) (set l s y))
+  takers-next kind =
+      ap (takers kind s) (drop-cons l s closed h ∙ ap (λ (z : Session). z ∷ drop (suc s) l) at-s)
+      ∙ ap (λ (n : ℕ). cond (takes kind x) (2 ^ s) 0 + n) (sym (ap₂ (takers kind) (add-one s) behind))
+
+-- a loop that adds them up: what is left to add is all of it
+pub taken-next : (kind : ℕ) (t t₁ o o₁ : List ℕ) (at to s taken share sum : ℕ) (b : Bool) (e : Event) → s < session-count
+    → Went t o at (alone s (event e) ∷ []) to t₁ o₁
+    → b ≡ takes kind (session-at (decode t) s)
+    → share ≡ cond b (2 ^ s) 0 → taken + takers kind s (drop s (decode t .sessions)) ≡ sum
+    → taken + share + takers kind (s + 1) (drop (s + 1) (decode t₁ .sessions)) ≡ sum
+taken-next kind t t₁ o o₁ at to s taken share sum b e few w eb es eq =
+    let l = decode t .sessions in
+    let h : s < length l = rw (so-many-sessions t) few in
+    let y = (step (decode t .shared) (event e) (session-at (decode t) s)) .0 in
+    let new : decode t₁ .sessions ≡ set l s y =
+    ap (λ (z : World). z .sessions) (w .table .meaning)
+    ∙ ap (λ (z : World). z .sessions) (ap uncounted (next-to (decode t) s (event e) h)) in
+    let mine : share ≡ cond (takes kind (session-at (decode t) s)) (2 ^ s) 0 = es ∙ ap (λ (z : Bool). cond z (2 ^ s) 0) eb in
+    let others = ap (λ (z : List Session). takers kind (s + 1) (drop (s + 1) z)) new in
+    omega (arith, takers-next l s (session-at (decode t) s) y h refl kind, others, mine, eq)
+
+pub taken-all : (kind : ℕ) (t : List ℕ) (s taken sum : ℕ) → session-count ≤ s
+    → taken + takers kind s (drop s (decode t .sessions)) ≡ sum → taken ≡ sum
 taken-all kind t s taken sum h e =
-    let n = length-regions session-of t in
+    let n = so-many-sessions t in
     sym (add-zero taken) ∙ ap (λ (l : List Session). taken + takers kind s l)
-    (sym (drop-of-length-le (regions session-of t) {i = s} (omega arith))) ∙ e
+    (sym (drop-of-length-le (decode t .sessions) {i = s} (omega arith))) ∙ e
 
 -- ==== what is left to all sessions
 

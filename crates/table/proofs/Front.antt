@@ -12,11 +12,10 @@ use Rattle.model.specs.Limits.{session-count}
 use Rattle.model.specs.Bytes.{all}
 use Rattle.model.specs.Session.{Session}
 use Rattle.text.proofs.Lists.{drop-take}
-use Rattle.text.specs.Cells.{cells}
-use Rattle.text.proofs.Cells.{cells-take}
+use Rattle.text.proofs.Areas.{areas-same}
 use Rattle.shared.specs.Shared.{shared-size, shared-formed}
 use Rattle.region.specs.Region.{region-size, session-of, region-formed}
-use Rattle.table.specs.Table.{shared-area, regions, table-used, shared-of, decode, table-formed}
+use Rattle.table.specs.Table.{shared-area, region-at, regions, table-used, shared-of, decode, table-formed}
 
 module _ (m : ℕ) (t : List ℕ) (h : table-used ≤ m) where
   area : shared-area (take m t) ≡ shared-area t
@@ -24,8 +23,9 @@ module _ (m : ℕ) (t : List ℕ) (h : table-used ≤ m) where
 
   parts : {A : Type 0} (f : List ℕ → A) → regions f (take m t) ≡ regions f t
   parts f =
-      ap (cells f region-size session-count) (drop-take shared-size m t (omega arith))
-      ∙ cells-take f region-size session-count (m - shared-size) (drop shared-size t) (omega arith)
+      areas-same (λ (s : ℕ). f) region-at (λ (s : ℕ). region-size) t (take m t) 0 session-count
+      (λ j p q. ap (take region-size) (drop-take (region-at j) m t (omega arith))
+      ∙ take-take region-size (m - region-at j) (drop (region-at j) t) (omega arith))
 
   pub decode-take : decode (take m t) ≡ decode t
   unfolding decode

@@ -1,7 +1,9 @@
 pub mod Regions
 pub mod Front
-pub mod Starts
 pub mod Alone
-pub mod Walks
+pub mod Turns
+pub mod Starts
 pub mod Events
+pub mod Says
+pub mod Passes
 pub mod Receives

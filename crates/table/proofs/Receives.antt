@@ -1,49 +1,83 @@
 -- Received bytes: what they do to their session, and the identifier that they may make known to all. Assumes nothing.
-use mathlib.Core.Path.{_≡_, refl, sym, ap, subst, _∙_}
-use mathlib.Core.Bool.{Bool, true, false, true≢false}
+use mathlib.Core.Path.{_≡_, refl, sym, ap, ap₂, subst, _∙_}
+use mathlib.Core.Bool.{Bool, true, false, cond, true≢false}
 use mathlib.Core.List.{List, [], _∷_}
 use mathlib.Core.Option.{Option, none, some, Option·map as option-map}
-use Prim.Native.Nat.{ℕ, _<_}
-use Rattle.model.specs.Limits.{session-count}
-use Rattle.model.specs.Records.{Settings}
-use Rattle.model.specs.Runs.{cut}
+use Prim.Native.Nat.{ℕ, _+_, _-_, _≤_, _<_}
+use native.Mathlib.Nat.{sub-zero}
+use native.Mathlib.Omega.{arith}
+use lib.Dec.{ltb, leb}
+use lib.ListN.{length, take}
+use lib.Seq.{take-all}
+use borrow.Author.Tests.{lt-ltb, le-ltb, leb-true}
+use Rattle.model.specs.Limits.{session-count, header-length}
+use Rattle.model.specs.Records.{Settings, settings-of, settings-length}
+use Rattle.model.specs.Runs.{Piece, cut, longer}
+use Rattle.model.specs.Kinds.{kinds, kind-at, copy-most, copies-most, reply-most, session-most, receive-most}
 use Rattle.model.specs.Events.{identified}
-use Rattle.model.specs.Session.{Session}
-use Rattle.model.specs.Local.{receives, announces}
+use Rattle.model.specs.Session.{Session, Emission}
+use Rattle.model.specs.Local.{receives, announces, step}
 use Rattle.model.specs.Sharing.{shared-begun}
+use Rattle.model.specs.Row.{tag}
+use Rattle.model.specs.World.{session-at, Moment, hears, happens, uncounted, next, emits}
+use Rattle.model.specs.Calls.{output, happening}
 use Rattle.model.proofs.BySettings.{announces-bare}
-use Rattle.model.specs.World.{session-at, Moment, hears, happens}
-use Rattle.model.specs.Calls.{bytes, happening, moments}
-use Rattle.region.specs.Region.{session-of, Steps, Knows, Hears}
-use Rattle.table.specs.Table.{decode, Table, Went}
-use Rattle.table.proofs.Regions.{part, put, part-is}
-use Rattle.table.proofs.Alone.{went-alone, went-then}
-use Rattle.table.proofs.Walks.{steps-with}
+use Rattle.model.proofs.InTurn.{emits-to}
+use Rattle.text.specs.Put.{Put}
+use Rattle.text.proofs.Puts.{put-nothing, put-as, put-then, put-length}
+use Rattle.text.proofs.Areas.{each-below}
+use Rattle.frame.specs.declared.To.{To}
+use Rattle.session.specs.Effects.{out-bytes, replies, ReplyLent}
+use Rattle.session.proofs.Hearing.{run-goes-on}
+use Rattle.session.proofs.Replies.{out-append}
+use Rattle.run.specs.Area.{run-of, Ends}
+use Rattle.head.specs.Head.{head-of}
+use Rattle.region.specs.Region as region
+use Rattle.region.specs.Region.{head-area, run-area, subscriptions-in, subscription-in, session-of, Good, run-bytes}
+use Rattle.region.specs.Said.{due-copy, Ready, ending, Knows, ended-in, end-said, RunEnds}
+use Rattle.region.specs.declared.Ended.{Ended}
+use Rattle.region.proofs.Areas.{means}
+use Rattle.shared.specs.Shared.{settings-part}
+use Rattle.table.specs.Table.{shared-area, region-in, decode, settings-in, Table, Becomes, Went}
+use Rattle.table.specs.Says.{Lent, Wrote, OpenLent, EndLent}
+use Rattle.table.specs.Passes.{unended, heard-by-all, Hears, Received}
+use Rattle.table.proofs.Regions.{part, put, part-is, so-many-sessions}
+use Rattle.table.proofs.Alone.{became-alone, went-one, went-then, went-alone, by-settings, uncounted-yet}
+use Rattle.table.proofs.Passes.{still-lent, there, same-settings}
 
--- ==== the session hears
+-- ==== bytes that end no run
 
-module _ (t : List ℕ) (s : ℕ) (bs : List ℕ) (table : Table t) (few : s < session-count) (st : Settings)
-    (settings : st ≡ decode t .shared .settings)
-    {r o o′ : List ℕ} {at next : ℕ} (place : List ℕ) {known : Bool} {place′ : List ℕ} where
-  pub heard : Hears s st (cut bs) (part t s) o at place next known r o′ place′
-      → Went t o at (hears s (cut bs) ∷ []) next (put t s r) o′
-      × Knows (announces (decode t .shared) (cut bs) (session-at (decode t) s)) place known place′
+module _ (t : List ℕ) (s : ℕ) (bs : List ℕ) (table : Table t) (few : s < session-count) where
+  abbrev r : List ℕ
+  r = part t s
+
+  goes-on : (step (shared-begun (settings-in t) 0) (receives (unended bs)) (session-of r)
+      ≡ (region.meaning (head-of (head-area r)) (longer (run-of (run-area r)) bs) (subscriptions-in r), []))
+      × (announces (shared-begun (settings-in t) 0) (unended bs) (session-of r) ≡ none)
+  unfolding session-of
+  goes-on =
+      let x = head-of (head-area r) in
+      run-goes-on (settings-in t) (run-of (run-area r)) (subscriptions-in r) (unended bs) refl (x .phase) (x .idle)
+
+  pub lengthened : {r′ : List ℕ} → region.Becomes r (head-of (head-area r)) (longer (run-of (run-area r)) bs) (subscriptions-in r) r′
+      → Becomes t (uncounted (next (decode t) (hears s (unended bs)))) (put t s r′)
+  lengthened {r′} b =
+      became-alone t s (receives (unended bs)) table few r′ (b .good)
+      (means b ∙ sym (ap (λ (q : Session × List Emission). q .0) (by-settings t (receives (unended bs)) (session-of r) ∙ goes-on .0)))
+
+  pub says-none : step (decode t .shared) (receives (unended bs)) (session-at (decode t) s)
+      ≡ (region.meaning (head-of (head-area r)) (longer (run-of (run-area r)) bs) (subscriptions-in r), [])
+  says-none =
+      ap (step (decode t .shared) (receives (unended bs))) (part-is t s few)
+      ∙ by-settings t (receives (unended bs)) (session-of r) ∙ goes-on .0
+
+  pub tells-none : announces (decode t .shared) (unended bs) (session-at (decode t) s) ≡ none
   unfolding decode
-  heard h = (
-    went-alone t s (receives (cut bs)) table few (steps-with t s (receives (cut bs)) (session-of (part t s)) settings (h .steps)),
-    subst (λ (z : Option (List ℕ)). Knows z place known place′)
-        (ap (λ (z : Settings). announces (shared-begun z 0) (cut bs) (session-of (part t s))) settings
-        ∙ sym (announces-bare (decode t .shared) (cut bs) (session-of (part t s)))
-        ∙ ap (announces (decode t .shared) (cut bs)) (sym (part-is t s few)))
-        (h .knows),
-  )
+  tells-none =
+      ap (announces (decode t .shared) (unended bs)) (part-is t s few) ∙ announces-bare (decode t .shared) (unended bs) (session-of r)
+      ∙ goes-on .1
 
 -- ==== what all are told
-
--- the table keeps no count of events
-uncounted-yet : (t : List ℕ) → decode t .shared .events ≡ 0
-unfolding decode
-uncounted-yet t = refl
 
 module _ (place : List ℕ) {known : Bool} {place′ : List ℕ} where
   told-none : (x : Option (List ℕ)) → Knows x place known place′ → known ≡ false → happening (option-map identified x) ≡ []
@@ -55,16 +89,145 @@ module _ (place : List ℕ) {known : Bool} {place′ : List ℕ} where
   told-one none k e = absurd (true≢false (sym e ∙ k .0))
   told-one (some x) k e = ap (λ (z : List ℕ). happens (identified z) ∷ []) (k .1)
 
-  module _ (t : List ℕ) (s : ℕ) (bs : List ℕ) {t₁ o o₁ : List ℕ} {at to : ℕ}
-      (k : Knows (announces (decode t .shared) (cut bs) (session-at (decode t) s)) place known place′)
-      (w : Went t o at (hears s (cut bs) ∷ []) to t₁ o₁) where
-    pub not-told : known ≡ false → Went t o at (moments (decode t) (bytes s bs)) to t₁ o₁
+  module _ (t : List ℕ) (s : ℕ) (p : Piece) {t₁ o o₁ : List ℕ} {at to : ℕ}
+      (k : Knows (announces (decode t .shared) p (session-at (decode t) s)) place known place′)
+      (w : Went t o at (hears s p ∷ []) to t₁ o₁) where
+    pub not-told : known ≡ false → Went t o at (heard-by-all (decode t) s p) to t₁ o₁
     not-told e =
-        subst (λ (ms : List Moment). Went t o at (hears s (cut bs) ∷ ms) to t₁ o₁)
-        (sym (told-none (announces (decode t .shared) (cut bs) (session-at (decode t) s)) k e)) w
+        subst (λ (ms : List Moment). Went t o at (hears s p ∷ ms) to t₁ o₁)
+        (sym (told-none (announces (decode t .shared) p (session-at (decode t) s)) k e)) w
 
     pub all-told : {t₂ o₂ : List ℕ} {next : ℕ} → known ≡ true → Went t₁ o₁ to (happens (identified place′) ∷ []) next t₂ o₂
-        → Went t o at (moments (decode t) (bytes s bs)) next t₂ o₂
+        → Went t o at (heard-by-all (decode t) s p) next t₂ o₂
     all-told {t₂} {o₂} {next} e v =
-        subst (λ (ms : List Moment). Went t o at (hears s (cut bs) ∷ ms) next t₂ o₂)
-        (told-one (announces (decode t .shared) (cut bs) (session-at (decode t) s)) k e) (went-then (uncounted-yet t) w v)
+        subst (λ (ms : List Moment). Went t o at (hears s p ∷ ms) next t₂ o₂)
+        (told-one (announces (decode t .shared) p (session-at (decode t) s)) k e) (went-then (uncounted-yet t s (receives p)) w v)
+
+-- ==== a piece of the bytes
+
+-- (a slice from 0 to i is i - 0 long)
+pub piece-is : (bs : List ℕ) (i : ℕ) → Ends bs i → i < length bs → ending (take (i - 0) bs) ≡ cut bs
+piece-is bs i e h =
+    let b = ap (λ (n : ℕ). take n bs) (sub-zero i) ∙ sym (e .bytes) in
+    let f = sym (e .ends ∙ lt-ltb i (length bs) h) in
+    λ j. record { bytes = b j; ends = f j }
+
+pub piece-goes-on : (bs : List ℕ) (i : ℕ) → Ends bs i → length bs ≤ i → unended bs ≡ cut bs
+piece-goes-on bs i e h =
+    let b = sym (e .bytes ∙ take-all i bs h) in
+    let f = sym (e .ends ∙ le-ltb i (length bs) h) in
+    λ j. record { bytes = b j; ends = f j }
+
+-- ==== bytes that end no run: the table has heard them
+
+pub goes-on-so : (t o : List ℕ) (to : To) (bs : List ℕ) (end : ℕ) → Lent t o to receive-most → Ends bs end → length bs ≤ end → (t′ : List ℕ)
+    → Becomes t (uncounted (next (decode t) (hears (to .session) (unended bs)))) t′ → Received t o to (cut bs) (to .at) t′ o
+goes-on-so t o to bs end l e h t′ b =
+    let s = to .session in
+    let quiet : happening (option-map identified (announces (decode t .shared) (unended bs) (session-at (decode t) s))) ≡ [] =
+    ap (λ (x : Option (List ℕ)). happening (option-map identified x)) (tells-none t s bs (l .table) (l .session)) in
+    let many : s < length (decode t .sessions) = rw (so-many-sessions t) (l .session) in
+    let silent : emits (decode t) (hears s (unended bs)) ≡ [] =
+    emits-to (decode t) s (receives (unended bs)) many
+    ∙ ap (λ (q : Session × List Emission). tag s (q .1)) (says-none t s bs (l .table) (l .session)) in
+    let w : Went t o (to .at) (hears s (unended bs) ∷ []) (to .at) t′ o = went-one b
+    (put-as (ap output (sym silent)) (put-nothing o (to .at))) in
+    subst (λ (p : Piece). Received t o to p (to .at) t′ o) (piece-goes-on bs end e h) (record {
+      within = omega arith;
+      went = subst (λ (ms : List Moment). Went t o (to .at) (hears s (unended bs) ∷ ms) (to .at) t′ o) (sym quiet) w;
+    })
+
+-- ==== what the end of a run leaves to say
+
+-- a copy of one kind has room where there is room for one of each
+copy-among : (kind : ℕ) → kind < length kinds → copy-most (kind-at kind) ≤ copies-most kinds
+copy-among kind h =
+    leb-true _ _ (each-below (length kinds) (λ (k : ℕ). leb (copy-most (kind-at k)) (copies-most kinds)) refl kind h)
+
+-- the bytes of the run, as they are lent on
+pub run-is : {g kept run : List ℕ} (t : List ℕ) (to : To) (bs : List ℕ) (e : Ended) → g ≡ region-in (to .session) t → kept ≡ run-bytes g
+    → run ≡ cond (e .whole) bs kept → run ≡ ended-in (e .whole) bs (region-in (to .session) t)
+run-is t to bs e eg ek er = er ∙ ap (cond (e .whole) bs) (ek ∙ ap run-bytes eg)
+
+module _ (t o : List ℕ) (to : To) (bs : List ℕ) (e : Ended) (l : EndLent t o to bs e) where
+  abbrev region-now : List ℕ
+  region-now = region-in (to .session) t
+
+  pub reply-lent : (payload : List ℕ) → length payload ≡ settings-length → (run : List ℕ) → run ≡ ended-in (e .whole) bs region-now
+      → ReplyLent o payload run to (e .reply)
+  reply-lent payload es run er =
+      let room = l .lent .room in
+      let few = l .lent .session in
+      record {
+        output = record { room = omega arith; numbered = omega arith };
+        settings = es;
+        header = λ q. rw er (l .whole q);
+      }
+
+  pub say-lent : {bytes : List ℕ} (at : ℕ) (o₁ : List ℕ) → at ≤ to .at + reply-most → Put o (to .at) bytes at o₁
+      → OpenLent t o₁ (record { session = to .session; at = at }) (e .kind) (e .sends)
+  say-lent at o₁ few p =
+      let room = l .lent .room in
+      let size = put-length p in
+      let among = copy-among (e .kind) (l .known) in
+      record {
+        known = l .known;
+        lent = record { table = l .lent .table; session = l .lent .session; room = omega arith };
+        ready = l .ready;
+      }
+
+  pub answered : {payload run o₁ o′ : List ℕ} {at next : ℕ} → payload ≡ settings-part (shared-area t) → run
+      ≡ ended-in (e .whole) bs region-now
+      → at ≤ to .at + reply-most
+      → Put o (to .at) (out-bytes (to .session) (replies (settings-of payload) (take header-length run) (e .reply))) at o₁
+      → Wrote (copy-most (kind-at (e .kind))) (due-copy (settings-in t) (e .kind) (e .sends) (subscription-in (e .kind) region-now))
+      (record { session = to .session; at = at }) o₁ next o′
+      → Wrote session-most (end-said (settings-in t) bs e region-now) to o next o′
+  answered ep er few p w =
+      let among = copy-among (e .kind) (l .known) in
+      let within = w .within in
+      let st = settings-in t in
+      record {
+        within = omega arith;
+        bytes = put-as
+            (sym (out-append (to .session) (replies st (take header-length (ended-in (e .whole) bs region-now)) (e .reply))
+            (due-copy st (e .kind) (e .sends) (subscription-in (e .kind) region-now))))
+            (put-then
+            (put-as (ap₂ (λ (z q : List ℕ). out-bytes (to .session) (replies (settings-of z) (take header-length q) (e .reply))) ep er) p)
+            (w .bytes));
+      }
+
+-- ==== the end of a run: first the region changes, and then what it has to say is written
+
+module _ (t o : List ℕ) (to : To) (bs place : List ℕ) (l : Lent t o to session-most) (granted : Bool) (e : Ended) (r′ place′ : List ℕ)
+    (w : RunEnds granted bs (part t (to .session)) place e r′ place′) where
+  abbrev t₁ : List ℕ
+  t₁ = put t (to .session) r′
+
+  now-there : region-in (to .session) t₁ ≡ r′
+  now-there = there t o to session-most l r′ (w .good)
+
+  pub end-lent : EndLent t₁ o to bs e
+  end-lent = record {
+    lent = still-lent t o to session-most l r′ (w .good);
+    known = w .kind;
+    ready = subst (λ (z : List ℕ). Ready (e .sends) (subscription-in (e .kind) z)) (sym now-there) (w .ready);
+    whole = λ q. subst (λ (z : List ℕ). header-length ≤ length (ended-in (e .whole) bs z)) (sym now-there) (w .whole q);
+  }
+
+  pub heard : settings-in t .granted ≡ granted → (next : ℕ) (o′ : List ℕ)
+      → Wrote session-most (end-said (settings-in t₁) bs e (region-in (to .session) t₁)) to o next o′
+      → Hears t o to bs place (record { at = next; identified = e .identified }) t₁ o′ place′
+  unfolding decode
+  heard eg next o′ v = record {
+    within = v .within;
+    went = went-alone t (to .session) (receives (ending bs)) (l .table) (l .session) (end-said (settings-in t) bs e r′) (w .good)
+        (by-settings t (receives (ending bs)) (session-of (part t (to .session))) ∙ w .steps (settings-in t) eg)
+        (put-as (ap (out-bytes (to .session)) (ap₂ (λ (st : Settings) (z : List ℕ). end-said st bs e z)
+        (same-settings t o to session-most l r′ (w .good)) now-there)) (v .bytes));
+    knows =
+        subst (λ (x : Option (List ℕ)). Knows x place (e .identified) place′)
+        (sym (ap (announces (decode t .shared) (ending bs)) (part-is t (to .session) (l .session))
+        ∙ announces-bare (decode t .shared) (ending bs) (session-of (part t (to .session)))))
+        (w .knows (settings-in t) eg);
+  }

@@ -14,34 +14,50 @@ use Rattle.model.specs.Bytes.{all}
 use Rattle.model.specs.Records.{settings-of, settings-length}
 use Rattle.model.specs.Session.{Session, closed}
 use Rattle.model.specs.World.{World, session-at}
-use Rattle.text.specs.Cells.{cells}
-use Rattle.text.proofs.Lists.{drop-next, all-at, drop-after}
-use Rattle.text.proofs.Cells.{area-same, area-before, part-put, part-at, length-cells}
+use Rattle.text.specs.Areas.{Apart}
+use Rattle.text.proofs.Lists.{drop-after}
+use Rattle.text.proofs.Cells.{area-same, area-before, area-after}
+use Rattle.text.proofs.Areas.{length-areas, areas-at, areas-put, areas-same, all-set, passes}
 use Rattle.shared.specs.Shared.{shared-size, settings-part, in-force-of, last-of, shared-formed, Area, Holds}
 use Rattle.region.specs.Region.{region-size, session-of, region-formed, Good}
-use Rattle.table.specs.Table.{shared-area, table-used, regions, decode, table-formed, Table, Becomes}
+use Rattle.table.specs.Table.{
+  shared-area,
+  region-at,
+  region-in,
+  table-used,
+  regions,
+  decode,
+  settings-in,
+  table-formed,
+  Table,
+  Becomes,
+}
 
--- where the region of session s begins
-abbrev at-region : ℕ → ℕ
-at-region s = shared-size + s * region-size
+-- the regions stand one behind the other, behind what is shared
+regions-apart : Apart region-at (λ (s : ℕ). region-size) session-count table-used
+regions-apart = record { order = λ i j h b. omega arith; ends = λ i h. omega arith }
 
--- that region, and the table with ys for it, as lending `&mut table[a..a + SIZE]` has them
+-- a region, and the table with ys for it, as lending `&mut table[a..a + SIZE]` has them
 abbrev pub part : List ℕ → ℕ → List ℕ
-part t s = midOf (at-region s) (at-region s + region-size - at-region s) t
+part t s = midOf (region-at s) (region-at s + region-size - region-at s) t
 
 abbrev pub put : List ℕ → ℕ → List ℕ → List ℕ
-put t s ys = putMid (at-region s) (at-region s + region-size - at-region s) t ys
+put t s ys = putMid (region-at s) (region-at s + region-size - region-at s) t ys
 
-part-size : (s : ℕ) → at-region s + region-size - at-region s ≡ region-size
-part-size s = add-sub-cancel-left (at-region s) region-size
+part-size : (s : ℕ) → region-at s + region-size - region-at s ≡ region-size
+part-size s = add-sub-cancel-left (region-at s) region-size
+
+pub part-in : (t : List ℕ) (s : ℕ) → part t s ≡ region-in s t
+part-in t s = ap (λ (w : ℕ). midOf (region-at s) w t) (part-size s)
 
 -- ==== what is known of each
 
 pub length-regions : {A : Type 0} (f : List ℕ → A) (t : List ℕ) → length (regions f t) ≡ session-count
-length-regions f t = length-cells f region-size session-count (drop shared-size t)
+length-regions f t = length-areas (λ (s : ℕ). f) region-at (λ (s : ℕ). region-size) 0 session-count t
 
-pub region-at : {A : Type 0} (f : List ℕ → A) (t : List ℕ) (s : ℕ) (d : A) → s < session-count → getD (regions f t) s d ≡ f (part t s)
-region-at f t s d h = part-at f shared-size region-size session-count s t d h
+pub region-read : {A : Type 0} (f : List ℕ → A) (t : List ℕ) (s : ℕ) (d : A) → s < session-count → getD (regions f t) s d ≡ f (part t s)
+region-read f t s d h =
+    areas-at (λ (s : ℕ). f) region-at (λ (s : ℕ). region-size) session-count s t d h ∙ ap f (sym (part-in t s))
 
 -- there are as many sessions, whatever the bytes
 pub so-many-sessions : (t : List ℕ) → length (decode t .sessions) ≡ session-count
@@ -51,7 +67,7 @@ so-many-sessions t = length-regions session-of t
 -- the session that a region means
 pub part-is : (t : List ℕ) (s : ℕ) → s < session-count → session-at (decode t) s ≡ session-of (part t s)
 unfolding decode
-part-is t s h = region-at session-of t s closed h
+part-is t s h = region-read session-of t s closed h
 
 formed-parts : (t : List ℕ) → Table t → (shared-formed (shared-area t) ≡ true) × (all (λ (b : Bool). b) (regions region-formed t) ≡ true)
 unfolding table-formed
@@ -61,7 +77,10 @@ pub length-shared : (t : List ℕ) → table-least ≤ length t → length (shar
 length-shared t h = mid-len 0 shared-size t (omega arith)
 
 pub length-part : (t : List ℕ) (s : ℕ) → table-least ≤ length t → s < session-count → length (part t s) ≡ region-size
-length-part t s h b = mid-len (at-region s) (at-region s + region-size) t (omega arith) ∙ part-size s
+length-part t s h b = mid-len (region-at s) (region-at s + region-size) t (omega arith) ∙ part-size s
+
+pub length-in : (t : List ℕ) (s : ℕ) → table-least ≤ length t → s < session-count → length (region-in s t) ≡ region-size
+length-in t s h b = ap length (sym (part-in t s)) ∙ length-part t s h b
 
 pub shared-good : (t : List ℕ) → Table t → Area (shared-area t)
 shared-good t h = record { size = length-shared t (h .size); formed = formed-parts t h .0 }
@@ -70,8 +89,8 @@ pub part-good : (t : List ℕ) (s : ℕ) → Table t → s < session-count → G
 part-good t s h b = record {
   size = length-part t s (h .size) b;
   formed =
-      sym (region-at region-formed t s true b) ∙ all-at (λ (b : Bool). b) (regions region-formed t) s true (formed-parts t h .1)
-      (rw (length-regions region-formed t) b);
+      ap region-formed (part-in t s)
+      ∙ passes (λ (s : ℕ). region-formed) region-at (λ (s : ℕ). region-size) session-count t (formed-parts t h .1) s b;
 }
 
 -- the parts of what is shared are as long as they are to be
@@ -82,29 +101,6 @@ length-settings a e = length-take-le 33 (drop 16 a) (simp length-drop (omega ari
 pub length-in-force : (a : List ℕ) → length a ≡ shared-size → length (in-force-of a) ≡ identifier-length
 unfolding in-force-of
 length-in-force a e = length-take-le 25 (drop 56 a) (simp length-drop (omega arith))
-
--- ==== the test of every region: of those from s on, and of those behind s
-
-module _ (t : List ℕ) where
-  abbrev pub formed-from : ℕ → Bool
-  formed-from s = all (λ (b : Bool). b) (drop s (regions region-formed t))
-
-  formed-next : (s : ℕ) → s < session-count → formed-from s ≡ region-formed (part t s) && formed-from (s + 1)
-  formed-next s h =
-      ap (all (λ (b : Bool). b)) (drop-next (regions region-formed t) s true (rw (length-regions region-formed t) h))
-      ∙ ap (λ (b : Bool). b && formed-from (s + 1)) (region-at region-formed t s true h)
-
-  -- a loop that tests a region a turn: what is left of the test is all of it
-  pub formed-goes-on : (s : ℕ) → s < session-count → region-formed (part t s) ≡ true → formed-from s ≡ formed-from 0
-      → formed-from (s + 1) ≡ formed-from 0
-  formed-goes-on s h e i = ap (λ (b : Bool). b && formed-from (s + 1)) (sym e) ∙ sym (formed-next s h) ∙ i
-
-  pub formed-stops : (s : ℕ) → s < session-count → region-formed (part t s) ≡ false → formed-from s ≡ formed-from 0 → false ≡ formed-from 0
-  formed-stops s h e i = ap (λ (b : Bool). b && formed-from (s + 1)) (sym e) ∙ sym (formed-next s h) ∙ i
-
-  pub formed-ends : (s : ℕ) → session-count ≤ s → formed-from s ≡ formed-from 0 → true ≡ formed-from 0
-  formed-ends s h i =
-      ap (all (λ (b : Bool). b)) (sym (drop-of-length-le (regions region-formed t) {i = s} (rw (length-regions region-formed t) h))) ∙ i
 
 -- ==== what makes a table, and what it means
 
@@ -140,7 +136,7 @@ holds-as-before t t′ h e = record {
 
 module _ (t : List ℕ) (s : ℕ) (ys : List ℕ) (long : table-least ≤ length t) (h : s < session-count) (len : length ys ≡ region-size) where
   abbrev at : ℕ
-  at = at-region s
+  at = region-at s
 
   fits : at + (at + region-size - at) ≤ length t
   fits = omega (arith, part-size s)
@@ -157,8 +153,18 @@ module _ (t : List ℕ) (s : ℕ) (ys : List ℕ) (long : table-least ≤ length
   pub put-shared : shared-area (put t s ys) ≡ shared-area t
   put-shared = area-before at (at + region-size - at) t ys len-part fits 0 shared-size (omega arith)
 
+  pub put-settings : settings-in (put t s ys) ≡ settings-in t
+  put-settings = ap (λ (a : List ℕ). settings-of (settings-part a)) put-shared
+
   pub put-regions : {A : Type 0} (f : List ℕ → A) → regions f (put t s ys) ≡ set (regions f t) s (f ys)
-  put-regions f = part-put f shared-size region-size session-count s t ys len (omega arith)
+  put-regions f = areas-put (λ (s : ℕ). f) region-at (λ (s : ℕ). region-size) regions-apart t ys s h len (omega arith)
+
+  -- it stands there
+  pub put-same : part (put t s ys) s ≡ ys
+  put-same = area-same at (at + region-size - at) t ys len-part fits
+
+  pub put-in : region-in s (put t s ys) ≡ ys
+  put-in = sym (part-in (put t s ys) s) ∙ put-same
 
 -- ==== what is shared was replaced
 
@@ -179,16 +185,11 @@ module _ (t ys : List ℕ) (long : table-least ≤ length t) (len : length ys �
   front-shared = area-same 0 shared-size t ys len front-fits
 
   pub front-regions : {A : Type 0} (f : List ℕ → A) → regions f (front t ys) ≡ regions f t
-  front-regions f = ap (cells f region-size session-count) (drop-after t ys 0 shared-size shared-size len front-fits (lit≤ tt))
+  front-regions f =
+      areas-same (λ (s : ℕ). f) region-at (λ (s : ℕ). region-size) t (front t ys) 0 session-count
+      (λ j p q. area-after 0 shared-size t ys len front-fits (region-at j) region-size (omega arith))
 
 -- ==== a table whose region or shared area was replaced by a good one is a table
-
-all-set : (l : List Bool) (s : ℕ) → all (λ (b : Bool). b) l ≡ true → all (λ (b : Bool). b) (set l s true) ≡ true
-all-set [] s e = refl
-all-set (x ∷ l) zero e = and-eq-true-iff x (all (λ (b : Bool). b) l) .0 e .1
-all-set (x ∷ l) (suc s) e =
-    let p = and-eq-true-iff x (all (λ (b : Bool). b) l) .0 e in
-    and-eq-true-iff x (all (λ (b : Bool). b) (set l s true)) .1 (p .0, all-set l s (p .1))
 
 pub put-table : (t : List ℕ) (s : ℕ) (r : List ℕ) → Table t → s < session-count → Good r → Table (put t s r)
 put-table t s r h b g =

@@ -1,19 +1,19 @@
 -- The lent table: what all sessions share, then a region for each session. 01, "What the product holds"; docs/TABLE.md has the map.
 -- Assumes nothing: these are definitions.
 use mathlib.Core.Path.{_≡_}
-use Prim.Native.Nat.{ℕ, _+_, _*_, _≤_}
-use mathlib.Core.Bool.{Bool, true, _&&_}
-use mathlib.Core.List.{List}
+use Prim.Native.Nat.{ℕ, _+_, _*_, _≤_, _<_}
+use mathlib.Core.Bool.{Bool, true, false, _&&_}
+use mathlib.Core.List.{List, [], _∷_}
 use lib.ListN.{length, take, drop}
 use Rattle.model.specs.Limits.{session-count, table-least}
 use Rattle.model.specs.Bytes.{all}
-use Rattle.model.specs.Records.{settings-of}
+use Rattle.model.specs.Records.{Settings, settings-of}
 use Rattle.model.specs.Events.{Event}
 use Rattle.model.specs.World.{World, uncounted, Moment, after, emitted}
 use Rattle.model.specs.Sharing.{Shared, shared-after, unnumbered}
 use Rattle.model.specs.Calls.{output}
 use Rattle.text.specs.Put.{Put}
-use Rattle.text.specs.Cells.{cells}
+use Rattle.text.specs.Areas.{areas}
 use Rattle.shared.specs.Shared.{shared-size, settings-part, in-force-of, last-of, shared-formed}
 use Rattle.region.specs.Region.{region-size, session-of, region-formed}
 
@@ -22,9 +22,16 @@ use Rattle.region.specs.Region.{region-size, session-of, region-formed}
 abbrev pub shared-area : List ℕ → List ℕ
 shared-area t = take shared-size (drop 0 t)
 
+-- where the region of a session begins
+abbrev pub region-at : ℕ → ℕ
+region-at s = shared-size + s * region-size
+
+abbrev pub region-in : ℕ → List ℕ → List ℕ
+region-in s t = take region-size (drop (region-at s) t)
+
 -- what f reads in the region of each session
 abbrev pub regions : {A : Type 0} → (List ℕ → A) → List ℕ → List A
-regions f t = cells f region-size session-count (drop shared-size t)
+regions f t = areas (λ s. f) region-at (λ s. region-size) 0 session-count t
 
 -- so many bytes are used, of those that are lent
 abbrev pub table-used : ℕ
@@ -37,6 +44,9 @@ shared-of a = record { settings = settings-of (settings-part a); in-force = in-f
 
 unfoldable pub decode : List ℕ → World
 decode t = record { shared = shared-of (shared-area t); sessions = regions session-of t }
+
+abbrev pub settings-in : List ℕ → Settings
+settings-in t = settings-of (settings-part (shared-area t))
 
 -- 01, "What the product holds", number 2: what is shared is well formed, and every region is
 unfoldable pub table-formed : List ℕ → Bool

@@ -2,25 +2,33 @@
 ghost use mathlib.Core.Path.{_≡_};
 ghost use mathlib.Core.Bool.{true, cond};
 ghost use mathlib.Core.List.{[], _∷_};
-ghost use Prim.Native.Nat.{suc, _+_, _^_, _≤_, _<_};
+ghost use Prim.Native.Nat.{suc, _+_, _≤_, _<_};
 ghost use lib.ListN.{length};
 ghost use Rattle.model.specs.Limits.{session-count, table-least, identifier-length, number-greatest};
 ghost use Rattle.model.specs.Records.{settings-of, settings-length};
-ghost use Rattle.model.specs.Kinds.{kinds, session-most, event-most, receive-most, tick-most};
+ghost use Rattle.model.specs.Kinds.{kinds, kind-at, copy-most, copies-most, session-most, event-most, receive-most, tick-most};
 ghost use Rattle.model.specs.Runs.{cut};
 ghost use Rattle.model.specs.Session.{is-closed as is-closed-session};
-ghost use Rattle.model.specs.Local.{announces, event};
-ghost use Rattle.model.specs.World.{session-at, begun, uncounted, opens, hangs-up, hears, to-all, ticks, happens as happens-event, next};
-ghost use Rattle.model.specs.World.{emits};
-ghost use Rattle.model.specs.Calls.{bytes as call-bytes, moments, output, takers};
-ghost use Rattle.text.specs.Put.{Put};
+ghost use Rattle.model.specs.Local.{tick as one-tick};
+ghost use Rattle.model.specs.World.{session-at, begun, uncounted, to as to-one, opens, hangs-up, hears, ticks, next};
+ghost use Rattle.frame.specs.Places.{place-size, event-in, notice-in};
 ghost use Rattle.run.specs.Area.{Ends};
-ghost use Rattle.notices.specs.Places.{place-size, event-in};
-ghost use Rattle.region.specs.Region.{Knows};
+ghost use Rattle.lane.specs.Lane.{is-plain as is-plain-so};
+ghost use Rattle.region.specs.Said.{copies, due-copy, due-copies, ending, end-said};
 ghost use Rattle.shared.specs.Shared.{settings-part};
-ghost use Rattle.table.specs.Table.{shared-area, decode, table-formed, Table, Becomes, noted, Went};
+ghost use Rattle.table.specs.Table.{shared-area, region-in, decode, settings-in, table-formed, Table, Becomes, noted, Went};
+ghost use Rattle.table.specs.Says.{Lent, Wrote, CopyLent, OpenLent, DueLent, EndLent, subscription-to, subscriptions-to};
+ghost use Rattle.table.specs.Passes.{EventLent, TellsOne, Tells, Happens, Hears, unended, Received};
+use frame::Asked;
+use frame::To;
+use model::IDENTIFIER_LENGTH;
+use model::IDENTIFIERS;
+use model::KIND_COUNT;
+use model::NUMBER_LENGTH;
 use model::SESSION_COUNT;
-use region::Received;
+use model::TIGHTENING_LENGTH;
+use region::Ended;
+use session::Form;
 
 // Where the regions begin, and the size of each.
 const SHARED: usize = shared::SIZE;
@@ -28,6 +36,15 @@ const SHARED: usize = shared::SIZE;
 const SIZE: usize = region::SIZE;
 
 // ---- reading
+
+// The region of session s, as it stands.
+fn region_of(table: &[u8], s: u64) -> &[u8]
+    requires { ⌜ (table-least ≤ length (now table)) × (s < session-count) ⌝ }
+    ensures { λ r. ⌜ now r ≡ region-in s (now (table .entry)) ⌝ }
+{
+    let a = SHARED + s as usize * SIZE;
+    &table[a..a + SIZE]
+}
 
 pub fn is_formed(table: &[u8]) -> bool
     requires { ⌜ table-least ≤ length (now table) ⌝ }
@@ -38,8 +55,7 @@ pub fn is_formed(table: &[u8]) -> bool
     }
     let mut s: u64 = 0;
     while s < SESSION_COUNT {
-        let a = SHARED + s as usize * SIZE;
-        if !region::is_formed(&table[a..a + SIZE]) {
+        if !region::is_formed(region_of(table, s)) {
             return false;
         }
         s += 1;
@@ -52,8 +68,7 @@ pub fn is_closed(table: &[u8], s: u64) -> bool
     requires { ⌜ Table (now table) × (s < session-count) ⌝ }
     ensures { λ r. ⌜ r ≡ is-closed-session (session-at (decode (now (table .entry))) s) ⌝ }
 {
-    let a = SHARED + s as usize * SIZE;
-    region::is_closed(&table[a..a + SIZE])
+    region::is_closed(region_of(table, s))
 }
 
 // The last tightening number.
@@ -116,34 +131,98 @@ pub fn hang_up(table: &mut [u8], s: u64)
     region::hang_up(&mut table[a..a + SIZE]);
 }
 
-// ---- what comes over all sessions
+// ---- saying: the table is lent beside the output
 
-// The settings' payload, apart from the table: a region of that is lent on together with them.
-fn settings_apart(table: &[u8]) -> [u8; 33]
-    requires { ⌜ Table (now table) ⌝ }
-    ensures { λ r. ⌜ settings-of r ≡ decode (now (table .entry)) .shared .settings ⌝ }
+// Whether it is subscribed to with no acknowledge asked.
+fn is_plain(form: Form) -> bool
+    ensures { λ r. ⌜ r ≡ is-plain-so form ⌝ }
 {
-    let mut bytes = [0; 33];
-    text::copy(settings(table), &mut bytes, 0);
-    bytes
+    match form {
+        Form::Not => false,
+        Form::Plain => true,
+        Form::Acknowledged => false,
+    }
 }
 
-// A tick.
+// A copy of the notice in a place, to a session that is subscribed to its kind.
+fn put_copy(table: &[u8], out: &mut [u8], to: To, kind: usize, place: &[u8]) -> usize
+    requires { ⌜ CopyLent (now table) (now out) to kind (now place) ⌝ }
+    ensures { λ r. ⌜ Wrote (copy-most (kind-at kind)) (copies (settings-in (now (table .entry))) kind
+        (subscription-to to kind (now (table .entry))) (notice-in kind (now (place .entry)) ∷ [])) to (now (out .entry)) r
+        (now (out .exit)) ⌝ }
+{
+    let x = lane::load(region::lane(region_of(table, to.session), kind));
+    let form = x.form;
+    let asked = Asked {
+        kind,
+        revision: x.revision,
+        no_acknowledge: is_plain(form),
+    };
+    frame::put_copy(out, to, asked, settings(table), place)
+}
+
+// A copy of the open notice of that kind, where one is due.
+fn say_one(table: &[u8], out: &mut [u8], to: To, kind: usize, due: bool) -> usize
+    requires { ⌜ OpenLent (now table) (now out) to kind «due» ⌝ }
+    ensures { λ r. ⌜ Wrote (copy-most (kind-at kind)) (due-copy (settings-in (now (table .entry))) kind «due»
+        (subscription-to to kind (now (table .entry)))) to (now (out .entry)) r (now (out .exit)) ⌝ }
+{
+    if !due {
+        return to.at;
+    }
+    let lane = region::lane(region_of(table, to.session), kind);
+    put_copy(table, out, to, kind, lane::first(lane, kind))
+}
+
+// Copies of the open notices of the kinds of which one is due, in order of kind.
+fn say(table: &[u8], out: &mut [u8], to: To, due: [bool; KIND_COUNT]) -> usize
+    requires { ⌜ DueLent (now table) (now out) to due ⌝ }
+    ensures { λ r. ⌜ Wrote (copies-most kinds) (due-copies (settings-in (now (table .entry))) 0 due
+        (subscriptions-to to (now (table .entry)))) to (now (out .entry)) r (now (out .exit)) ⌝ }
+{
+    let session = to.session;
+    let mut at = to.at;
+    let mut kind = 0;
+    while kind < KIND_COUNT {
+        at = say_one(table, out, To { session, at }, kind, due[kind]);
+        kind += 1;
+    }
+    at
+}
+
+// ---- a tick
+
+// To one session.
+fn tick_session(table: &mut [u8], out: &mut [u8], to: To) -> usize
+    requires { ⌜ Lent (now table) (now out) to (copies-most kinds) ⌝ }
+    ensures { λ r. ⌜ (r ≤ to .at + copies-most kinds) × Went (now (table .entry)) (now (out .entry)) (to .at)
+        (to-one (to .session) one-tick ∷ []) r (now (table .exit)) (now (out .exit)) ⌝ }
+{
+    let a = SHARED + to.session as usize * SIZE;
+    let ticked = region::tick(&mut table[a..a + SIZE]);
+    if ticked.closes {
+        return frame::put_close(out, to);
+    }
+    let due = ticked.due;
+    say(table, out, to, due)
+}
+
+// To every session, in order.
 pub fn tick(table: &mut [u8], out: &mut [u8], at: usize) -> usize
     requires { ⌜ Table (now table) × (at + tick-most ≤ length (now out)) ⌝ }
     ensures { λ r. ⌜ (r ≤ at + tick-most)
         × Went (now (table .entry)) (now (out .entry)) at (ticks ∷ []) r (now (table .exit)) (now (out .exit)) ⌝ }
 {
-    let settings = settings_apart(table);
-    let mut to = at;
-    let mut s: u64 = 0;
-    while s < SESSION_COUNT {
-        let a = SHARED + s as usize * SIZE;
-        to = region::tick(&mut table[a..a + SIZE], out, to, s, &settings);
-        s += 1;
+    let mut at = at;
+    let mut session: u64 = 0;
+    while session < SESSION_COUNT {
+        at = tick_session(table, out, To { session, at });
+        session += 1;
     }
-    to
+    at
 }
+
+// ---- an event
 
 // What an event did: the place behind what went out, and the sum of 2^s over the sessions s that took it.
 pub struct Told {
@@ -151,36 +230,58 @@ pub struct Told {
     pub taken: u64,
 }
 
-// What a session adds to that sum, whose 2^s is `bit`.
+// What it did to one session: the place behind what went out, and whether it was taken.
+struct Took {
+    at: usize,
+    taken: bool,
+}
+
+// An event of that kind, whose notice is in `place`, to one session.
+fn tell_session(table: &mut [u8], out: &mut [u8], to: To, kind: usize, place: &[u8]) -> Took
+    requires { ⌜ EventLent (now table) (now out) to kind (now place) ⌝ }
+    ensures { λ r. ⌜ TellsOne (now (table .entry)) (now (out .entry)) to kind (now (place .entry)) r (now (table .exit))
+        (now (out .exit)) ⌝ }
+{
+    let a = SHARED + to.session as usize * SIZE;
+    let told = region::take(&mut table[a..a + SIZE], kind, place);
+    if told.tell {
+        let at = put_copy(table, out, to, kind, place);
+        return Took {
+            at,
+            taken: told.taken,
+        };
+    }
+    Took {
+        at: to.at,
+        taken: told.taken,
+    }
+}
+
+// What a session adds to the sum, whose 2^s is `bit`.
 fn share(taken: bool, bit: u64) -> u64
     ensures { λ r. ⌜ r ≡ cond taken bit 0 ⌝ }
 {
     if taken { bit } else { 0 }
 }
 
-// An event of that kind, whose notice is in `place`, to every session.
+// An event of that kind, whose notice is in `place`, to every session, in order.
 fn tell(table: &mut [u8], out: &mut [u8], at: usize, kind: usize, place: &[u8]) -> Told
     requires { ⌜ Table (now table) × (at + event-most kind ≤ length (now out)) × (kind < length kinds)
         × (length (now place) ≡ place-size kind) ⌝ }
-    ensures { λ r. ⌜ (r .at ≤ at + event-most kind) × (r .taken ≡ takers kind 0 (decode (now (table .entry)) .sessions))
-        × Becomes (now (table .entry)) (next (decode (now (table .entry))) (to-all (event (event-in kind (now (place .entry))))))
-        (now (table .exit)) × Put (now (out .entry)) at
-        (output (emits (decode (now (table .entry))) (to-all (event (event-in kind (now (place .entry))))))) (r .at) (now (out .exit)) ⌝ }
+    ensures { λ r. ⌜ Tells (now (table .entry)) (now (out .entry)) at kind (now (place .entry)) r (now (table .exit)) (now (out .exit)) ⌝ }
 {
-    let settings = settings_apart(table);
-    let mut to = at;
+    let mut at = at;
     let mut taken: u64 = 0;
     let mut bit: u64 = 1;
-    let mut s: u64 = 0;
-    while s < SESSION_COUNT {
-        let a = SHARED + s as usize * SIZE;
-        let told = region::event(&mut table[a..a + SIZE], out, to, s, &settings, kind, place);
-        to = told.at;
-        taken += share(told.taken, bit);
+    let mut session: u64 = 0;
+    while session < SESSION_COUNT {
+        let took = tell_session(table, out, To { session, at }, kind, place);
+        at = took.at;
+        taken += share(took.taken, bit);
         bit *= 2;
-        s += 1;
+        session += 1;
     }
-    Told { at: to, taken }
+    Told { at, taken }
 }
 
 // What the event leaves to all sessions: the identifier in force, or the last number.
@@ -189,11 +290,11 @@ fn note(table: &mut [u8], kind: usize, place: &[u8])
     ensures { λ _. ⌜ Becomes (now (table .entry)) (noted (decode (now (table .entry))) (event-in kind (now (place .entry))))
         (now (table .exit)) ⌝ }
 {
-    if kind == message::IDENTIFIERS {
+    if kind == IDENTIFIERS {
         shared::put_in_force(&mut table[0..SHARED], place);
         return;
     }
-    let number = text::little(place, 106, 4);
+    let number = text::little(place, TIGHTENING_LENGTH, NUMBER_LENGTH);
     shared::put_last(&mut table[0..SHARED], number);
 }
 
@@ -201,10 +302,8 @@ fn note(table: &mut [u8], kind: usize, place: &[u8])
 pub fn happens(table: &mut [u8], out: &mut [u8], at: usize, kind: usize, place: &[u8]) -> Told
     requires { ⌜ Table (now table) × (at + event-most kind ≤ length (now out)) × (kind < length kinds)
         × (length (now place) ≡ place-size kind) ⌝ }
-    ensures { λ r. ⌜ (r .at ≤ at + event-most kind)
-        × Went (now (table .entry)) (now (out .entry)) at (happens-event (event-in kind (now (place .entry))) ∷ []) (r .at)
-        (now (table .exit)) (now (out .exit)) × (r .taken ≡ takers kind 0 (decode (now (table .entry)) .sessions))
-        × (r .taken < 2 ^ session-count) ⌝ }
+    ensures { λ r. ⌜ Happens (now (table .entry)) (now (out .entry)) at kind (now (place .entry)) r (now (table .exit))
+        (now (out .exit)) ⌝ }
 {
     let told = tell(table, out, at, kind, place);
     note(table, kind, place);
@@ -213,55 +312,89 @@ pub fn happens(table: &mut [u8], out: &mut [u8], at: usize, kind: usize, place: 
 
 // ---- received bytes
 
-// Received bytes, which are read up to `end`, to session s alone. An identifier that they make known is put in `place`.
-fn hear(
-    table: &mut [u8],
-    out: &mut [u8],
-    at: usize,
-    s: u64,
-    bytes: &[u8],
-    end: usize,
-    place: &mut [u8],
-) -> Received
-    requires { ⌜ Table (now table) × (s < session-count) × (at + session-most ≤ length (now out)) × (length (now place) ≡ identifier-length)
-        × Ends (now bytes) end ⌝ }
-    ensures { λ r. ⌜ (r .at ≤ at + session-most) × Went (now (table .entry)) (now (out .entry)) at
-        (hears s (cut (now (bytes .entry))) ∷ []) (r .at) (now (table .exit)) (now (out .exit))
-        × Knows (announces (decode (now (table .entry)) .shared) (cut (now (bytes .entry))) (session-at (decode (now (table .entry))) s))
-        (now (place .entry)) (r .identified) (now (place .exit)) ⌝ }
+// More bytes of the run of session s.
+fn lengthen(table: &mut [u8], s: u64, bytes: &[u8])
+    requires { ⌜ Table (now table) × (s < session-count) ⌝ }
+    ensures { λ _. ⌜ Becomes (now (table .entry))
+        (uncounted (next (decode (now (table .entry))) (hears s (unended (now (bytes .entry)))))) (now (table .exit)) ⌝ }
 {
-    let settings = settings_apart(table);
     let a = SHARED + s as usize * SIZE;
-    region::receive(
-        &mut table[a..a + SIZE],
-        out,
-        at,
-        s,
-        &settings,
-        bytes,
-        end,
-        place,
-    )
+    region::lengthen(&mut table[a..a + SIZE], bytes);
 }
 
-// Received bytes, which are read up to `end`, to session s. An identifier that they make known is an event to every session.
-pub fn receive(
-    table: &mut [u8],
-    out: &mut [u8],
-    at: usize,
-    s: u64,
-    bytes: &[u8],
-    end: usize,
-) -> usize
-    requires { ⌜ Table (now table) × (s < session-count) × (at + receive-most ≤ length (now out)) × Ends (now bytes) end ⌝ }
-    ensures { λ r. ⌜ (r ≤ at + receive-most) × Went (now (table .entry)) (now (out .entry)) at
-        (moments (decode (now (table .entry))) (call-bytes s (now (bytes .entry)))) r (now (table .exit)) (now (out .exit)) ⌝ }
+// Where the bytes of a run are that is over: in the slice that it ended in, if it began there, or where they were kept.
+fn ended_in<'a>(bytes: &'a [u8], kept: &'a [u8], whole: bool) -> &'a [u8]
+    ensures { λ r. ⌜ now r ≡ cond whole (now (bytes .entry)) (now (kept .entry)) ⌝ }
 {
-    let mut place = [0; 25];
-    let heard = hear(table, out, at, s, bytes, end, &mut place);
+    if whole {
+        return bytes;
+    }
+    kept
+}
+
+// What the end of a run leaves to say: the reply, and behind it the copy that is due.
+fn answer<'a>(table: &'a [u8], out: &mut [u8], to: To, bytes: &'a [u8], ended: Ended) -> usize
+    requires { ⌜ EndLent (now table) (now out) to (now bytes) ended ⌝ }
+    ensures { λ r. ⌜ Wrote session-most (end-said (settings-in (now (table .entry))) (now (bytes .entry)) ended
+        (region-in (to .session) (now (table .entry)))) to (now (out .entry)) r (now (out .exit)) ⌝ }
+{
+    let kept = region::run_bytes(region_of(table, to.session));
+    let run = ended_in(bytes, kept, ended.whole);
+    let reply = ended.reply;
+    let at = session::put_reply(out, to, settings(table), run, reply);
+    let behind = To {
+        session: to.session,
+        at,
+    };
+    say_one(table, out, behind, ended.kind, ended.sends)
+}
+
+// What came of the end of a run: the place behind what went out, and whether an identifier was made known.
+struct Heard {
+    at: usize,
+    identified: bool,
+}
+
+// The bytes end a run of a session. An identifier that is made known is put in `place`.
+fn hear(table: &mut [u8], out: &mut [u8], to: To, bytes: &[u8], place: &mut [u8]) -> Heard
+    requires { ⌜ Lent (now table) (now out) to session-most × (length (now place) ≡ identifier-length) ⌝ }
+    ensures { λ r. ⌜ Hears (now (table .entry)) (now (out .entry)) to (now (bytes .entry)) (now (place .entry)) r (now (table .exit))
+        (now (out .exit)) (now (place .exit)) ⌝ }
+{
+    let granted = session::is_granted(settings(table));
+    let a = SHARED + to.session as usize * SIZE;
+    let ended = region::end_run(&mut table[a..a + SIZE], granted, bytes, place);
+    let at = answer(table, out, to, bytes, ended);
+    Heard {
+        at,
+        identified: ended.identified,
+    }
+}
+
+// The bytes end a run of a session. An identifier that they make known is an event to every session.
+fn end_run(table: &mut [u8], out: &mut [u8], to: To, bytes: &[u8]) -> usize
+    requires { ⌜ Lent (now table) (now out) to receive-most ⌝ }
+    ensures { λ r. ⌜ Received (now (table .entry)) (now (out .entry)) to (ending (now (bytes .entry))) r (now (table .exit))
+        (now (out .exit)) ⌝ }
+{
+    let mut place = [0; IDENTIFIER_LENGTH];
+    let heard = hear(table, out, to, bytes, &mut place);
     if heard.identified {
-        let told = happens(table, out, heard.at, message::IDENTIFIERS, &place);
+        let told = happens(table, out, heard.at, IDENTIFIERS, &place);
         return told.at;
     }
     heard.at
+}
+
+// Received bytes to a session, which are read up to `end`.
+pub fn receive(table: &mut [u8], out: &mut [u8], to: To, bytes: &[u8], end: usize) -> usize
+    requires { ⌜ Lent (now table) (now out) to receive-most × Ends (now bytes) end ⌝ }
+    ensures { λ r. ⌜ Received (now (table .entry)) (now (out .entry)) to (cut (now (bytes .entry))) r (now (table .exit))
+        (now (out .exit)) ⌝ }
+{
+    if end < bytes.len() {
+        return end_run(table, out, to, &bytes[0..end]);
+    }
+    lengthen(table, to.session, bytes);
+    to.at
 }

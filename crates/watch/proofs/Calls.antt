@@ -9,6 +9,7 @@ use native.Mathlib.Omega.{arith}
 use lib.Dec.{eqb}
 use lib.ListN.{length, length-append}
 use borrow.Author.Tests.{eqb-true, eqb-false, eq-eqb, ne-eqb}
+use Rattle.model.specs.Limits.{copy-every, given-up-at, most-repeats, most-copies, longest-wait}
 use Rattle.watch.specs.Marks.{Seen, copies-among, Every}
 use Rattle.watch.specs.Course.{Queue, empty, busy, Eff, rest, lone, first, keep, wait, swap, wipe, over, pass, beat, again, quit}
 use Rattle.watch.specs.Course.{quit-pass}
@@ -23,12 +24,12 @@ Above lo (x ∷ q) hi = (lo ≤ x .id) × Above (suc (x .id)) q hi
 -- the clock runs, and those that wait are later than the open one
 abbrev pub Good : Queue → ℕ → Type 0
 Good empty k = Unit {0}
-Good (busy x c q) k = (c < 120) × Above (suc (x .id)) q k
+Good (busy x c q) k = (c < given-up-at) × Above (suc (x .id)) q k
 
 -- n is open, and its clock is c
 abbrev pub OpenAt : ℕ → ℕ → Queue → ℕ → Type 0
 OpenAt n c empty k = ⊥
-OpenAt n c (busy x d q) k = (x .id ≡ n) × (d ≡ c) × (d < 120) × Above (suc (x .id)) q k
+OpenAt n c (busy x d q) k = (x .id ≡ n) × (d ≡ c) × (d < given-up-at) × Above (suc (x .id)) q k
 
 -- n is gone for good: all that there is, and all that will come, is later
 abbrev pub Gone : ℕ → Queue → ℕ → Type 0
@@ -98,8 +99,8 @@ module _ {z : Bool} {k k′ : ℕ} where
 pub data Fate (n c : ℕ) (q′ : Queue) (k′ : ℕ) (es : List Seen) : Bool → Bool → Type 0 where
   shut : {t : Bool} → copies-among n es ≡ 0 → Gone n q′ k′ → Fate n c q′ k′ es true t
   same : copies-among n es ≡ 0 → OpenAt n c q′ k′ → Fate n c q′ k′ es false false
-  runs : copies-among n es + c / 20 ≡ suc c / 20 → OpenAt n (suc c) q′ k′ → Fate n c q′ k′ es false true
-  ends : suc c ≡ 120 → copies-among n es + c / 20 ≡ 5 → Gone n q′ k′ → Fate n c q′ k′ es false true
+  runs : copies-among n es + c / copy-every ≡ suc c / copy-every → OpenAt n (suc c) q′ k′ → Fate n c q′ k′ es false true
+  ends : suc c ≡ given-up-at → copies-among n es + c / copy-every ≡ most-repeats → Gone n q′ k′ → Fate n c q′ k′ es false true
 
 module _ {z : Bool} {k k′ : ℕ} where
   pub open-step : (n c : ℕ) {e : Option (List ℕ)} {o a s t p p′ : Bool} {q q′ : Queue} {es : List Seen}
@@ -232,15 +233,16 @@ module _ {z : Bool} {k k′ : ℕ} where
 
 abbrev pub credit : Queue → ℕ
 credit empty = 0
-credit (busy x c q) = (119 - c) / 20 + 6 * length q
+credit (busy x c q) = (given-up-at - suc c) / copy-every + most-copies * length q
 
-abbrev pub six : Bool → ℕ
-six true = 6
-six false = 0
+-- and of an event, by whether it was taken
+abbrev pub new-credit : Bool → ℕ
+new-credit true = most-copies
+new-credit false = 0
 
 module _ {z : Bool} {k k′ : ℕ} where
   pub credit-step : {e : Option (List ℕ)} {o a s t p p′ : Bool} {q q′ : Queue} {es : List Seen}
-      → Eff z k k′ e o a s t p p′ q q′ es → Good q k → length es + credit q′ ≤ credit q + six o
+      → Eff z k k′ e o a s t p p′ q q′ es → Good q k → length es + credit q′ ≤ credit q + new-credit o
   credit-step (rest h) g = omega arith
   credit-step (lone h) g = omega arith
   credit-step (first h) g = omega arith
@@ -266,7 +268,7 @@ Ahead n (suc i) (x ∷ q) = Ahead n i q
 -- n waits, and is to go out within d ticks
 abbrev pub Due : ℕ → ℕ → Queue → Type 0
 Due n d empty = ⊥
-Due n d (busy x c q) = (i : ℕ) × Ahead n i q × (120 + 120 * i ≤ d + c) × (c < 120)
+Due n d (busy x c q) = (i : ℕ) × Ahead n i q × (given-up-at + given-up-at * i ≤ d + c) × (c < given-up-at)
 
 ahead-more : (n i : ℕ) (q : List Seen) (x : Seen) → Ahead n i q → Ahead n i (q ++ x ∷ [])
 ahead-more n i [] x h = absurd h
@@ -286,7 +288,7 @@ less-le true d = omega arith
 less-le false d = omega arith
 
 -- the next one goes out; n is it, or waits on
-promoted : (n d i : ℕ) (y : Seen) (q : List Seen) → Ahead n i (y ∷ q) → 120 * i ≤ d
+promoted : (n d i : ℕ) (y : Seen) (q : List Seen) → Ahead n i (y ∷ q) → given-up-at * i ≤ d
     → (0 < copies-among n (y ∷ [])) ⊎ Due n d (busy y 0 q)
 promoted n d zero y q h l = let e = one n (y .id) h in inl (omega arith)
 promoted n d (suc i) y q h l = inr (i, h, omega arith, omega arith)
@@ -309,7 +311,7 @@ module _ {k k′ : ℕ} where
 
   -- an event that is taken is sent at once or waits
   pub due-taken : {e : Option (List ℕ)} {a s t p p′ : Bool} {q q′ : Queue} {es : List Seen}
-      → Eff false k k′ e true a s t p p′ q q′ es → Good q k → (0 < copies-among k es) ⊎ Due k 840 q′
+      → Eff false k k′ e true a s t p p′ q q′ es → Good q k → (0 < copies-among k es) ⊎ Due k longest-wait q′
   due-taken (lone h) g = let e = one k k refl in inl (omega arith)
   due-taken (first h) g = let e = one k k refl in inl (omega arith)
   due-taken (wait {f = f} {q = r} h l) g = inr (length r, ahead-last r (record { id = k; frame = f }), omega arith, g .0)

@@ -9,12 +9,13 @@ use native.Mathlib.Omega.{arith}
 use lib.Dec.{eqb}
 use lib.ListN.{length, length-append}
 use borrow.Author.Tests.{eq-eqb, ne-eqb}
+use Rattle.model.specs.Limits.{copy-every, given-up-at, most-repeats, most-copies, longest-wait}
 use Rattle.watch.specs.Marks.{Seen, Mark, copies-among, all-sent, copies, tick-count, ticks-open, or-later, frame-of, Every, Origin}
 use Rattle.watch.specs.Marks.{Stays, Held, taken}
 use Rattle.watch.specs.Course.{Queue, empty, busy, Eff, Rises, Course, end, call}
 use Rattle.watch.proofs.Calls.{Good, OpenAt, Gone, NotOpen, good-step, gone-step, Fate, shut, same, runs, ends, open-step, Start}
 use Rattle.watch.proofs.Calls.{not-yet, opens, single, start-step, all, every-append, held-step, dropped-step, subscribed-step}
-use Rattle.watch.proofs.Calls.{credit, six, credit-step, Due, less, due-step, due-taken}
+use Rattle.watch.proofs.Calls.{credit, new-credit, credit-step, Due, less, due-step, due-taken}
 
 pub copies-append : (n : ℕ) (xs ys : List Seen) → copies-among n (xs ++ ys) ≡ copies-among n xs + copies-among n ys
 copies-append n [] ys = omega arith
@@ -39,13 +40,13 @@ course-before (m ∷ xs) ys (call e r f c) = call e r f (course-before xs ys c)
 
 -- ==== the arithmetic of one more call; `later` is what is sent after it, and t the ticks after it
 
-open-lt : (n c : ℕ) (q : Queue) (k : ℕ) → OpenAt n c q k → c < 120
+open-lt : (n c : ℕ) (q : Queue) (k : ℕ) → OpenAt n c q k → c < given-up-at
 open-lt n c empty k g = absurd g
 open-lt n c (busy x d q) k g = omega arith
 
-open-more : (n d : ℕ) (q′ : Queue) (k′ : ℕ) (es : List Seen) {s b : Bool} (later t : ℕ) → d < 120 → Fate n d q′ k′ es s b
-    → ((d′ : ℕ) → OpenAt n d′ q′ k′ → later + d′ / 20 ≡ min 5 ((d′ + t) / 20)) → (Gone n q′ k′ → later ≡ 0)
-    → copies-among n es + later + d / 20 ≡ min 5 ((d + cond s 0 (cond b (suc t) t)) / 20)
+open-more : (n d : ℕ) (q′ : Queue) (k′ : ℕ) (es : List Seen) {s b : Bool} (later t : ℕ) → d < given-up-at → Fate n d q′ k′ es s b
+    → ((d′ : ℕ) → OpenAt n d′ q′ k′ → later + d′ / copy-every ≡ min most-repeats ((d′ + t) / copy-every)) → (Gone n q′ k′ → later ≡ 0)
+    → copies-among n es + later + d / copy-every ≡ min most-repeats ((d + cond s 0 (cond b (suc t) t)) / copy-every)
 open-more n d q′ k′ es later t h (shut z g) ih lost = let y = lost g in omega arith
 open-more n d q′ k′ es later t h (same z g) ih lost = let y = ih d g in omega arith
 open-more n d q′ k′ es later t h (runs z g) ih lost = let y = ih (suc d) g in omega arith
@@ -53,8 +54,8 @@ open-more n d q′ k′ es later t h (ends e z g) ih lost = let y = lost g in om
 
 -- the call sends the first copy
 start-more : (n : ℕ) (q′ : Queue) (k′ : ℕ) (es : List Seen) {a : Bool} (later t : ℕ) → Start n q′ k′ es a → 0 < copies-among n es
-    → (OpenAt n 0 q′ k′ → later + 0 / 20 ≡ min 5 ((0 + t) / 20)) → (Gone n q′ k′ → later ≡ 0)
-    → copies-among n es + later ≡ cond a (1 + min 5 (t / 20)) 1
+    → (OpenAt n 0 q′ k′ → later + 0 / copy-every ≡ min most-repeats ((0 + t) / copy-every)) → (Gone n q′ k′ → later ≡ 0)
+    → copies-among n es + later ≡ cond a (1 + min most-repeats (t / copy-every)) 1
 start-more n q′ k′ es later t (not-yet z g) h up lost = absurd (omega arith)
 start-more n q′ k′ es later t (opens z g) h up lost = let y = up g in omega arith
 start-more n q′ k′ es later t (single z g) h up lost = let y = lost g in omega arith
@@ -76,7 +77,7 @@ gone n (call {m = m} {ms = ms} e r f c) g =
 
 -- n is open and its clock is d: what is still to come of it
 pub opened : (n d : ℕ) {z : Bool} {k : ℕ} {q : Queue} {ms : List Mark} → Course z k q ms → OpenAt n d q k
-    → copies n ms + d / 20 ≡ min 5 ((d + ticks-open ms) / 20)
+    → copies n ms + d / copy-every ≡ min most-repeats ((d + ticks-open ms) / copy-every)
 opened n d {k = k} {q = q} end g = let h = open-lt n d q k g in omega arith
 opened n d {k = k} {q = q} (call {k′ = k′} {q′ = q′} {m = m} {ms = ms} e r f c) g =
     rw (copies-append n (m .sent) (all-sent ms))
@@ -86,7 +87,7 @@ opened n d {k = k} {q = q} (call {k′ = k′} {q′ = q′} {m = m} {ms = ms} e
 -- by the call that sends the first copy
 pub counted : (n : ℕ) {z : Bool} {k : ℕ} {q : Queue} (before : List Mark) (m : Mark) (later : List Mark)
     → Course z k q (before ++ m ∷ later) → Good q k → NotOpen n q → copies n before ≡ 0 → 0 < copies-among n (m .sent)
-    → copies n (before ++ m ∷ later) ≡ cond (m .asked) (1 + min 5 (ticks-open later / 20)) 1
+    → copies n (before ++ m ∷ later) ≡ cond (m .asked) (1 + min most-repeats (ticks-open later / copy-every)) 1
 counted n [] m later (call {k′ = k′} {q′ = q′} e r f c) g u z h =
     rw (copies-append n (m .sent) (all-sent later))
     (start-more n q′ k′ (m .sent) (copies n later) (ticks-open later) (start-step n f g u) h (opened n 0 c) (gone n c))
@@ -169,17 +170,17 @@ pub subscribers : {z : Bool} {k : ℕ} {q : Queue} {ms : List Mark} → Course z
 subscribers end = tt
 subscribers (call e r f c) = (λ h. subscribed-step f h, subscribers c)
 
--- ==== six copies at most for each event that was taken, and what is still to come of those that were queued
+-- ==== most-copies (six) at most for each event that was taken, and what is still to come of those that were queued
 
 pub bounded : {z : Bool} {k : ℕ} {q : Queue} {ms : List Mark} → Course z k q ms → Good q k
-    → length (all-sent ms) ≤ credit q + 6 * taken ms
+    → length (all-sent ms) ≤ credit q + most-copies * taken ms
 bounded end g = omega arith
 bounded {q = q} (call {k′ = k′} {q′ = q′} {m = m} {ms = ms} e r f c) g =
     more (m .took) (credit-step f g) (bounded c (good-step f g))
   where
-    more : (o : Bool) → length (m .sent) + credit q′ ≤ credit q + six o
-        → length (all-sent ms) ≤ credit q′ + 6 * taken ms
-        → length (m .sent ++ all-sent ms) ≤ credit q + 6 * cond o (suc (taken ms)) (taken ms)
+    more : (o : Bool) → length (m .sent) + credit q′ ≤ credit q + new-credit o
+        → length (all-sent ms) ≤ credit q′ + most-copies * taken ms
+        → length (m .sent ++ all-sent ms) ≤ credit q + most-copies * cond o (suc (taken ms)) (taken ms)
     more true h ih = omega (arith, length-append (m .sent) (all-sent ms))
     more false h ih = omega (arith, length-append (m .sent) (all-sent ms))
 
@@ -203,14 +204,14 @@ module _ (n : ℕ) where
       go true (inr h) l ih = let y = ih (d - 1) h (omega arith) in omega (arith, copies-append n (m .sent) (all-sent ms))
       go false (inr h) l ih = let y = ih d h l in omega (arith, copies-append n (m .sent) (all-sent ms))
 
--- taken by this call, sent within 840 ticks
+-- taken by this call, sent within the longest wait
 pub taken-in-time : {k : ℕ} {q : Queue} (before : List Mark) (m : Mark) (later : List Mark) → Course false k q (before ++ m ∷ later)
     → Good q k
-    → m .took ≡ true → Stays (m ∷ later) → 840 ≤ tick-count later → 0 < copies (m .number) (m ∷ later)
+    → m .took ≡ true → Stays (m ∷ later) → longest-wait ≤ tick-count later → 0 < copies (m .number) (m ∷ later)
 taken-in-time [] m later (call {k = k} {q′ = q′} e r f c) g t u l =
     subst (λ (n : ℕ). 0 < copies n (m ∷ later)) (sym e) (go (due-taken (rw t at f) g))
   where
-    go : (0 < copies-among k (m .sent)) ⊎ Due k 840 q′ → 0 < copies k (m ∷ later)
+    go : (0 < copies-among k (m .sent)) ⊎ Due k longest-wait q′ → 0 < copies k (m ∷ later)
     go (inl h) = omega (arith, copies-append k (m .sent) (all-sent later))
-    go (inr h) = let y = in-time k 840 c h (u .1) l in omega (arith, copies-append k (m .sent) (all-sent later))
+    go (inr h) = let y = in-time k longest-wait c h (u .1) l in omega (arith, copies-append k (m .sent) (all-sent later))
 taken-in-time (b ∷ before) m later (call e r f c) g t u l = taken-in-time before m later c (good-step f g) t u l

@@ -5,6 +5,7 @@ use mathlib.Core.Bool.{Bool, true, false, cond}
 use mathlib.Core.List.{List, [], _∷_, _++_, append-assoc}
 use native.Mathlib.Omega.{arith}
 use lib.ListN.{length}
+use Rattle.model.specs.Limits.{copy-every, most-repeats, most-copies}
 use Rattle.watch.specs.Marks.{Mark, all-sent, copies, ticks-open, First, frame-of, taken, Demand3, InTime}
 use Rattle.watch.specs.Course.{empty, Course}
 use Rattle.watch.proofs.Histories.{copies-join, course-before, counted, framed, held, dropped, subscribers, bounded, taken-in-time}
@@ -20,19 +21,21 @@ same-for false x y p q r u v w h = omega arith
 
 module _ {z : Bool} {k : ℕ} where
   number-of : (n : ℕ) (before : List Mark) (m : Mark) (later : List Mark) → Course z k empty (before ++ m ∷ later) → First n before m
-      → {b : Bool} → m .asked ≡ b → copies n (before ++ m ∷ later) ≡ cond b (1 + min 5 (ticks-open later / 20)) 1
+      → {b : Bool} → m .asked ≡ b → copies n (before ++ m ∷ later) ≡ cond b (1 + min most-repeats (ticks-open later / copy-every)) 1
   number-of n before m later c f a =
-      counted n before m later c tt tt (f .none-before) (f .sends) ∙ ap (λ (b : Bool). cond b (1 + min 5 (ticks-open later / 20)) 1) a
+      counted n before m later c tt tt (f .none-before) (f .sends)
+      ∙ ap (λ (b : Bool). cond b (1 + min most-repeats (ticks-open later / copy-every)) 1) a
 
   closed-once : (n : ℕ) (before : List Mark) (m : Mark) (between : List Mark) (c : Mark) (later : List Mark)
       → Course z k empty ((before ++ m ∷ between) ++ c ∷ later) → First n before m → c .closes ≡ true → copies n (c ∷ later) ≡ 0
   closed-once n before m between c later h f e =
       let r : (before ++ m ∷ between) ++ c ∷ later ≡ before ++ m ∷ (between ++ c ∷ later) = append-assoc before (m ∷ between) (c ∷ later) in
       same-for (m .asked) (copies n (before ++ m ∷ (between ++ c ∷ later))) (copies n (before ++ m ∷ between))
-      (min 5 (ticks-open (between ++ c ∷ later) / 20)) (min 5 (ticks-open between / 20)) (copies n (c ∷ later))
+      (min most-repeats (ticks-open (between ++ c ∷ later) / copy-every)) (min most-repeats (ticks-open between / copy-every))
+      (copies n (c ∷ later))
       (number-of n before m (between ++ c ∷ later) (subst (Course z k empty) r h) f refl)
       (number-of n before m between (course-before (before ++ m ∷ between) (c ∷ later) h) f refl)
-      (ap (λ (t : ℕ). min 5 (t / 20)) (ticks-to between c later e))
+      (ap (λ (t : ℕ). min most-repeats (t / copy-every)) (ticks-to between c later e))
       (ap (copies n) (sym r) ∙ copies-join n (before ++ m ∷ between) (c ∷ later))
 
   -- DEMAND 3
@@ -49,8 +52,8 @@ module _ {z : Bool} {k : ℕ} where
     only-subscribed = subscribers c;
   }
 
-  -- six copies at most for each event that was taken
-  pub few : {ms : List Mark} → Course z k empty ms → length (all-sent ms) ≤ 6 * taken ms
+  -- most-copies (six) at most for each event that was taken
+  pub few : {ms : List Mark} → Course z k empty ms → length (all-sent ms) ≤ most-copies * taken ms
   few c = let h = bounded c tt in omega arith
 
 pub goes-out-in-time : {k : ℕ} {ms : List Mark} → Course false k empty ms → InTime ms

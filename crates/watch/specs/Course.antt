@@ -6,6 +6,7 @@ use mathlib.Core.Bool.{Bool, true, false}
 use mathlib.Core.List.{List, [], _∷_, _++_}
 use mathlib.Core.Option.{Option, none, some}
 use lib.ListN.{length}
+use Rattle.model.specs.Limits.{copy-every, given-up-at, tightenings-held}
 use Rattle.watch.specs.Marks.{Seen, Mark}
 
 -- the notices that wait for an acknowledge: the first is open, with its clock, and the others wait
@@ -28,7 +29,7 @@ pub data Eff (z : Bool) (k k′ : ℕ) : Option (List ℕ) → Bool → Bool →
   -- one is open, and the session stays subscribed: it stays as it is, one more waits, the newest alone waits
   keep : {e : Option (List ℕ)} {x : Seen} {c : ℕ} {q : List Seen} {p : Bool} → k ≤ k′
       → Eff z k k′ e false true false false p true (busy x c q) (busy x c q) []
-  wait : {f : List ℕ} {x : Seen} {c : ℕ} {q : List Seen} {p : Bool} → k′ ≡ suc k → length q < 7
+  wait : {f : List ℕ} {x : Seen} {c : ℕ} {q : List Seen} {p : Bool} → k′ ≡ suc k → suc (length q) < tightenings-held
       → Eff z k k′ (some f) true true false false p true (busy x c q) (busy x c (q ++ record { id = k; frame = f } ∷ [])) []
   swap : {f : List ℕ} {x : Seen} {c : ℕ} {q : List Seen} {p : Bool} → z ≡ true → k′ ≡ suc k
       → Eff z k k′ (some f) true true false false p true (busy x c q) (busy x c (record { id = k; frame = f } ∷ [])) []
@@ -40,13 +41,15 @@ pub data Eff (z : Bool) (k k′ : ℕ) : Option (List ℕ) → Bool → Bool →
   pass : {e : Option (List ℕ)} {t : Bool} {x y : Seen} {c : ℕ} {q : List Seen} → k ≤ k′
       → Eff z k k′ e false true true t true true (busy x c (y ∷ q)) (busy y 0 q) (y ∷ [])
   -- a tick: no copy, a copy, given up and none waits, given up and the next goes out
-  beat : {e : Option (List ℕ)} {x : Seen} {c : ℕ} {q : List Seen} {p : Bool} → k ≤ k′ → (suc c ≡ 120 → ⊥) → (suc c % 20 ≡ 0 → ⊥)
+  beat : {e : Option (List ℕ)} {x : Seen} {c : ℕ} {q : List Seen} {p : Bool} → k ≤ k′ → (suc c ≡ given-up-at → ⊥)
+      → (suc c % copy-every ≡ 0 → ⊥)
       → Eff z k k′ e false true false true p true (busy x c q) (busy x (suc c) q) []
-  again : {e : Option (List ℕ)} {x : Seen} {c : ℕ} {q : List Seen} → k ≤ k′ → (suc c ≡ 120 → ⊥) → suc c % 20 ≡ 0
+  again : {e : Option (List ℕ)} {x : Seen} {c : ℕ} {q : List Seen} → k ≤ k′ → (suc c ≡ given-up-at → ⊥)
+      → suc c % copy-every ≡ 0
       → Eff z k k′ e false true false true true true (busy x c q) (busy x (suc c) q) (x ∷ [])
-  quit : {e : Option (List ℕ)} {x : Seen} {c : ℕ} {p p′ : Bool} → k ≤ k′ → suc c ≡ 120
+  quit : {e : Option (List ℕ)} {x : Seen} {c : ℕ} {p p′ : Bool} → k ≤ k′ → suc c ≡ given-up-at
       → Eff z k k′ e false true false true p p′ (busy x c []) empty []
-  quit-pass : {e : Option (List ℕ)} {x y : Seen} {c : ℕ} {q : List Seen} → k ≤ k′ → suc c ≡ 120
+  quit-pass : {e : Option (List ℕ)} {x y : Seen} {c : ℕ} {q : List Seen} → k ≤ k′ → suc c ≡ given-up-at
       → Eff z k k′ e false true false true true true (busy x c (y ∷ q)) (busy y 0 q) (y ∷ [])
 
 -- ==== a history

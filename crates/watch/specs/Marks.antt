@@ -9,6 +9,7 @@ use mathlib.Core.Option.{Option, none, some}
 use mathlib.Core.Logic.{_⊎_}
 use lib.Dec.{eqb}
 use lib.ListN.{length}
+use Rattle.model.specs.Limits.{copy-every, given-up-at, most-repeats, longest-wait}
 
 -- a copy of a notice: the number of its event, and its bytes
 pub record Seen : Type 0 where
@@ -61,13 +62,13 @@ abbrev pub ticks-open : List Mark → ℕ
 ticks-open [] = 0
 ticks-open (m ∷ ms) = let r = ticks-open ms in cond (m .closes) 0 (cond (m .tick) (suc r) r)
 
--- T: of a notice, when these are the calls after the one that sent its first copy. The 120th tick ends it too
+-- T: of a notice, when these are the calls after the one that sent its first copy. The tick that gives it up (the 120th) ends it too
 abbrev pub T : List Mark → ℕ
-T later = min 120 (ticks-open later)
+T later = min given-up-at (ticks-open later)
 
 -- one, and one more for each whole 20 ticks, up to five
 abbrev pub copies-due : ℕ → ℕ
-copies-due ticks = 1 + min 5 (ticks / 20)
+copies-due ticks = 1 + min most-repeats (ticks / copy-every)
 
 -- m is the call that sends the first copy of the notice of event n
 pub record First (n : ℕ) (before : List Mark) (m : Mark) : Type 0 where
@@ -130,7 +131,7 @@ pub record Demand3 (ms : List Mark) : Type 0 where
   -- none reaches a session that is not started and subscribed, before the call and after it
   pub only-subscribed : Every (λ m. 0 < length (m .sent) → (m .subscribed ≡ true) × (m .still ≡ true)) ms
 
--- a kind of which all wait: what is taken goes out within 840 ticks, where the session stays started and subscribed
+-- a kind of which all wait: what is taken goes out within the longest wait (840 ticks), where the session stays started and subscribed
 abbrev pub InTime : List Mark → Type 0
 InTime ms = (before : List Mark) (m : Mark) (later : List Mark) → ms ≡ before ++ m ∷ later → m .took ≡ true
-    → Stays (m ∷ later) → 840 ≤ tick-count later → 0 < copies (m .number) (m ∷ later)
+    → Stays (m ∷ later) → longest-wait ≤ tick-count later → 0 < copies (m .number) (m ∷ later)

@@ -24,7 +24,7 @@ receive-requires c κs =
     let a = n .before .before .before .before .before .args in
     let p = hang-up-passes (a .table .now) (length (a .output .now)) (a .session) (sym (n .hang-up .ensures) ∙ i .if1 .left) in
     let h = p .0 .room in
-    (p .0 .table, p .1, omega arith, c .before .before .ends-at .ensures)
+    (record { table = p .0 .table; session = p .1; room = omega arith }, c .before .before .ends-at .ensures)
 
 returns-2 : tie.Need-returns-2
 returns-2 c =
@@ -35,7 +35,7 @@ returns-2 c =
     finish (bytes (a .session) (a .slice .now)) (a .table .now) (a .output .now) (d .receive .result) (c .before .consumed .result) 0
     (n .hang-up .ensures ∙ bytes-refused (a .table .now) (length (a .output .now)) (a .session) (a .slice .now)) (i .if1 .left)
     (c .done .ensures) (c .before .consumed .ensures) refl
-    (d .receive .ensures .1) (omega (arith, d .receive .ensures .0))
+    (d .receive .ensures .went) (omega (arith, d .receive .ensures .within))
 
 pub bytes-spec : {M : Type 1} → statement M
 bytes-spec =

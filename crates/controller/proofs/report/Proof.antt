@@ -46,7 +46,7 @@ returns-2 c =
     let a = s .args in
     tightening-reported (a .kind) (a .slice .now) (s .pre .0 .2) (a .table .now) (a .output .now) (r .result .result)
     (k .enum-told2 .given .1) (p .payload .ensures)
-    (r .result .ensures) (h .happens .ensures .0) (h .happens .ensures .1) (h .happens .ensures .2)
+    (r .result .ensures) (h .happens .ensures .within) (h .happens .ensures .went) (h .happens .ensures .taken)
 
 returns-3 : tie.Need-returns-3
 returns-3 c =
@@ -56,7 +56,7 @@ returns-3 c =
     let s = p .before .before .before .before in
     let a = s .args in
     scan-reported (a .kind) (a .slice .now) (s .pre .0 .2) (a .table .now) (a .output .now) (k .enum-told3 .given .1) (p .payload .ensures)
-    (h .happens2 .ensures .0) (h .happens2 .ensures .1) (h .happens2 .ensures .2)
+    (h .happens2 .ensures .within) (h .happens2 .ensures .went) (h .happens2 .ensures .taken)
 
 pub report-spec : {M : Type 1} → statement M
 report-spec =

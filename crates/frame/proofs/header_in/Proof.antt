@@ -1,11 +1,10 @@
 -- `frame::header_in` meets its contract: a message's header has what its readers ask for. Assumes nothing.
 use borrow.Author.Needs.{needs}
 use borrow.Author.Tests.{not-true, not-false}
-use mathlib.Core.Path.{_≡_, refl, sym, _∙_}
+use mathlib.Core.Path.{refl, sym, _∙_}
 use native.Mathlib.Omega.{arith}
-use lib.ListN.{drop}
-use Rattle.frame.specs.Header.{header-of}
-use Rattle.frame.proofs.Headers.{take-few, Sound, sound, dropped, heard}
+use lib.ListN.{length-take}
+use Rattle.frame.proofs.Headers.{Sound, sound, dropped, heard}
 use Rattle.frame.proofs.header_in.Statement.{statement}
 use Rattle.frame.proofs.header_in.Tie as tie
 
@@ -21,14 +20,10 @@ whole c =
     sound (a .run .now) (a .count) (sym (c .before .is-message .ensures) ∙ not-false _ (c .if1 .left))
 
 decimal-requires : tie.Need-decimal-requires
-decimal-requires c κs =
-    let l = take-few 4 (drop 4 (c .before .before .before .before .args .run .now)) in
-    (omega arith, whole (c .before) .mid)
+decimal-requires c κs = (simp length-take (omega arith), whole (c .before) .mid)
 
 revision-requires : tie.Need-revision-requires
-revision-requires c κs =
-    let l = take-few 3 (drop 8 (c .before .before .before .before .before .before .args .run .now)) in
-    (omega arith, whole (c .before .before .before) .revision)
+revision-requires c κs = (simp length-take (omega arith), whole (c .before .before .before) .revision)
 
 returns-2 : tie.Need-returns-2
 returns-2 c =

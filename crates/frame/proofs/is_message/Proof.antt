@@ -1,9 +1,10 @@
 -- `frame::is_message` meets its contract: at each return the tests that led there say what the run is. Assumes nothing.
 use borrow.Author.Needs.{needs}
 use borrow.Author.Tests.{lt-leb, le-leb, not-true, not-false}
-use mathlib.Core.Path.{_≡_, sym, _∙_}
+use mathlib.Core.Path.{sym, _∙_}
 use native.Mathlib.Omega.{arith}
-use Rattle.frame.proofs.Headers.{take-few, no-length, other-length, no-mid, no-revision, by-flag}
+use lib.ListN.{length-take}
+use Rattle.frame.proofs.Headers.{no-length, other-length, no-mid, no-revision, by-flag}
 use Rattle.frame.proofs.is_message.Statement.{statement}
 use Rattle.frame.proofs.is_message.Tie as tie
 
@@ -15,9 +16,7 @@ returns-3 c =
     (sym (c .before .is-digits .ensures) ∙ not-true _ (c .if3 .taken))
 
 decimal-requires : tie.Need-decimal-requires
-decimal-requires c κs =
-    let l = take-few 4 (c .before .before .before .before .before .before .args .run .now) in
-    (omega arith, sym (c .before .is-digits .ensures) ∙ not-false _ (c .if3 .left))
+decimal-requires c κs = (simp length-take (omega arith), sym (c .before .is-digits .ensures) ∙ not-false _ (c .if3 .left))
 
 returns-4 : tie.Need-returns-4
 returns-4 c =

@@ -1,17 +1,13 @@
 -- `frame::put_0052` meets its contract: by the revision. Assumes nothing.
 use borrow.Author.Needs.{needs}
-use mathlib.Core.Path.{sym, ap}
 use native.Mathlib.Omega.{arith}
-use Rattle.model.specs.Frames.{frame-record, frame-0052}
-use Rattle.text.proofs.Puts.{put-as}
 use Rattle.frame.proofs.put_0052.Statement.{statement}
 use Rattle.frame.proofs.put_0052.Tie as tie
 
 returns : tie.Need-returns
 returns c =
     let r = c .before .before in
-    let t = r .before .before in
-    let a = t .before .before .before .args in (
+    let t = r .before .before in (
       omega (arith, r .put-0052-1 .ensures .0),
       rw (t .if1 .taken) (r .put-0052-1 .ensures .1),
     )

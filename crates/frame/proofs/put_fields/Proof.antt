@@ -2,7 +2,7 @@
 -- over what was there. Assumes nothing.
 use borrow.Author.Needs.{needs}
 use mathlib.Core.Path.{_≡_, refl, sym, ap, _∙_}
-use mathlib.Core.List.{List, []}
+use mathlib.Core.List.{[]}
 use Prim.Native.Nat.{ℕ, _+_, _-_, _≤_}
 use native.Mathlib.Nat.{add-zero}
 use native.Mathlib.Omega.{arith}
@@ -10,7 +10,7 @@ use lib.ListN.{length, getD, drop, drop-of-length-le}
 use Rattle.model.specs.Frames.{fields-from}
 use Rattle.text.proofs.Lists.{all-at}
 use Rattle.text.proofs.Puts.{Left, left-all, left-put, left-none, left-as, put-then}
-use Rattle.frame.specs.Layout.{width, laid-out, layout-length, served}
+use Rattle.frame.specs.Layout.{width, field-digits, laid-out, layout-length, served}
 use Rattle.frame.proofs.Frames.{laid-out-next, layout-length-next}
 use Rattle.frame.proofs.put_fields.Statement.{statement}
 use Rattle.frame.proofs.put_fields.Tie as tie
@@ -31,7 +31,7 @@ loop-holds c =
 
 -- in a turn: the row's bytes are there to be read and to be written
 turn : (c : tie.In-loop Inv-loop μ-loop) → let rows = c .before .before .before .before .args .rows .now in let k = c .before .loop .k in
-    layout-length (drop k rows) ≡ 2 + width (getD rows k []) + layout-length (drop (k + 1) rows)
+    layout-length (drop k rows) ≡ field-digits + width (getD rows k []) + layout-length (drop (k + 1) rows)
 turn c = layout-length-next (c .before .before .before .before .args .source .now) _ _ (c .loop-test .taken)
 
 put-value-requires : tie.Need-put-value-requires Inv-loop μ-loop
@@ -41,7 +41,7 @@ put-value-requires c κs =
     let s = t .before .before .before .before in
     let e = turn t in
     let z = t .before .loop .inv .2 .size in (
-      all-at (served (length (s .args .source .now))) (s .args .rows .now) _ [] (s .pre .0) (t .loop-test .taken),
+      all-at (served (length (s .args .source .now))) (s .args .rows .now) _ [] (s .pre .sources) (t .loop-test .taken),
       omega (arith, d .put-digits .ensures .0),
     )
 

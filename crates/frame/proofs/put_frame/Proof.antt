@@ -1,19 +1,25 @@
 -- `frame::put_frame` meets its contract: four writes. Assumes nothing.
 use borrow.Author.Needs.{needs}
+use mathlib.Core.List.{[], _∷_}
+use lib.ListN.{length-append}
+use Rattle.model.specs.Bytes.{NUL, in-bytes}
+use Rattle.model.specs.Frames.{frame-record}
 use Rattle.text.proofs.Puts.{put-then, put-as}
-use Rattle.frame.proofs.Frames.{frame-record-is}
 use Rattle.frame.proofs.put_frame.Statement.{statement}
 use Rattle.frame.proofs.put_frame.Tie as tie
 
 returns : tie.Need-returns
+unfolding frame-record in-bytes
 returns c =
     let z = c .before .before in
     let i = z .before .before .before .before in
     let q = i .before .before .before .before in
-    let p = q .before .before .before .before in (
+    let p = q .before .before .before .before .before in
+    let s = p .before .before .before .before in
+    let head = put-then (p .put-little .ensures .1) (q .put-little2 .ensures .1) in (
       search needs,
-      put-as (frame-record-is _ _) (put-then (put-then (put-then (p .put-little .ensures .1) (q .put-little2 .ensures .1))
-          (i .copy .ensures)) (z .put-little3 .ensures .1)),
+      put-as (rw (length-append (s .args .frame .now) (NUL ∷ [])))
+          (put-then (put-then head (i .copy .ensures)) (z .put-little3 .ensures .1)),
     )
 
 pub put-frame-spec : {M : Type 1} → statement M

@@ -1,11 +1,13 @@
 -- `frame::put_header` meets its contract: five writes. Assumes nothing.
 use borrow.Author.Needs.{needs}
+use mathlib.Core.List.{append-assoc}
+use Rattle.model.specs.Frames.{header}
 use Rattle.text.proofs.Puts.{put-then, put-as}
-use Rattle.frame.proofs.Frames.{header-is}
 use Rattle.frame.proofs.put_header.Statement.{statement}
 use Rattle.frame.proofs.put_header.Tie as tie
 
 returns : tie.Need-returns
+unfolding header
 returns c =
     let g = c .before .before in
     let f = g .before .before .before .before in
@@ -13,7 +15,7 @@ returns c =
     let q = i .before .before .before .before in
     let p = q .before .before .before .before in (
       search needs,
-      put-as (header-is _ _ _ _) (put-then (put-then
+      put-as (simp append-assoc) (put-then (put-then
           (put-then (put-then (p .put-digits .ensures .1) (q .put-digits2 .ensures .1)) (i .put-digits3 .ensures .1)) (f .fill .ensures .1))
           (g .fill2 .ensures .1)),
     )

@@ -6,7 +6,7 @@ use native.Mathlib.Nat.{add-sub-cancel-left}
 use native.Mathlib.Omega.{arith}
 use lib.ListN.{length, getD, take, drop, length-drop}
 use lib.Seq.{length-take-le}
-use Rattle.text.proofs.Puts.{put-as, put-of}
+use Rattle.text.proofs.Puts.{put-as}
 use Rattle.frame.proofs.Frames.{size-few, copied-fits, number-fits, value-length, value-copied, value-blank, value-number}
 use Rattle.frame.proofs.put_value.Statement.{statement}
 use Rattle.frame.proofs.put_value.Tie as tie

@@ -43,6 +43,7 @@ use denote.Triple.Table.{entered, cited}
 use denote.Triple.Walked.{says, Stays, stay-none, stay-none-slice, walkOf, goes-none, goes-none-slice, Walks, ends-at, walked, walk-meets}
 use denote.Exit.{yes}
 use denote.Triple.Clauses.{lasts}
+use Rattle.model.specs.Limits.{header-length}
 use Rattle.frame.specs.Header.{header-of}
 use Rattle.frame.specs.declared.Header.{Header}
 use Rattle.frame.specs.declared.Reading.{Reading}
@@ -126,7 +127,7 @@ module _ {M : Type 1} (𝓤 : URA M) (H : Heap 𝓤) (A : Atoms 𝓤) (W : Given
     left =
         ‵ (Bytes κ .own d (u′ ∷ [])) ∷ (‵ (flft κ q) ⊛ ‵ ftrue) ∷ ‵ (owned-bytes κ s) ∷ ‵ (head.the-row .own h (u ∷ [])) ∷ []
 
-    exits : n < 2 ^ 64 → h ≡ header-of (now s) n → now d ≡ drop 20 (now s) → ent 𝓤 (⋆ 𝓤 H A left) (Post w)
+    exits : n < 2 ^ 64 → h ≡ header-of (now s) n → now d ≡ drop header-length (now s) → ent 𝓤 (⋆ 𝓤 H A left) (Post w)
     exits fits e e′ =
         qed W left ∵ suffices ! _ (ends-at 𝓤 H A read-header.ended stayed (read-header.clauses 𝓤 H A mem run) W entry w made
         (tt, (tt, tt)) (tt, (tt, tt))) $ says ! (e, e′) $ move ! (1 ∷ []) $ frame ! $
@@ -158,8 +159,8 @@ module _ {M : Type 1} (𝓤 : URA M) (H : Heap 𝓤) (A : Atoms 𝓤) (W : Given
         move ! (1 ∷ 2 ∷ []) $ use2 W (raw (DataField 𝓤 H A mem run .pre to-data) ⊛ ‵ (owned-bytes κ s)) data-given $ split ! $
         calls-at ! fm (DataField 𝓤 H A mem run) known-data to-data (and-then ! (load ! (from ! (stop !)) (look ! 9 refl)) (no-more !))
         (λ u′.
-        answered ! tt κ q (Bytes κ) (λ d. now d ≡ drop 20 (now s)) _ u′
-        (λ d. exE 𝓤 _ (λ ws. snd∗ 𝓤 (sem 𝓤 H A (lasts data-field.ended (κ, tt) (s, tt) ws)) (fact 𝓤 (now d ≡ drop 20 (now s)))))
+        answered ! tt κ q (Bytes κ) (λ d. now d ≡ drop header-length (now s)) _ u′
+        (λ d. exE 𝓤 _ (λ ws. snd∗ 𝓤 (sem 𝓤 H A (lasts data-field.ended (κ, tt) (s, tt) ws)) (fact 𝓤 (now d ≡ drop header-length (now s)))))
         (λ d e′ is′.
         -- [what the field owns; the token; what run owns; what the header owns; the field; …; the header; …; count; …; run; …; the
         -- answer; …]

@@ -14,5 +14,13 @@ start-spec =
     (tie.spec
     (λ c. rw (lt-ltb _ _ (c .if1 .taken)))
     (λ c κs. search needs)
-    (λ c. rw (le-ltb _ _ (c .before .before .if1 .left), bad-settings (c .before .is-settings .result) _ (c .before .is-settings .ensures) ∙ c .if2 .taken))
-    (λ c. rw (le-ltb _ _ (c .before .before .if1 .left), bad-settings (c .before .is-settings .result) _ (c .before .is-settings .ensures) ∙ c .if2 .left)))
+    (λ c. rw (
+      le-ltb _ _ (c .before .before .if1 .left),
+      bad-settings (c .before .is-settings .result) _ (c .before .is-settings .ensures)
+          ∙ c .if2 .taken,
+    ))
+    (λ c. rw (
+      le-ltb _ _ (c .before .before .if1 .left),
+      bad-settings (c .before .is-settings .result) _ (c .before .is-settings .ensures)
+          ∙ c .if2 .left,
+    )))

@@ -14,5 +14,15 @@ tick-spec =
     (λ c. rw (lt-ltb _ _ (c .if1 .taken)))
     (λ c κs. search needs)
     (λ c. rw (le-ltb _ _ (c .before .before .if1 .left), sym (c .before .is-formed .ensures) ∙ not-true _ (c .if2 .taken)))
-    (λ c. rw (le-ltb _ _ (c .before .before .before .if1 .left), sym (c .before .before .is-formed .ensures) ∙ not-false _ (c .before .if2 .left), lt-ltb _ _ (c .if3 .taken)))
-    (λ c. rw (le-ltb _ _ (c .before .before .before .if1 .left), sym (c .before .before .is-formed .ensures) ∙ not-false _ (c .before .if2 .left), le-ltb _ _ (c .if3 .left))))
+    (λ c. rw (
+      le-ltb _ _ (c .before .before .before .if1 .left),
+      sym (c .before .before .is-formed .ensures)
+          ∙ not-false _ (c .before .if2 .left),
+      lt-ltb _ _ (c .if3 .taken),
+    ))
+    (λ c. rw (
+      le-ltb _ _ (c .before .before .before .if1 .left),
+      sym (c .before .before .is-formed .ensures)
+          ∙ not-false _ (c .before .if2 .left),
+      le-ltb _ _ (c .if3 .left),
+    )))

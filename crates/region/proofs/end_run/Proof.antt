@@ -1,19 +1,28 @@
--- `region::end_run` meets its contract. Assumes nothing.
+-- `region::end_run` meets its contract, by whether the run began in the slice. Assumes nothing.
 use borrow.Author.Needs.{needs}
-use mathlib.Core.Path.{_≡_, sym, _∙_}
-use Rattle.region.specs.Region.{run-area}
+use mathlib.Core.Path.{sym, refl, _∙_}
 use Rattle.region.proofs.Areas.{parts}
-use Rattle.region.proofs.Receives.{run-empty}
+use Rattle.region.proofs.Ends.{run-empty, ends-longer}
 use Rattle.region.proofs.end_run.Statement.{statement}
 use Rattle.region.proofs.end_run.Tie as tie
 
+count-requires : tie.Need-count-requires
+count-requires c κs = let s = c .before .before .before .before .before in parts (s .args .region .now) (s .pre .0) .run
+
 end-whole-requires : tie.Need-end-whole-requires
 end-whole-requires c κs =
-    let t = c .before .before .before in
-    let n = t .before in
-    let s = n .before .before .before .before .before .before .before .before in
-    let p = s .pre in
-    (p .0, p .1, p .2, p .3, p .4, run-empty (run-area (s .args .region .now)) (sym (n .count .ensures .0) ∙ t .if1 .taken))
+    let n = c .before .before .before in
+    let s = n .before .before .before .before .before .before in
+    (s .pre .0, s .pre .1, run-empty _ (sym (n .count .ensures .0) ∙ c .before .before .if1 .taken))
+
+returns-2 : tie.Need-returns-2
+returns-2 c =
+    let e = c .before .before .before .before in
+    let l = e .before .before .before .before .before in
+    let s = l .before .before .before .before .before .before .before .before .before in
+    let a = s .args in
+    ends-longer (a .bytes .now) (a .region .now) _ _ refl (l .lengthen .ensures) (a .granted) (a .place .now) (e .end-kept .result) _ _
+    (e .end-kept .ensures .0) (e .end-kept .ensures .1)
 
 pub end-run-spec : {M : Type 1} → statement M
 end-run-spec =
@@ -22,14 +31,13 @@ end-run-spec =
     (λ c. search needs)
     (λ c. search needs)
     (λ c. search needs)
-    (λ c κs. parts _ (c .before .before .before .before .before .before .before .pre .3) .run)
+    count-requires
     end-whole-requires
     (λ c. search needs)
     (λ c. search needs)
     (λ c. search needs)
-    (λ c. search needs)
+    (λ c κs. search needs)
     (λ c κs. search needs)
     (λ c. search needs)
     (λ c. search needs)
-    (λ c. search needs)
-    (λ c. search needs))
+    returns-2)

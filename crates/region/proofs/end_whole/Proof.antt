@@ -1,62 +1,66 @@
 -- `region::end_whole` meets its contract. Assumes nothing.
 use borrow.Author.Needs.{needs}
-use mathlib.Core.Path.{_≡_, refl, sym, ap, subst, _∙_}
+use mathlib.Core.Path.{_≡_, sym, ap, subst, _∙_}
 use mathlib.Core.List.{List}
 use Prim.Native.Nat.{ℕ, _≤_}
-use native.Mathlib.Omega.{arith}
 use lib.ListN.{length}
-use Rattle.model.specs.Records.{settings-of}
+use Rattle.model.specs.Limits.{run-kept}
 use Rattle.model.specs.Runs.{Run, longer}
 use Rattle.run.specs.Area.{run-of}
 use Rattle.region.specs.Region.{run-area}
-use Rattle.region.proofs.Receives.{ruled-as, taken-few, storable-after, ends-so}
+use Rattle.region.specs.Said.{Ruled}
+use Rattle.region.proofs.Rulings.{ruled-as}
+use Rattle.region.proofs.Ends.{taken-few, kind-known, idle-few, ends-whole}
 use Rattle.region.proofs.end_whole.Statement.{statement}
 use Rattle.region.proofs.end_whole.Tie as tie
 
 rule-requires : tie.Need-rule-requires
 rule-requires c κs =
     let k = c .before .before in
-    let s = k .before .before .before .before .before .before .before .before .before in
-    let p = s .pre in
-    let l = p .0 in
-    (omega arith, p .1, p .2, subst (λ (z : List ℕ). length z ≤ 45) (sym (k .kept-of .ensures)) (taken-few (s .args .bytes .now)), p .4)
+    let s = k .before .before .before .before .before .before .before .before in
+    (subst (λ (z : List ℕ). length z ≤ run-kept) (sym (k .kept-of .ensures)) (taken-few (s .args .bytes .now)), s .pre .1)
+
+-- the decision is on the run that the bytes are
+module _ (c : tie.After-rule) where
+  ruled : let k = c .before .before .before in
+      let s = k .before .before .before .before .before .before .before .before in
+      Ruled (k .before .before .before .load .result) (k .before .standing .result)
+      (longer (run-of (run-area (s .args .region .now))) (s .args .bytes .now))
+      (s .args .place .now) (c .rule .result) (c .rule .last .1 .1 .1 .1 .0)
+  ruled =
+      let n = c .before .before in
+      let k = n .before in
+      let s = k .before .before .before .before .before .before .before .before in
+      let whole = ap (λ (z : Run). longer z (s .args .bytes .now)) (sym (s .pre .2)) in
+      ruled-as (longer (run-of (run-area (s .args .region .now))) (s .args .bytes .now))
+      (k .kept-of .ensures ∙ ap (λ (z : Run). z .kept) whole) (n .count-of .ensures ∙ ap (λ (z : Run). z .count) whole) (c .rule .ensures)
 
 carry-out-requires : tie.Need-carry-out-requires
 carry-out-requires c κs =
-    let u = c .before .before .before .before .before .before in
-    let n = u .before .before in
-    let k = n .before in
-    let x = k .before .before in
-    let s = x .before .before .before .before .before .before .before in
-    let p = s .pre in
-    let a = s .args in
-    let m : Run = longer (run-of (run-area (a .region .now))) (a .bytes .now) in
-    let whole = ap (λ (z : Run). longer z (a .bytes .now)) (sym (p .5)) in
-    let v = ruled-as (k .kept-of .result .now) (n .count-of .result) m (k .kept-of .ensures ∙ ap (λ (z : Run). z .kept) whole)
-    (n .count-of .ensures ∙ ap (λ (z : Run). z .count) whole) (u .rule .ensures) in
-    let after = storable-after (a .s) (settings-of (a .settings .now)) (a .region .now) (p .3) (x .load .result) (x .load .ensures .0)
-    (x .load .ensures .1) (a .bytes .now) v in
-    let l = p .0 in
-    let f = u .rule .ensures .within in
-    ((omega arith, p .1, p .2, p .3), (x .load .ensures .1, after .0, after .1))
+    let u = c .before .before .before in
+    let k = u .before .before .before in
+    let l = k .before .before .before in
+    let s = k .before .before .before .before .before .before .before .before in
+    let a = s .args in (
+      s .pre .0,
+      kind-known (a .granted) (a .bytes .now) (a .region .now) (a .place .now) (l .load .result) (l .load .ensures .0) (l .load .ensures .1)
+          (k .before .standing .result) (k .before .standing .ensures) (u .rule .result) _ (ruled u),
+      idle-few (a .granted) (a .bytes .now) (a .region .now) (a .place .now) (l .load .result) (l .load .ensures .0) (l .load .ensures .1)
+          (k .before .standing .result) (k .before .standing .ensures) (u .rule .result) _ (ruled u),
+    )
 
 returns : tie.Need-returns
 returns c =
-    let y = c .before .before .before .before in
-    let u = y .before .before .before .before .before .before .before in
-    let n = u .before .before in
-    let k = n .before in
-    let x = k .before .before in
-    let s = x .before .before .before .before .before .before .before in
-    let p = s .pre in
+    let o = c .before .before .before in
+    let u = o .before .before .before .before in
+    let k = u .before .before .before in
+    let l = k .before .before .before in
+    let s = k .before .before .before .before .before .before .before .before in
     let a = s .args in
-    let m : Run = longer (run-of (run-area (a .region .now))) (a .bytes .now) in
-    let whole = ap (λ (z : Run). longer z (a .bytes .now)) (sym (p .5)) in
-    let v = ruled-as (k .kept-of .result .now) (n .count-of .result) m (k .kept-of .ensures ∙ ap (λ (z : Run). z .kept) whole)
-    (n .count-of .ensures ∙ ap (λ (z : Run). z .count) whole) (u .rule .ensures) in
-    ends-so (a .s) (settings-of (a .settings .now)) (a .region .now) (p .3) (x .load .result) (x .load .ensures .0) (x .load .ensures .1)
-    (a .bytes .now) v
-    (a .region .now) refl refl (y .carry-out .ensures .0) (y .carry-out .ensures .1)
+    rw (c .left-to-say .ensures)
+    (ends-whole (a .granted) (a .bytes .now) (a .region .now) (a .place .now) (l .load .result) (l .load .ensures .0) (l .load .ensures .1)
+    (k .before .standing .result) (k .before .standing .ensures) (u .rule .result) _ (ruled u) (o .carry-out .result) _
+    (o .carry-out .ensures) (s .pre .2))
 
 pub end-whole-spec : {M : Type 1} → statement M
 end-whole-spec =
@@ -65,9 +69,10 @@ end-whole-spec =
     (λ c κs. search needs)
     (λ c κs. search needs)
     (λ c κs. search needs)
+    (λ c κs. search needs)
     rule-requires
     carry-out-requires
-    (λ c. search needs)
+    (λ c κs. search needs)
     (λ c. search needs)
     (λ c. search needs)
     returns)

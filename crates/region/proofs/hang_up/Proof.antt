@@ -1,17 +1,23 @@
 -- `region::hang_up` meets its contract. Assumes nothing.
 use borrow.Author.Needs.{needs}
-use Rattle.region.proofs.Both.{cleared-storable}
-use Rattle.region.proofs.Ticks.{hung-up}
+use mathlib.Core.Path.{ap, _∙_}
+use native.Mathlib.Omega.{arith}
+use Rattle.session.specs.declared.Session.{Session}
+use Rattle.run.specs.Area.{run-of}
+use Rattle.region.specs.Region.{run-area, subscriptions-in, meaning}
+use Rattle.region.proofs.Areas.{means}
 use Rattle.region.proofs.hang_up.Statement.{statement}
 use Rattle.region.proofs.hang_up.Tie as tie
 
 store-requires : tie.Need-store-requires
-store-requires c κs = (c .before .before .before .pre, rw (c .cleared .ensures) cleared-storable)
+store-requires c κs = (c .before .before .before .pre, rw (c .cleared .ensures) (omega arith))
 
 returns : tie.Need-returns
 returns c =
-    let w = c .before .before in
-    hung-up (w .store .last .0) (w .before .cleared .result) _ _ _ (w .store .ensures) (w .before .cleared .ensures)
+    let p = c .before .before in
+    let r = p .before .before .before .before .args .region .now in
+    let b = p .store .ensures .becomes in
+    (b .good, means b ∙ ap (λ (x : Session). meaning x (run-of (run-area r)) (subscriptions-in r)) (p .before .cleared .ensures))
 
 pub hang-up-spec : {M : Type 1} → statement M
 hang-up-spec =

@@ -12,7 +12,22 @@ returns c = rw (sym (c .before .is-formed .ensures) ∙ not-true _ (c .if1 .take
 
 returns-2 : tie.Need-returns-2
 unfolding region-formed
-returns-2 c = rw (sym (c .before .before .before .is-formed .ensures) ∙ not-false _ (c .before .before .if1 .left)) (c .is-formed2 .ensures)
+returns-2 c =
+    let f = c .before .before .before .before in
+    rw (
+      sym (f .is-formed .ensures) ∙ not-false _ (c .before .before .before .if1 .left),
+      sym (c .before .is-formed2 .ensures) ∙ not-true _ (c .if2 .taken),
+    )
+
+returns-3 : tie.Need-returns-3
+unfolding region-formed
+returns-3 c =
+    let g = c .before .before in
+    let f = g .before .before .before in
+    rw (
+      sym (f .is-formed .ensures) ∙ not-false _ (g .before .before .if1 .left),
+      sym (g .is-formed2 .ensures) ∙ not-false _ (c .before .if2 .left),
+    ) (c .lanes-formed .ensures)
 
 pub is-formed-spec : {M : Type 1} → statement M
 is-formed-spec =
@@ -27,4 +42,6 @@ is-formed-spec =
     (λ c. search needs)
     (λ c. search needs)
     (λ c κs. search needs)
-    returns-2)
+    returns-2
+    (λ c κs. search needs)
+    returns-3)

@@ -4,12 +4,14 @@ use Rattle.region.proofs.Areas.{parts, run-replaced}
 use Rattle.region.proofs.lengthen.Statement.{statement}
 use Rattle.region.proofs.lengthen.Tie as tie
 
+lengthen-requires : tie.Need-lengthen-requires
+lengthen-requires c κs = let s = c .before .before .before in parts (s .args .region .now) (s .pre) .run
+
 returns : tie.Need-returns
 returns c =
     let p = c .before .before in
     let s = p .before .before .before .before in
-    run-replaced (s .args .region .now) (p .lengthen .last .0) (s .pre) _ (p .lengthen .ensures .1 .size) (p .lengthen .ensures .0)
-    (p .lengthen .ensures .1 .formed)
+    run-replaced (s .args .region .now) (p .lengthen .last .0) (s .pre) _ (p .lengthen .ensures .1) (p .lengthen .ensures .0)
 
 pub lengthen-spec : {M : Type 1} → statement M
 lengthen-spec =
@@ -18,6 +20,6 @@ lengthen-spec =
     (λ c. search needs)
     (λ c. search needs)
     (λ c. search needs)
-    (λ c κs. parts _ (c .before .before .before .pre) .run)
+    lengthen-requires
     (λ c. search needs)
     returns)

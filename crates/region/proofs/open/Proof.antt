@@ -1,19 +1,26 @@
 -- `region::open` meets its contract. Assumes nothing.
 use borrow.Author.Needs.{needs}
-use mathlib.Core.Path.{refl, _∙_}
-use Rattle.region.proofs.Both.{fresh-storable}
-use Rattle.region.proofs.Ticks.{begun}
+use mathlib.Core.Path.{ap, _∙_}
+use native.Mathlib.Omega.{arith}
+use Rattle.model.specs.Runs.{empty-run}
+use Rattle.session.specs.declared.Session.{Session}
+use Rattle.region.specs.Region.{subscriptions-in, meaning}
+use Rattle.region.proofs.Areas.{means}
 use Rattle.region.proofs.open.Statement.{statement}
 use Rattle.region.proofs.open.Tie as tie
 
 store-requires : tie.Need-store-requires
-store-requires c κs = (c .before .before .before .pre, rw (c .fresh .ensures) fresh-storable)
+store-requires c κs = (c .before .before .before .pre, rw (c .fresh .ensures) (omega arith))
 
 returns : tie.Need-returns
 returns c =
-    let k = c .before .before in
-    let w = k .before .before .before .before in
-    begun (k .clear-run .last .0) _ _ _ _ (k .clear-run .ensures) (w .store .ensures .head ∙ w .before .fresh .ensures) refl
+    let n = c .before .before in
+    let p = n .before .before .before .before in
+    let b = n .clear-run .ensures .becomes in (
+      b .good,
+      means b ∙ ap (λ (x : Session). meaning x empty-run (subscriptions-in (p .store .last .0)))
+          (p .store .ensures .becomes .head ∙ p .before .fresh .ensures),
+    )
 
 pub open-spec : {M : Type 1} → statement M
 open-spec =
@@ -21,6 +28,6 @@ open-spec =
     (tie.spec
     (λ c κs. search needs)
     store-requires
-    (λ c κs. c .before .before .before .store .ensures .good)
+    (λ c κs. search needs)
     (λ c. search needs)
     returns)

@@ -1,6 +1,5 @@
 -- `region::store` meets its contract. Assumes nothing.
 use borrow.Author.Needs.{needs}
-use mathlib.Core.Path.{_∙_}
 use Rattle.region.proofs.Areas.{head-replaced}
 use Rattle.region.proofs.store.Statement.{statement}
 use Rattle.region.proofs.store.Tie as tie
@@ -9,8 +8,7 @@ returns : tie.Need-returns
 returns c =
     let p = c .before .before in
     let s = p .before .before .before in
-    head-replaced (s .args .region .now) (p .store .last .0) (s .pre .0) (s .args .x) (p .store .ensures .1 .size) (p .store .ensures .0)
-    (p .store .ensures .1 .formed)
+    head-replaced (s .args .region .now) (p .store .last .0) (s .pre .0) (s .args .x) (p .store .ensures .1) (p .store .ensures .0)
 
 pub store-spec : {M : Type 1} → statement M
 store-spec =

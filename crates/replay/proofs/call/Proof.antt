@@ -1,6 +1,7 @@
 -- `replay::call` meets its contract. Assumes nothing.
 use borrow.Author.Needs.{needs}
 use mathlib.Core.Path.{sym, _∙_}
+use Rattle.model.specs.Program.{open-kind, hang-up-kind}
 use Rattle.replay.proofs.Turns.{at-least, started, as-call, open-call, hang-up-call, tick-call, tool-call}
 use Rattle.replay.proofs.call.Statement.{statement}
 use Rattle.replay.proofs.call.Tie as tie
@@ -12,7 +13,7 @@ returns c =
 
 sub-open : tie.Need-sub-open
 sub-open c =
-    at-least 16 31 (c .before .before .before .before .before .before .before .before .args .kind)
+    at-least open-kind (c .before .before .before .before .before .before .before .before .args .kind)
     (sym (c .before .before .before .is-within .ensures) ∙ c .before .before .if2 .taken)
 
 returns-2 : tie.Need-returns-2
@@ -24,12 +25,13 @@ returns-2 c =
 
 sub-hang-up : tie.Need-sub-hang-up
 sub-hang-up c =
-    at-least 32 47 (c .before .before .before .before .before .before .before .before .before .before .args .kind)
+    at-least hang-up-kind (c .before .before .before .before .before .before .before .before .before .before .args .kind)
     (sym (c .before .before .before .is-within2 .ensures) ∙ c .before .before .if3 .taken)
 
 returns-3 : tie.Need-returns-3
 returns-3 c =
-    let a = c .before .before .before .before .before .before .before .before .before .before .before .before .before .before .before .args in
+    let a = c .before .before .before .before .before .before .before .before .before .before .before .before .before .before .before
+    .args in
     as-call
     (hang-up-call (a .kind) (a .slice .now)
     (c .before .before .before .before .before .before .before .before .before .before .before .if1 .left)
@@ -41,7 +43,8 @@ returns-3 c =
 
 returns-4 : tie.Need-returns-4
 returns-4 c =
-    let s = c .before .before .before .before .before .before .before .before .before .before .before .before .before .before .before .before in
+    let s = c .before .before .before .before .before .before .before .before .before .before .before .before .before .before .before
+    .before in
     as-call
     (tick-call (s .args .kind) (s .args .slice .now)
     (c .before .before .before .before .before .before .before .before .before .before .before .before .if1 .left)
@@ -54,7 +57,8 @@ returns-4 c =
 
 returns-5 : tie.Need-returns-5
 returns-5 c =
-    let s = c .before .before .before .before .before .before .before .before .before .before .before .before .before .before .before .before in
+    let s = c .before .before .before .before .before .before .before .before .before .before .before .before .before .before .before
+    .before in
     as-call
     (tool-call (s .args .kind) (s .args .slice .now)
     (c .before .before .before .before .before .before .before .before .before .before .before .before .if1 .left)

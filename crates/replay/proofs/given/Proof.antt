@@ -5,6 +5,8 @@ use Prim.Native.Nat.{_-_}
 use native.Mathlib.Omega.{arith}
 use lib.ListN.{length, drop, length-drop}
 use lib.Seq.{take-all}
+use Rattle.model.specs.Records.{record-head}
+use Rattle.model.specs.Program.{bytes-kind}
 use Rattle.replay.proofs.Follows.{follows-as}
 use Rattle.replay.proofs.Called.{called-follows}
 use Rattle.replay.proofs.Records.{given-bytes, given-call}
@@ -17,7 +19,7 @@ little-requires c κs = let p = c .before .before .before .before .pre .2 in (om
 
 sub-feed : tie.Need-sub-feed
 sub-feed c =
-    at-least 48 63 (c .before .before .before .before .before .little .result)
+    at-least bytes-kind (c .before .before .before .before .before .little .result)
     (sym (c .before .before .before .before .is-within .ensures) ∙ c .before .before .before .if1 .taken)
 
 feed-requires : tie.Need-feed-requires
@@ -32,7 +34,7 @@ returns c =
     let slice = s .args .slice .now in
     let four = s .pre .2 in
     let are-bytes = sym (asked .is-within .ensures) ∙ fed .before .before .before .before .before .if1 .taken in
-    let rest = take-all (length slice - 4) (drop 4 slice) (simp length-drop (omega arith)) in
+    let rest = take-all (length slice - record-head) (drop record-head slice) (simp length-drop (omega arith)) in
     let f = fed .feed .ensures in
     (follows-as (λ x m. given-bytes x slice (kind .result) (kind .ensures .0) _ are-bytes rest) (f .0), f .1)
 

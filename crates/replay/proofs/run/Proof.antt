@@ -39,7 +39,8 @@ turn-requires c κs =
 
 loop-again : tie.Need-loop-again Inv-loop μ-loop
 loop-again c =
-    let i = c .before .before .before .before .before .before .before .before .before .before .before .before .before .before .before .loop .inv in
+    let i = c .before .before .before .before .before .before .before .before .before .before .before .before .before .before .before
+    .loop .inv in
     let t = c .before .before .before .before .before .before .before .before .turn in
     let here = t .ensures .1 in
     let input = i .3 in
@@ -60,8 +61,12 @@ run-spec =
     μ-loop
     loop-holds
     turn-requires
-    (λ c. let a = c .before .before .before .before .before .before .before .before .before .before .before .before .before .if1 .taken in let b = c .before .before .before .before .before .before .before .before .before .before .before .before .before .before .loop-test .taken in omega arith)
-    (λ c. let a = c .before .before .before .before .before .before .before .before .before .before .before .before .before .if1 .taken in let b = c .before .before .before .before .before .before .before .before .before .before .before .before .before .before .loop-test .taken in omega arith)
+    (λ c. let a = c .before .before .before .before .before .before .before .before .before .before .before .before .before .if1 .taken in
+    let b = c .before .before .before .before .before .before .before .before .before .before .before .before .before .before .loop-test
+    .taken in omega arith)
+    (λ c. let a = c .before .before .before .before .before .before .before .before .before .before .before .before .before .if1 .taken in
+    let b = c .before .before .before .before .before .before .before .before .before .before .before .before .before .before .loop-test
+    .taken in omega arith)
     loop-again
     (λ c. c .before .before .loop .inv .0)
     (λ c. c .before .before .loop .inv .1)

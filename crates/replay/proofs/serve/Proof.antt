@@ -8,6 +8,7 @@ use Prim.Native.Nat.{ℕ, _-_, _≤_, _<_}
 use native.Mathlib.Omega.{arith}
 use lib.ListN.{length, take, drop, length-drop}
 use lib.Seq.{length-take-le, take-all}
+use Rattle.model.specs.Records.{record-head}
 use Rattle.replay.specs.Whole.{whole-size, too-long}
 use Rattle.replay.proofs.Follows.{follows-room}
 use Rattle.replay.proofs.Records.{Serving, serving-begins, serving-on, serving-ends}
@@ -22,7 +23,7 @@ Inv-loop table₀ output₀ lines₀ input to₀ left₀ size₀ table output li
     × (to ≤ length lines₀)
     × (length left ≤ length input)
     × (size ≤ length left)
-    × (0 < size → 4 ≤ size)
+    × (0 < size → record-head ≤ size)
     × (size ≡ whole-size left)
     × Serving input (length lines₀) table₀ [] table (take to lines) left
 

@@ -1,4 +1,5 @@
--- `replay::show` meets its contract. The invariant: the lines that are left over what is there are all of them over what was there. Assumes nothing.
+-- `replay::show` meets its contract. The invariant: the lines that are left over what is there are all of them over what was there.
+-- Assumes nothing.
 use borrow.Author.Needs.{needs}
 use mathlib.Core.Path.{_≡_, sym, ap, _∙_}
 use mathlib.Core.List.{List}
@@ -7,6 +8,7 @@ use native.Mathlib.Omega.{arith}
 use lib.ListN.{length, take, drop, length-drop}
 use lib.Seq.{length-take-le, take-all}
 use Rattle.model.specs.Program.{printed}
+use Rattle.model.specs.Records.{record-head}
 use Rattle.text.proofs.Puts.{Left, left-all, left-put, left-none, left-as}
 use Rattle.replay.specs.Lines.{lines-in}
 use Rattle.replay.specs.Whole.{whole-size}
@@ -20,7 +22,7 @@ Inv-loop output lines₀ at to₀ left₀ size₀ lines to left size =
     × (to + length left ≤ at + length output)
     × (size ≡ whole-size left)
     × (size ≤ length left)
-    × (0 < size → 4 ≤ size)
+    × (0 < size → record-head ≤ size)
 
 abbrev μ-loop : tie.MeasureT-loop
 μ-loop output lines₀ at to₀ left₀ size₀ lines to left size = length left

@@ -11,7 +11,8 @@ use Rattle.replay.proofs.tell.Tie as tie
 
 returns : tie.Need-returns
 returns c =
-    let a = c .before .before .before .before .before .before .before .before .before .before .before .before .before .before .before .before .before .before .args in
+    let a = c .before .before .before .before .before .before .before .before .before .before .before .before .before .before .before
+    .before .before .before .args in
     let first = c .before .before .before .before .before .before .before .before .before .before .before .copy .ensures in
     let second = c .before .before .before .before .before .before .before .put-digits .ensures in
     let third = c .before .before .copy2 .ensures in

@@ -182,7 +182,8 @@ module _ {M : Type 1} (𝓤 : URA M) (H : Heap 𝓤) (A : Atoms 𝓤) (W : Given
         (id⊢ 𝓤 _) $ await ! tt $ pick ! (λ d. split ! $ move ! (1 ∷ []) $
         pick ! (λ last. split ! $ move ! (1 ∷ []) $ heard ! (Said (last .0) d) (λ said.
         split ! $ move ! (2 ∷ []) $ split ! $ split ! $
-        -- the lifetime ends, and the clock is back: [the token; true; what due owns; the clock's last value; true; the lender's part; ticks; …]
+        -- the lifetime ends, and the clock is back: [the token; true; what due owns; the clock's last value; true; the lender's part;
+        -- ticks; …]
         lft-end ! tt $ move ! (0 ∷ 5 ∷ 3 ∷ []) $ use3 W (later (‵ (partAt clock.the-row fullShare (last .0) l₂ 0)))
         (ref-back 𝓤 H A W clock.the-row (α ∷ []) δ (last .0) l₂ 0) $ await ! tt $
         use1 W (‵ (fat fullShare clock-laws.mir l₂ 0 (cell (last .0 .ticks)))) (back 𝓤 H A W (last .0) l₂) $

@@ -10,11 +10,15 @@ decide-opened-spec =
     tie.close
     (tie.spec
     (λ c κs. search needs)
-    (λ c. rw (c .before .before .match .keys1, sym (c .before .is-fine .ensures) ∙ c .if1 .taken))
     (λ c κs. search needs)
-    (λ c. rw (
-      c .before .before .before .match .keys1,
-      sym (c .before .before .is-fine .ensures) ∙ c .before .if1 .left,
-      c .error-code .ensures,
-    ))
-    (λ c. rw (ne-eqb _ _ (c .match .rest .1))))
+    (λ c.
+    c .start .ensures
+    ∙ rw (c .before .before .before .match .keys1, sym (c .before .before .is-fine .ensures) ∙ c .before .if1 .taken))
+    (λ c κs. search needs)
+    (λ c κs. search needs)
+    (λ c κs. search needs)
+    (λ c.
+    let i = c .before .before in
+    c .replied .ensures
+    ∙ rw (i .before .before .match .keys1, sym (i .before .is-fine .ensures) ∙ i .if1 .left, c .before .error-code .ensures))
+    (λ c. c .replied2 .ensures ∙ rw (ne-eqb _ _ (c .before .match .rest .1))))

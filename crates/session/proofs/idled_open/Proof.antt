@@ -11,5 +11,4 @@ idled-open-spec =
     (λ c. search needs)
     (λ c. rw (at-limit 14 _ (c .if1 .taken)))
     (λ c. search needs)
-    (λ c κs. search needs)
-    (λ c. rw (below-limit 14 _ (c .before .if1 .left), c .with-idle .ensures)))
+    (λ c. rw (below-limit 14 _ (c .if1 .left))))

@@ -10,5 +10,14 @@ refused-spec =
     (tie.spec
     (λ c κs. search needs)
     (λ c κs. search needs)
-    (λ c. rw (sym (c .before .before .gets-reply .ensures) ∙ c .before .if1 .taken, c .error-code .ensures))
-    (λ c. search needs))
+    (λ c κs. search needs)
+    (λ c κs. search needs)
+    (λ c.
+    let g = c .before .before .before in
+    c .replied .ensures
+    ∙ rw (c .before .begun .ensures, c .before .before .error-code .ensures, sym (g .before .gets-reply .ensures) ∙ g .if1 .taken))
+    (λ c κs. search needs)
+    (λ c κs. search needs)
+    (λ c.
+    let g = c .before .before in
+    c .replied2 .ensures ∙ rw (c .before .begun2 .ensures, sym (g .before .gets-reply .ensures) ∙ g .if1 .left)))

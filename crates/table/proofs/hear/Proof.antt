@@ -1,33 +1,44 @@
 -- `table::hear` meets its contract. Assumes nothing.
 use borrow.Author.Needs.{needs}
-use native.Mathlib.Omega.{arith}
-use Rattle.model.specs.Records.{settings-of}
+use mathlib.Core.Path.{_≡_, ap, sym, _∙_}
+use Rattle.model.specs.Records.{Settings, settings-of}
 use Rattle.table.proofs.Regions.{part-good}
-use Rattle.table.proofs.Receives.{heard}
+use Rattle.table.proofs.Receives.{end-lent, heard}
 use Rattle.table.proofs.hear.Statement.{statement}
 use Rattle.table.proofs.hear.Tie as tie
 
-receive-requires : tie.Need-receive-requires
-receive-requires c κs =
-    let s = c .before .before .before .before .before .before .before .before .before .before in
+end-run-requires : tie.Need-end-run-requires
+end-run-requires c κs =
+    let s = c .before .before .before .before .before .before .before .before .before in
     let p = s .pre in
-    let few = p .1 in
-    (p .2, omega arith, search needs, part-good (s .args .table .now) (s .args .s) (p .0) few, p .3, p .4)
+    (part-good (s .args .table .now) (s .args .to .session) (p .0 .table) (p .0 .session), p .1)
+
+answer-requires : tie.Need-answer-requires
+answer-requires c κs =
+    let k = c .before .before .before .before .before .before in
+    let g = k .before .before .before in
+    let s = g .before .before .before .before .before .before .before in
+    let a = s .args in
+    end-lent (a .table .now) (a .out .now) (a .to) (a .bytes .now) (a .place .now) (s .pre .0) (g .is-granted .result)
+    (k .end-run .result) _ _
+    (k .end-run .ensures)
 
 returns : tie.Need-returns
 returns c =
-    let k = c .before .before .before .before .before .before in
-    let x = k .before .before .before .before .before in
-    let s = x .before .before .before .before .before .before in
+    let y = c .before .before in
+    let k = y .before .before .before .before .before .before .before in
+    let g = k .before .before .before in
+    let s = g .before .before .before .before .before .before .before in
     let a = s .args in
-    let w = heard (a .table .now) (a .s) (a .bytes .now) (s .pre .0) (s .pre .1) (settings-of (x .settings-apart .result))
-    (x .settings-apart .ensures) (a .place .now) (k .receive .ensures) in
-    (k .receive .ensures .within, w .0, w .1)
+    heard (a .table .now) (a .out .now) (a .to) (a .bytes .now) (a .place .now) (s .pre .0) (g .is-granted .result) (k .end-run .result) _ _
+    (k .end-run .ensures) (sym (g .is-granted .ensures ∙ ap (λ w. settings-of w .granted) (g .before .settings .ensures .0))) _ _
+    (y .answer .ensures)
 
 pub hear-spec : {M : Type 1} → statement M
 hear-spec =
     tie.close
     (tie.spec
+    (λ c κs. search needs)
     (λ c κs. search needs)
     (λ c. search needs)
     (λ c. search needs)
@@ -35,8 +46,8 @@ hear-spec =
     (λ c. search needs)
     (λ c. search needs)
     (λ c. search needs)
-    (λ c. search needs)
-    receive-requires
+    end-run-requires
+    answer-requires
     (λ c. search needs)
     (λ c. search needs)
     (λ c. search needs)

@@ -1,13 +1,22 @@
 -- `table::is_formed` meets its contract. The invariant: the test of the regions that are left is the test of all. Assumes nothing.
 use borrow.Author.Needs.{needs}
 use borrow.Author.Tests.{not-true, not-false}
-use mathlib.Core.Path.{_≡_, refl, sym, _∙_}
-use Prim.Native.Nat.{_-_}
+use mathlib.Core.Path.{_≡_, refl, sym, ap, _∙_}
+use mathlib.Core.Bool.{Bool}
+use mathlib.Core.List.{List}
+use Prim.Native.Nat.{ℕ, _-_}
+use lib.ListN.{length}
 use Rattle.model.specs.Limits.{session-count}
-use Rattle.table.specs.Table.{table-formed}
-use Rattle.table.proofs.Regions.{formed-from, formed-goes-on, formed-stops, formed-ends}
+use Rattle.text.proofs.Areas.{pass-from, pass-on, pass-stops, pass-ends}
+use Rattle.region.specs.Region.{region-size, region-formed}
+use Rattle.table.specs.Table.{region-at, table-formed}
+use Rattle.table.proofs.Regions.{length-in}
 use Rattle.table.proofs.is_formed.Statement.{statement}
 use Rattle.table.proofs.is_formed.Tie as tie
+
+-- those from session s on are
+abbrev formed-from : List ℕ → ℕ → Bool
+formed-from t s = pass-from (λ (s : ℕ). region-formed) region-at (λ (s : ℕ). region-size) session-count t s
 
 abbrev Inv-loop : tie.InvT-loop
 Inv-loop table s₀ s = formed-from table s ≡ formed-from table 0
@@ -19,33 +28,38 @@ returns : tie.Need-returns Inv-loop μ-loop
 unfolding table-formed
 returns c = rw (sym (c .before .is-formed .ensures) ∙ not-true _ (c .if1 .taken))
 
+is-formed-requires-2 : tie.Need-is-formed-requires-2 Inv-loop μ-loop
+is-formed-requires-2 c κs =
+    let s = c .before .before .before .before .before .before .before in
+    ap length (c .region-of .ensures) ∙ length-in (s .args .table .now) (c .before .before .loop .s) (s .pre) (c .before .loop-test .taken)
+
 returns-2 : tie.Need-returns-2 Inv-loop μ-loop
 unfolding table-formed
 returns-2 c =
-    let t = c .before .before .before in
-    let l = t .before .loop in
-    let i = t .before .before in
-    let s = i .before .before .before .before in
-    rw (sym (i .before .is-formed .ensures) ∙ not-false _ (i .if1 .left))
-    (formed-stops (s .args .table .now) (l .s) (t .loop-test .taken) (sym (c .before .is-formed2 .ensures) ∙ not-true _ (c .if2 .taken))
-    (l .inv))
+    let f = c .before in
+    let l = f .before .before .before in
+    let t = f .before .before .before .before .before .before .before .before .args .table .now in
+    rw (sym (l .before .before .is-formed .ensures) ∙ not-false _ (l .before .if1 .left))
+    (pass-stops (λ (s : ℕ). region-formed) region-at (λ (s : ℕ). region-size) session-count t (l .loop .s)
+    (f .before .before .loop-test .taken)
+    (sym (f .is-formed2 .ensures ∙ ap region-formed (f .before .region-of .ensures)) ∙ not-true _ (c .if2 .taken)) (l .loop .inv))
 
 loop-again : tie.Need-loop-again Inv-loop μ-loop
 loop-again c =
-    let t = c .before .before .before in
-    let l = t .before .loop in
-    let s = t .before .before .before .before .before .before in
-    formed-goes-on (s .args .table .now) (l .s) (t .loop-test .taken) (sym (c .before .is-formed2 .ensures) ∙ not-false _ (c .if2 .left))
-    (l .inv)
+    let f = c .before in
+    let l = f .before .before .before in
+    let t = f .before .before .before .before .before .before .before .before .args .table .now in
+    pass-on (λ (s : ℕ). region-formed) region-at (λ (s : ℕ). region-size) session-count t (l .loop .s) (f .before .before .loop-test .taken)
+    (sym (f .is-formed2 .ensures ∙ ap region-formed (f .before .region-of .ensures)) ∙ not-false _ (c .if2 .left)) (l .loop .inv)
 
 returns-3 : tie.Need-returns-3 Inv-loop μ-loop
 unfolding table-formed
 returns-3 c =
-    let l = c .before .loop in
-    let i = c .before .before in
-    let s = i .before .before .before .before in
-    rw (sym (i .before .is-formed .ensures) ∙ not-false _ (i .if1 .left))
-    (formed-ends (s .args .table .now) (l .s) (c .loop-test .left) (l .inv))
+    let l = c .before in
+    let t = l .before .before .before .before .before .args .table .now in
+    rw (sym (l .before .before .is-formed .ensures) ∙ not-false _ (l .before .if1 .left))
+    (pass-ends (λ (s : ℕ). region-formed) region-at (λ (s : ℕ). region-size) session-count t (l .loop .s) (c .loop-test .left)
+    (l .loop .inv))
 
 pub is-formed-spec : {M : Type 1} → statement M
 is-formed-spec =
@@ -59,13 +73,8 @@ is-formed-spec =
     (λ c κs. search needs)
     returns
     (λ c. refl)
-    (λ c. search needs)
-    (λ c. search needs)
-    (λ c. search needs)
-    (λ c. search needs)
-    (λ c. search needs)
-    (λ c. search needs)
     (λ c κs. search needs)
+    is-formed-requires-2
     returns-2
     (λ c. search needs)
     (λ c. search needs)

@@ -3,7 +3,7 @@ use borrow.Author.Needs.{needs}
 use mathlib.Core.Path.{_≡_, ap, _∙_}
 use native.Mathlib.Omega.{arith}
 use lib.ListN.{length}
-use Rattle.notices.specs.Places.{place-size}
+use Rattle.frame.specs.Places.{place-size}
 use Rattle.table.proofs.Regions.{shared-good}
 use Rattle.table.proofs.Events.{noted-identifier, noted-number}
 use Rattle.table.proofs.note.Statement.{statement}

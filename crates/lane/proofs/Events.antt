@@ -1,0 +1,153 @@
+-- An event that was taken in a lane is the model's. Assumes nothing.
+use mathlib.Core.Path.{_≡_, refl, sym, ap, _∙_, subst}
+use Prim.Native.Nat.{ℕ, _+_, _*_, _≤_, _<_, zero-le}
+use native.Mathlib.Nat.{mul-le-mul-right, suc-mul}
+use native.Mathlib.Numerals.{add-one}
+use native.Mathlib.Omega.{arith}
+use mathlib.Core.Bool.{Bool, true, false, cond}
+use mathlib.Core.List.{List, [], _∷_, _++_}
+use lib.Dec.{eqb, leb}
+use lib.ListN.{length, take, drop, length-append, length-drop}
+use lib.Seq.{sets, length-sets}
+use borrow.Author.Tests.{eqb-false}
+use Rattle.model.specs.Events.{Notice}
+use Rattle.model.specs.Kinds.{Room, the-newest, up-to, room-of}
+use Rattle.model.specs.Notices.{act, news, takes}
+use Rattle.model.specs.Notices as model
+use Rattle.text.specs.Cells.{cells}
+use Rattle.text.proofs.Lists.{drop-sets}
+use Rattle.text.proofs.Cells.{cells-push}
+use Rattle.frame.specs.Places.{place-size}
+use Rattle.session.specs.Meaning.{subscription-in, Took, kept, told, is-taken, place-of}
+use Rattle.session.specs.Control.{taken, taken-busy, take-from, holding}
+use Rattle.session.proofs.Notices.{take-right}
+use Rattle.session.specs.declared.Form.{Form}
+use Rattle.session.specs.declared.Form.the-variants.{Not, Plain, Acknowledged}
+use Rattle.session.specs.declared.Take.{Take}
+use Rattle.session.specs.declared.Take.the-variants as take
+use Rattle.session.specs.declared.Taken.{Taken}
+use Rattle.session.specs.declared.Subscription.{Subscription}
+use Rattle.lane.specs.Kinds.{control-size}
+use Rattle.lane.specs.Lane.{control-of, notices-in, lane-by, Storable, Stored, any, is-told, Pushing, Pushes}
+use Rattle.lane.specs.Lane.{Keeping, Keeps, Taking, Takes}
+use Rattle.lane.proofs.KindLaws.{kind-fits}
+use Rattle.lane.proofs.Lanes.{held-length, prefix, same-places, holds}
+
+-- ==== a notice goes to a place
+
+module _ (kind i : ℕ) (p l : List ℕ) (k : Pushing kind i p l) (size : ℕ) (z : size ≡ place-size kind) where
+  pub place-fits : control-size + i * size + size ≤ length l
+  place-fits =
+      rw (z, k .size) (let m = mul-le-mul-right (place-size kind) (k .few) in let q = suc-mul i (place-size kind) in omega arith)
+
+  pub pushes : Pushes kind i p l (sets l (control-size + i * size) p)
+  unfolding notices-in
+  pushes =
+      let f = rw z at place-fits in
+      let d = length-drop control-size l in
+      record {
+        size = length-sets l (control-size + i * size) p ∙ k .size;
+        notices = λ read.
+            rw (z, add-one, drop-sets p l control-size (i * place-size kind))
+            (cells-push read (place-size kind) (drop control-size l) i p (k .place) (omega arith));
+      }
+
+-- ==== where it is held
+
+module _ (read : List ℕ → Notice) (kind : ℕ) (t : Take) (held : ℕ) (p l : List ℕ) (k : Keeping kind t held p l) where
+  pub keeps-not : t ≡ take.Not → Keeps read kind t held p l l
+  keeps-not e = rw e record { size = k .push .size; notices = ap (λ (n : ℕ). notices-in read kind n l) (held-length read kind held l) }
+
+  pub keeps-once : t ≡ take.Once → Keeps read kind t held p l l
+  keeps-once e = rw e record { size = k .push .size; notices = ap (λ (n : ℕ). notices-in read kind n l) (held-length read kind held l) }
+
+  module _ (l′ : List ℕ) where
+    pub keeps-opens : t ≡ take.Opens → Pushes kind 0 p l l′ → Keeps read kind t held p l l′
+    unfolding notices-in cells
+    keeps-opens e q = rw e record { size = q .size; notices = q .notices read }
+
+    pub keeps-waits : (i : ℕ) → t ≡ take.Waits i → Pushes kind i p l l′ → Keeps read kind t held p l l′
+    keeps-waits i e q =
+        let few : i ≤ held = subst (λ (z : Take). place-of z ≤ held) e (k .there) in
+        let pre : take i (notices-in read kind held l) ≡ notices-in read kind i l = prefix read kind i held l few in
+        let n : length (notices-in read kind i l ++ (read p ∷ [])) ≡ i + 1 =
+        length-append (notices-in read kind i l) (read p ∷ []) ∙ ap (λ (m : ℕ). m + 1) (held-length read kind i l) in
+        rw e record { size = q .size; notices = rw (pre, n) (q .notices read) }
+
+-- the place is one of those held, or the one behind them
+busy-place : (r : Room) (x : Subscription) → 0 < x .held → place-of ((taken-busy r x) .take) ≤ x .held
+busy-place the-newest x h = h
+busy-place (up-to m) x h = go (leb m (x .held))
+  where
+    go : (b : Bool) → place-of
+        ((cond {A = Taken} b (record { take = take.Not; next = x })
+        (record { take = take.Waits (x .held); next = holding x (x .clock) (x .held + 1) })) .take) ≤ x .held
+    go true = zero-le
+    go false = omega arith
+
+pub place-held : (r : Room) (x : Subscription) → place-of ((taken r x) .take) ≤ x .held
+unfolding taken
+place-held r x = by-form (x .form)
+  where
+    go : (b : Bool) → eqb (x .held) 0 ≡ b
+        → place-of ((cond {A = Taken} b (record { take = take.Opens; next = holding x 0 1 }) (taken-busy r x)) .take) ≤ x .held
+    go true e = zero-le
+    go false e = let h = eqb-false (x .held) 0 e in busy-place r x (omega (arith, h))
+
+    by-form : (f : Form) → place-of ((take-from f x (taken-busy r x)) .take) ≤ x .held
+    by-form Not = zero-le
+    by-form Plain = zero-le
+    by-form Acknowledged = go (eqb (x .held) 0) refl
+
+-- ==== the whole event
+
+any-told : (t : Take) (n : Notice) → is-told t ≡ any (told t n)
+any-told take.Not n = refl
+any-told take.Once n = refl
+any-told take.Opens n = refl
+any-told (take.Waits i) n = refl
+
+module _ (read : List ℕ → Notice) (kind : ℕ) (l p : List ℕ) (given : Taking kind p l) where
+  abbrev x : Subscription
+  x = control-of l
+
+  abbrev n : Notice
+  n = read p
+
+  abbrev ns : List Notice
+  ns = notices-in read kind (x .held) l
+
+  abbrev t : Taken
+  t = taken (room-of kind) x
+
+  took : Took (room-of kind) (act (room-of kind) (news n) (subscription-in x ns)) (takes (room-of kind) (subscription-in x ns)) n ns t
+  took = take-right n (room-of kind) (kind-fits kind (given .known) .some) x ns (holds read kind l (given .lane))
+
+  pub takes-place : Keeping kind (t .take) (x .held) p l
+  takes-place = record {
+    there = place-held (room-of kind) x;
+    push = record { known = given .known; size = given .lane .size; few = took .place; place = given .place };
+  }
+
+  pub takes-storable : Storable kind (t .next)
+  takes-storable =
+      let c = took .holds .clock in
+      let h = took .holds .held in
+      let f = took .holds .fits in
+      record { clock = omega arith; held = omega arith }
+
+  pub takes-so : (l₁ l′ : List ℕ) → Keeps read kind (t .take) (x .held) p l l₁ → Stored kind (t .next) l₁ l′
+      → Takes read kind p l (is-taken (t .take)) (is-told (t .take)) l′
+  unfolding lane-by
+  takes-so l₁ l′ k w =
+      let now-held : notices-in read kind (t .next .held) l′ ≡ kept (t .take) n ns =
+      same-places read kind (t .next .held) l₁ l′ (w .places) ∙ ap (λ (i : ℕ). notices-in read kind i l₁) (took .holds .held)
+      ∙ k .notices in
+      record {
+        deals = record {
+          lane = w .lane;
+          becomes = rw (w .control, now-held) (sym (ap (λ (z : model.Subscription × List Notice). z .0) (took .acts)));
+          sends = any-told (t .take) n ∙ ap (λ (z : model.Subscription × List Notice). any (z .1)) (sym (took .acts));
+        };
+        takes = sym (took .takes);
+      }

@@ -1,0 +1,6 @@
+pub mod KindLaws
+pub mod Controls
+pub mod Deeds
+pub mod Lanes
+pub mod Events
+pub mod Sayings

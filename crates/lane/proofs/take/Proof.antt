@@ -1,0 +1,62 @@
+-- `lane::take` meets its contract: the notice is held, and what is said of it is the model's. Assumes nothing.
+use borrow.Author.Needs.{needs}
+use mathlib.Core.Path.{_≡_, ap, _∙_}
+use Rattle.model.specs.Kinds.{room-of}
+use Rattle.frame.specs.Places.{notice-in}
+use Rattle.session.specs.Control.{taken}
+use Rattle.lane.specs.Lane.{control-of}
+use Rattle.lane.proofs.Events.{takes-place, takes-storable, takes-so}
+use Rattle.lane.proofs.take.Statement.{statement}
+use Rattle.lane.proofs.take.Tie as tie
+
+-- what becomes of it, by what stands in the lane
+module _ (c : tie.After-taking) where
+  the-taking : let s = c .before .before .before .before .before in c .taking .result ≡ taken (room-of (s .args .kind))
+      (control-of (s .args .lane .now))
+  the-taking = let s = c .before .before .before .before .before in c .taking .ensures
+      ∙ ap (taken (room-of (s .args .kind))) (c .before .load .ensures)
+
+hold-requires : tie.Need-hold-requires
+hold-requires c κs =
+    let t = c .before in
+    let s = t .before .before .before .before .before in
+    let a = s .args in
+    rw (the-taking t, t .before .load .ensures)
+    (takes-place (notice-in (a .kind)) (a .kind) (a .lane .now) (a .place .now) (s .pre))
+
+store-requires : tie.Need-store-requires
+store-requires c κs =
+    let h = c .before .before .before .before in
+    let t = h .before .before in
+    let s = t .before .before .before .before .before in
+    let a = s .args in
+    record {
+      known = s .pre .known;
+      size = h .hold .ensures (notice-in (a .kind)) .size;
+      control = rw (the-taking t) (takes-storable (notice-in (a .kind)) (a .kind) (a .lane .now) (a .place .now) (s .pre));
+    }
+
+returns : tie.Need-returns
+returns c =
+    let w = c .before .before .before .before in
+    let h = w .before .before .before .before .before in
+    let t = h .before .before in
+    let s = t .before .before .before .before .before in
+    let a = s .args in
+    let e = the-taking t in λ read.
+    rw (c .is-told .ensures, c .before .is-taken .ensures, e)
+    (takes-so read (a .kind) (a .lane .now) (a .place .now) (s .pre) (h .hold .last .0) (w .store .last .0)
+    (rw (e, t .before .load .ensures) at (h .hold .ensures read)) (rw e at (w .store .ensures)))
+
+pub take-spec : {M : Type 1} → statement M
+take-spec =
+    tie.close
+    (tie.spec
+    (λ c κs. search needs)
+    (λ c κs. search needs)
+    hold-requires
+    store-requires
+    (λ c κs. search needs)
+    (λ c κs. search needs)
+    (λ c. search needs)
+    returns)

@@ -1,0 +1,166 @@
+-- A lane: a session's subscription to one kind of notice, and the notices that it holds, in one run of bytes. 01, "Notices and the
+-- clock". docs/TABLE.md has the map. Assumes nothing: these are definitions.
+use mathlib.Core.Path.{_≡_}
+use Prim.Native.Nat.{ℕ, zero, suc, _+_, _-_, _≤_, _<_}
+use mathlib.Core.Bool.{Bool, true, false, cond, _&&_}
+use mathlib.Core.List.{List, [], _∷_, _++_}
+use lib.Dec.{leb, ltb}
+use lib.ListN.{length, getD, take, drop}
+use Rattle.model.specs.Limits.{given-up-at}
+use Rattle.model.specs.Bytes.{little}
+use Rattle.model.specs.Kinds.{kinds, room-of}
+use Rattle.model.specs.Events.{Notice}
+use Rattle.model.specs.Notices.{empty, busy, unsubscribed, plain, acked, act}
+use Rattle.model.specs.Notices as model
+use Rattle.text.specs.Cells.{cells}
+use Rattle.frame.specs.Places.{place-size, notice-in}
+use Rattle.session.specs.Meaning.{subscription-in, shifted, kept, place-of}
+use Rattle.session.specs.Control.{subscription}
+use Rattle.session.specs.declared.Form.{Form}
+use Rattle.session.specs.declared.Form.the-variants.{Not, Plain, Acknowledged}
+use Rattle.session.specs.declared.Subscription.{Subscription}
+use Rattle.session.specs.declared.Take.{Take}
+use Rattle.session.specs.declared.Take.the-variants as take
+use Rattle.lane.specs.Kinds.{most, control-size, lane-size}
+
+-- ==== the control: the form, the clock and how many notices are held, a byte each; the revision in the bytes 8 to 15
+
+abbrev pub form-of : ℕ → Form
+form-of zero = Not
+form-of (suc zero) = Plain
+form-of (suc (suc n)) = Acknowledged
+
+abbrev pub form-greatest : ℕ
+form-greatest = 2
+
+-- no acknowledge is asked
+abbrev pub is-plain : Form → Bool
+is-plain Not = false
+is-plain Plain = true
+is-plain Acknowledged = false
+
+unfoldable pub control-of : List ℕ → Subscription
+control-of l = subscription (form-of (getD l 0 0)) (little (take 8 (drop 8 l))) (getD l 1 0) (getD l 2 0)
+
+-- ==== the places behind it, the oldest notice first. `read` is any reading of a place
+
+abbrev pub first-in : ℕ → List ℕ → List ℕ
+first-in kind l = take (place-size kind) (drop control-size l)
+
+unfoldable pub notices-in : (List ℕ → Notice) → ℕ → ℕ → List ℕ → List Notice
+notices-in read kind held l = cells read (place-size kind) held (drop control-size l)
+
+-- ==== what a lane means, and which are well formed
+
+unfoldable pub lane-by : (List ℕ → Notice) → ℕ → List ℕ → model.Subscription
+lane-by read kind l = subscription-in (control-of l) (notices-in read kind (control-of l .held) l)
+
+-- where a place holds the notice itself
+abbrev pub lane-of : ℕ → List ℕ → model.Subscription
+lane-of kind l = lane-by (notice-in kind) kind l
+
+-- each number is one that a subscription can have
+unfoldable pub lane-formed : ℕ → List ℕ → Bool
+lane-formed kind l = leb (getD l 0 0) form-greatest && ltb (getD l 1 0) given-up-at && leb (getD l 2 0) (most kind)
+
+pub record Lane (kind : ℕ) (l : List ℕ) : Type 0 where
+  pub size : length l ≡ lane-size kind
+  pub formed : lane-formed kind l ≡ true
+
+-- it means that nothing is subscribed to
+pub record Cleared (kind : ℕ) (l : List ℕ) : Type 0 where
+  pub lane : Lane kind l
+  pub means : (read : List ℕ → Notice) → lane-by read kind l ≡ unsubscribed
+
+-- ==== a control that can be stored; it is stored, and the places are as they were
+
+pub record Storable (kind : ℕ) (x : Subscription) : Type 0 where
+  pub clock : x .clock < given-up-at
+  pub held : x .held ≤ most kind
+
+pub record Storing (kind : ℕ) (x : Subscription) (l : List ℕ) : Type 0 where
+  pub known : kind < length kinds
+  pub size : length l ≡ lane-size kind
+  pub control : Storable kind x
+
+pub record Stored (kind : ℕ) (x : Subscription) (l l′ : List ℕ) : Type 0 where
+  pub control : control-of l′ ≡ x
+  pub lane : Lane kind l′
+  pub places : drop control-size l′ ≡ drop control-size l
+
+-- ==== the open notice of a subscription, and whether there are any notices
+
+abbrev pub open-one : model.Subscription → List Notice
+open-one unsubscribed = []
+open-one (plain revision) = []
+open-one (acked revision empty) = []
+open-one (acked revision (busy x clock waiting)) = x ∷ []
+
+abbrev pub any : List Notice → Bool
+any [] = false
+any (n ∷ ns) = true
+
+-- ==== a deed, an event aside
+
+-- of so many the first goes, or does not, where there is one
+pub record Shifting (kind held : ℕ) (shift : Bool) (l : List ℕ) : Type 0 where
+  pub known : kind < length kinds
+  pub size : length l ≡ lane-size kind
+  pub few : held ≤ most kind
+  pub one : shift ≡ true → 0 < held
+
+-- it is gone, and the others have shifted down
+pub record Shifts (kind held : ℕ) (shift : Bool) (l l′ : List ℕ) : Type 0 where
+  pub size : length l′ ≡ lane-size kind
+  pub notices : (read : List ℕ → Notice)
+      → notices-in read kind (cond shift (held - 1) held) l′ ≡ shifted shift (notices-in read kind held l)
+
+-- a deed was done to a lane: what the lane means, and whether a copy of a notice is to be sent
+pub record Deals (read : List ℕ → Notice) (kind : ℕ) (deed : model.Deed) (l : List ℕ) (send : Bool) (l′ : List ℕ) : Type 0 where
+  pub lane : Lane kind l′
+  pub becomes : lane-by read kind l′ ≡ (act (room-of kind) deed (lane-by read kind l)) .0
+  pub sends : send ≡ any ((act (room-of kind) deed (lane-by read kind l)) .1)
+
+-- ==== an event
+
+-- whether it is sent at once
+abbrev pub is-told : Take → Bool
+is-told take.Not = false
+is-told take.Once = true
+is-told take.Opens = true
+is-told (take.Waits place) = false
+
+-- the place p goes behind the first i
+pub record Pushing (kind i : ℕ) (p l : List ℕ) : Type 0 where
+  pub known : kind < length kinds
+  pub size : length l ≡ lane-size kind
+  pub few : i < most kind
+  pub place : length p ≡ place-size kind
+
+-- its notice stands there
+pub record Pushes (kind i : ℕ) (p l l′ : List ℕ) : Type 0 where
+  pub size : length l′ ≡ lane-size kind
+  pub notices : (read : List ℕ → Notice) → notices-in read kind (i + 1) l′ ≡ notices-in read kind i l ++ (read p ∷ [])
+
+-- the place p is to be held as `t` says, where so many are held
+pub record Keeping (kind : ℕ) (t : Take) (held : ℕ) (p l : List ℕ) : Type 0 where
+  pub there : place-of t ≤ held
+  pub push : Pushing kind (place-of t) p l
+
+-- its notice is held so
+pub record Keeps (read : List ℕ → Notice) (kind : ℕ) (t : Take) (held : ℕ) (p l l′ : List ℕ) : Type 0 where
+  pub size : length l′ ≡ lane-size kind
+  pub notices :
+      let ns = kept t (read p) (notices-in read kind held l) in
+      notices-in read kind (length ns) l′ ≡ ns
+
+-- an event of a kind in the place p, to a lane of that kind
+pub record Taking (kind : ℕ) (p l : List ℕ) : Type 0 where
+  pub known : kind < length kinds
+  pub lane : Lane kind l
+  pub place : length p ≡ place-size kind
+
+-- it was taken, or not, and is to be sent, or not
+pub record Takes (read : List ℕ → Notice) (kind : ℕ) (p l : List ℕ) (taken tell : Bool) (l′ : List ℕ) : Type 0 where
+  pub deals : Deals read kind (model.news (read p)) l tell l′
+  pub takes : taken ≡ model.takes (room-of kind) (lane-by read kind l)

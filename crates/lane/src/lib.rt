@@ -1,0 +1,361 @@
+// A lane: a session's subscription to one kind of notice and the notices that it holds, in one part of the lent table. Its functions
+// change it and say whether a copy is to be sent; what is sent is written elsewhere.
+ghost use mathlib.Core.Path.{_≡_};
+ghost use mathlib.Core.List.{List};
+ghost use Prim.Native.Nat.{ℕ, _≤_, _<_};
+ghost use lib.ListN.{length};
+ghost use Rattle.model.specs.Kinds.{kinds, room-of};
+ghost use Rattle.model.specs.Events.{Notice};
+ghost use Rattle.frame.specs.Places.{place-size as place-size-of};
+ghost use Rattle.model.specs.Notices.{is-subscribed as is-subscribed-so, beats};
+ghost use Rattle.session.specs.Meaning.{deed-of, is-taken as is-taken-so};
+ghost use Rattle.session.specs.Control.{taken, taken-busy, holding as holding-so};
+ghost use Rattle.lane.specs.Kinds.{row-of as row-so, control-size, lane-size};
+ghost use Rattle.lane.specs.Lane.{
+  form-of,
+  form-greatest,
+  control-of,
+  first-in,
+  lane-by,
+  lane-formed,
+  Lane,
+  Cleared,
+  Storing,
+  Stored,
+  Shifting,
+  Shifts,
+  Deals,
+  is-told as is-told-so,
+  Pushing,
+  Pushes,
+  Keeping,
+  Keeps,
+  Taking,
+  Takes,
+};
+use session::Deed;
+use session::Form;
+use session::Session;
+use session::Subscription;
+use session::Take;
+use session::Taken;
+
+// ---- the kinds
+
+// What is to be known of a kind: how many notices are held at most, how many bytes each takes, and whether beside the open one the
+// newest alone waits.
+struct Row {
+    most: u64,
+    size: usize,
+    newest: bool,
+}
+
+// The one function that has a case for each kind; the last kind has the last arm.
+fn row_of(kind: usize) -> Row
+    requires { ⌜ kind < length kinds ⌝ }
+    ensures { λ r. ⌜ r ≡ row-so kind ⌝ }
+{
+    match kind {
+        model::IDENTIFIERS => Row {
+            most: Session::IDENTIFIERS_HELD,
+            size: model::IDENTIFIER_LENGTH,
+            newest: true,
+        },
+        _ => Row {
+            most: Session::TIGHTENINGS_HELD,
+            size: model::RESULT_LENGTH,
+            newest: false,
+        },
+    }
+}
+
+// How many bytes a notice of that kind takes.
+pub fn place_size(kind: usize) -> usize
+    requires { ⌜ kind < length kinds ⌝ }
+    ensures { λ r. ⌜ r ≡ place-size-of kind ⌝ }
+{
+    let row = row_of(kind);
+    row.size
+}
+
+// The control is before the places.
+const CONTROL_SIZE: usize = 16;
+
+// Before it in the control: the form, the clock, how many are held.
+const REVISION_AT: usize = 8;
+
+// How many bytes a lane of that kind takes.
+pub fn size(kind: usize) -> usize
+    requires { ⌜ kind < length kinds ⌝ }
+    ensures { λ r. ⌜ r ≡ lane-size kind ⌝ }
+{
+    let row = row_of(kind);
+    CONTROL_SIZE + row.most as usize * row.size
+}
+
+// ---- the control
+
+const FORM_GREATEST: u8 = 2;
+
+fn wide(x: u8) -> u64
+    ensures { λ r. ⌜ r ≡ x ⌝ }
+{
+    x as u64
+}
+
+fn form_from(b: u8) -> Form
+    ensures { λ r. ⌜ r ≡ form-of b ⌝ }
+{
+    match b {
+        0 => Form::Not,
+        1 => Form::Plain,
+        _ => Form::Acknowledged,
+    }
+}
+
+fn form_byte(f: Form) -> u8
+    ensures { λ r. ⌜ (form-of r ≡ f) × (r ≤ form-greatest) ⌝ }
+{
+    match f {
+        Form::Not => 0,
+        Form::Plain => 1,
+        Form::Acknowledged => FORM_GREATEST,
+    }
+}
+
+// Whether the control is that of a subscription to that kind.
+pub fn is_formed(lane: &[u8], kind: usize) -> bool
+    requires { ⌜ (kind < length kinds) × (length (now lane) ≡ lane-size kind) ⌝ }
+    ensures { λ r. ⌜ r ≡ lane-formed kind (now (lane .entry)) ⌝ }
+{
+    if lane[0] > FORM_GREATEST {
+        return false;
+    }
+    if wide(lane[1]) >= Session::GIVEN_UP_AT {
+        return false;
+    }
+    let row = row_of(kind);
+    wide(lane[2]) <= row.most
+}
+
+// The subscription.
+pub fn load(lane: &[u8]) -> Subscription
+    requires { ⌜ control-size ≤ length (now lane) ⌝ }
+    ensures { λ r. ⌜ r ≡ control-of (now (lane .entry)) ⌝ }
+{
+    Subscription {
+        form: form_from(lane[0]),
+        revision: text::little(lane, REVISION_AT, 8),
+        clock: wide(lane[1]),
+        held: wide(lane[2]),
+    }
+}
+
+fn store(lane: &mut [u8], kind: usize, x: Subscription)
+    requires { ⌜ Storing kind x (now lane) ⌝ }
+    ensures { λ _. ⌜ Stored kind x (now (lane .entry)) (now (lane .exit)) ⌝ }
+{
+    let form = x.form;
+    let bytes = [form_byte(form), x.clock as u8, x.held as u8];
+    text::copy(&bytes, lane, 0);
+    text::put_little(lane, REVISION_AT, 8, x.revision);
+}
+
+// Whatever the bytes were: a lane that is not subscribed.
+pub fn clear(lane: &mut [u8], kind: usize)
+    requires { ⌜ (kind < length kinds) × (length (now lane) ≡ lane-size kind) ⌝ }
+    ensures { λ _. ⌜ Cleared kind (now (lane .exit)) ⌝ }
+{
+    text::fill(lane, 0, REVISION_AT, 0);
+}
+
+// Whatever the kind, and whatever is held.
+pub fn is_subscribed(lane: &[u8]) -> bool
+    requires { ⌜ control-size ≤ length (now lane) ⌝ }
+    ensures { λ r. ⌜ ((read : List ℕ → Notice) (kind : ℕ) → r ≡ is-subscribed-so (lane-by read kind (now (lane .entry)))) ⌝ }
+{
+    lane[0] != 0
+}
+
+// The first place, as it stands: the open notice is there, where one is open.
+pub fn first(lane: &[u8], kind: usize) -> &[u8]
+    requires { ⌜ (kind < length kinds) × (length (now lane) ≡ lane-size kind) ⌝ }
+    ensures { λ r. ⌜ now r ≡ first-in kind (now (lane .entry)) ⌝ }
+{
+    let end = CONTROL_SIZE + place_size(kind);
+    &lane[CONTROL_SIZE..end]
+}
+
+// ---- a deed
+
+// The first notice is gone, and those that wait shift down, where they do.
+fn shift_down(lane: &mut [u8], kind: usize, held: u64, shift: bool)
+    requires { ⌜ Shifting kind held «shift» (now lane) ⌝ }
+    ensures { λ _. ⌜ Shifts kind held «shift» (now (lane .entry)) (now (lane .exit)) ⌝ }
+{
+    if !shift {
+        return;
+    }
+    let size = place_size(kind);
+    let others = (held - 1) as usize * size;
+    text::shift(lane, CONTROL_SIZE, CONTROL_SIZE + size, others);
+}
+
+// Any deed but an event: whether a copy of what is then the open notice is to be sent.
+pub fn deal(lane: &mut [u8], kind: usize, deed: Deed) -> bool
+    requires { ⌜ (kind < length kinds) × Lane kind (now lane) ⌝ }
+    ensures { λ r. ⌜ ((read : List ℕ → Notice) → Deals read kind (deed-of deed) (now (lane .entry)) r (now (lane .exit))) ⌝ }
+{
+    let x = load(lane);
+    let step = session::dealt(x, deed);
+    shift_down(lane, kind, x.held, step.shift);
+    let next = step.next;
+    store(lane, kind, next);
+    step.send
+}
+
+// A second passes: where none is held there is nothing to do.
+pub fn beat(lane: &mut [u8], kind: usize) -> bool
+    requires { ⌜ (kind < length kinds) × Lane kind (now lane) ⌝ }
+    ensures { λ r. ⌜ ((read : List ℕ → Notice) → Deals read kind beats (now (lane .entry)) r (now (lane .exit))) ⌝ }
+{
+    if lane[2] == 0 {
+        return false;
+    }
+    deal(lane, kind, Deed::Beats)
+}
+
+// ---- an event
+
+// The same subscription, so many notices held and the open one's clock at `clock`.
+fn holding(x: Subscription, clock: u64, held: u64) -> Subscription
+    ensures { λ r. ⌜ r ≡ holding-so x clock held ⌝ }
+{
+    let form = x.form;
+    Subscription {
+        form,
+        revision: x.revision,
+        clock,
+        held,
+    }
+}
+
+// Where one is open: the newest waits alone; or it waits behind the others, where there is room.
+fn busy(x: Subscription, kind: usize) -> Taken
+    requires { ⌜ kind < length kinds ⌝ }
+    ensures { λ r. ⌜ r ≡ taken-busy (room-of kind) x ⌝ }
+{
+    let row = row_of(kind);
+    if row.newest {
+        return Taken {
+            take: Take::Waits(1),
+            next: holding(x, x.clock, row.most),
+        };
+    }
+    let held = x.held;
+    if held >= row.most {
+        return Taken {
+            take: Take::Not,
+            next: x,
+        };
+    }
+    Taken {
+        take: Take::Waits(held),
+        next: holding(x, x.clock, held + 1),
+    }
+}
+
+// What becomes of its notice, and the subscription after it.
+fn taking(x: Subscription, kind: usize) -> Taken
+    requires { ⌜ kind < length kinds ⌝ }
+    ensures { λ r. ⌜ r ≡ taken (room-of kind) x ⌝ }
+{
+    let form = x.form;
+    match form {
+        Form::Not => Taken {
+            take: Take::Not,
+            next: x,
+        },
+        Form::Plain => Taken {
+            take: Take::Once,
+            next: x,
+        },
+        Form::Acknowledged => {
+            if x.held == 0 {
+                return Taken {
+                    take: Take::Opens,
+                    next: holding(x, 0, 1),
+                };
+            }
+            busy(x, kind)
+        }
+    }
+}
+
+fn is_taken(t: Take) -> bool
+    ensures { λ r. ⌜ r ≡ is-taken-so t ⌝ }
+{
+    match t {
+        Take::Not => false,
+        Take::Once => true,
+        Take::Opens => true,
+        Take::Waits(_) => true,
+    }
+}
+
+fn is_told(t: Take) -> bool
+    ensures { λ r. ⌜ r ≡ is-told-so t ⌝ }
+{
+    match t {
+        Take::Not => false,
+        Take::Once => true,
+        Take::Opens => true,
+        Take::Waits(_) => false,
+    }
+}
+
+// A notice goes to place i, as the last of those held.
+fn put(lane: &mut [u8], kind: usize, i: u64, place: &[u8])
+    requires { ⌜ Pushing kind i (now place) (now lane) ⌝ }
+    ensures { λ _. ⌜ Pushes kind i (now (place .entry)) (now (lane .entry)) (now (lane .exit)) ⌝ }
+{
+    let at = CONTROL_SIZE + i as usize * place_size(kind);
+    text::copy(place, lane, at);
+}
+
+// It goes to its place, where it has one.
+fn hold(lane: &mut [u8], kind: usize, held: u64, take: Take, place: &[u8])
+    requires { ⌜ Keeping kind take held (now place) (now lane) ⌝ }
+    ensures { λ _. ⌜ ((read : List ℕ → Notice) → Keeps read kind take held (now (place .entry)) (now (lane .entry)) (now (lane .exit))) ⌝ }
+{
+    match take {
+        Take::Not => {}
+        Take::Once => {}
+        Take::Opens => put(lane, kind, 0, place),
+        Take::Waits(i) => put(lane, kind, i, place),
+    }
+}
+
+// Whether an event was taken, and whether a copy of it is to be sent now.
+pub struct Told {
+    pub taken: bool,
+    pub tell: bool,
+}
+
+// An event, whose notice is in `place`.
+pub fn take(lane: &mut [u8], kind: usize, place: &[u8]) -> Told
+    requires { ⌜ Taking kind (now place) (now lane) ⌝ }
+    ensures { λ r. ⌜ ((read : List ℕ → Notice) → Takes read kind (now (place .entry)) (now (lane .entry))
+        (r .taken) (r .tell) (now (lane .exit))) ⌝ }
+{
+    let x = load(lane);
+    let t = taking(x, kind);
+    let take = t.take;
+    hold(lane, kind, x.held, take, place);
+    let next = t.next;
+    store(lane, kind, next);
+    Told {
+        taken: is_taken(take),
+        tell: is_told(take),
+    }
+}

@@ -1,0 +1,392 @@
+-- The end of a run, to a session in its region. Assumes nothing.
+use mathlib.Core.Path.{_≡_, refl, sym, ap, ap₂, subst, _∙_}
+use mathlib.Core.Bool.{Bool, true, false, cond}
+use mathlib.Core.List.{List, [], _∷_, _++_, append-nil}
+use mathlib.Core.Option.{Option, none, some}
+use Prim.Native.Nat.{ℕ, zero, suc, _+_, _-_, _≤_, _<_, min}
+use native.Mathlib.Nat.{add-zero}
+use native.Mathlib.Omega.{arith}
+use lib.Dec.{lit≤}
+use lib.ListN.{length, getD, set, take, drop, length-take, length-drop}
+use lib.Seq.{getD-set-same, take-take, take-all}
+use Rattle.model.specs.Limits.{header-length, run-kept, run-counted, identifier-length, idle-limit}
+use Rattle.model.specs.Bytes.{little}
+use Rattle.model.specs.Records.{Settings}
+use Rattle.model.specs.Runs.{Run, empty-run, longer, Piece}
+use Rattle.model.specs.Kinds.{kinds, room-of}
+use Rattle.model.specs.Events.{Notice}
+use Rattle.model.specs.Notices.{Subscription, unsubscribed, act}
+use Rattle.model.specs.Notices as notices
+use Rattle.model.specs.Session.{no-subscriptions, subscribed-to, Emission}
+use Rattle.model.specs.Session as model
+use Rattle.model.specs.Messages as messages
+use Rattle.model.specs.Local.{step, receives, announces}
+use Rattle.model.specs.Sharing.{shared-begun}
+use Rattle.model.proofs.Cuts.{longer-longer}
+use borrow.Rule.Slice.PartMut.{putMid}
+use Rattle.text.proofs.Cells.{area-same, area-before}
+use Rattle.message.specs.Meaning.{standing-of}
+use Rattle.message.specs.declared.Standing.{Standing}
+use Rattle.frame.specs.Header.{header-of}
+use Rattle.session.specs.Meaning.{deed-of, session-as}
+use Rattle.session.specs.Control.{cleared}
+use Rattle.session.specs.Effects.{standing-in, decision-on, carried, carried-out, replies, announced}
+use Rattle.session.specs.declared.Phase.{Phase}
+use Rattle.session.specs.declared.Phase.the-variants.{Closed, Opened, Started}
+use Rattle.session.specs.declared.Session.{Session}
+use Rattle.session.specs.declared.Decision.{Decision}
+use Rattle.session.specs.declared.Reply.{Reply}
+use Rattle.session.specs.declared.Reply.the-variants as reply
+use Rattle.session.proofs.Hearing.{decide-right, identify-right}
+use Rattle.session.proofs.Decided.{decided-kind, decided-idle, mirrored-whole}
+use Rattle.run.specs.Area.{run-size, run-of, run-formed, bytes-of}
+use Rattle.run.specs.Area as run
+use Rattle.run.proofs.Areas.{counted}
+use Rattle.head.specs.Head.{head-size, head-of, head-formed}
+use Rattle.head.specs.Head as head
+use Rattle.lane.specs.Lane.{any}
+use Rattle.lane.proofs.Sayings.{quiet-of, after}
+use Rattle.region.specs.Region.{region-size, head-area, run-area, subscriptions-in, subscription-in, session-of, meaning, Good}
+use Rattle.region.specs.Region.{run-bytes, Becomes, Changes, LanesCleared}
+use Rattle.region.specs.Said.{due-copy, DealtTo, ending, is-known, known-in, Knows, stood, Ruled, CarriesOut, ended-by, ended-in}
+use Rattle.region.specs.Said.{end-said, RunEnds}
+use Rattle.region.specs.declared.Ended.{Ended}
+use Rattle.region.proofs.Areas.{parts, good-of, replaced-size, subscription-at, there, means}
+use Rattle.region.proofs.Says.{sent, row-one, said-one}
+use Rattle.region.proofs.Ticks.{means-so}
+
+-- ==== one change after another
+
+pub changes-then : {r r₁ r₂ : List ℕ} {x y : Session} {m n : Run} {xs ys : List Subscription} → Changes r x m xs r₁ → Changes r₁ y n ys r₂
+    → Changes r y n ys r₂
+changes-then a b = record {
+  becomes = record {
+    good = b .becomes .good;
+    size = b .becomes .size ∙ a .becomes .size;
+    head = b .becomes .head;
+    runs = b .becomes .runs;
+    subscriptions = b .becomes .subscriptions;
+  };
+  bytes = b .bytes ∙ a .bytes;
+}
+
+-- the lanes were cleared
+pub lanes-cleared : (r r′ : List ℕ) → Good r → LanesCleared r r′
+    → Changes r (head-of (head-area r)) (run-of (run-area r)) no-subscriptions r′
+lanes-cleared r r′ g c = record {
+  becomes = record {
+    good =
+        good-of r′ (c .size ∙ g .size) (ap head-formed (c .head) ∙ parts r g .head .formed)
+        (ap run-formed (c .run) ∙ parts r g .run .formed) (c .formed);
+    size = c .size;
+    head = ap head-of (c .head);
+    runs = ap run-of (c .run);
+    subscriptions = c .none;
+  };
+  bytes = ap bytes-of (c .run);
+}
+
+-- nothing was done
+pub unchanged : (r : List ℕ) → Good r → Changes r (head-of (head-area r)) (run-of (run-area r)) (subscriptions-in r) r
+unchanged r g = record {
+  becomes = record { good = g; size = refl; head = refl; runs = refl; subscriptions = refl };
+  bytes = refl;
+}
+
+set-same : {A : Type 0} (l : List A) (k : ℕ) (d : A) → set l k (getD l k d) ≡ l
+set-same [] k d = refl
+set-same (x ∷ l) zero d = refl
+set-same (x ∷ l) (suc k) d = ap (λ (z : List _). x ∷ z) (set-same l k d)
+
+abbrev Changes-to : List ℕ → List Subscription → Type 0
+Changes-to r subs = Changes r (head-of (head-area r)) (run-of (run-area r)) subs r
+
+pub nothing-dealt : (r : List ℕ) (kind : ℕ) → kind < length kinds → Good r → DealtTo kind notices.nothing r false r
+nothing-dealt r kind few g = record {
+  changes =
+      subst (Changes-to r)
+      (sym (ap (set (subscriptions-in r) kind) (sym (subscription-at r kind few)) ∙ set-same (subscriptions-in r) kind unsubscribed))
+      (unchanged r g);
+  sends = refl;
+}
+
+-- ==== a start
+
+pub started-there : (r h n r′ : List ℕ) → length r ≡ region-size → head-of h ≡ cleared → head.Area h → run.Area n
+    → LanesCleared (putMid 8 run-size (putMid 0 head-size r h) n) r′ → Good r′ × (session-of r′ ≡ model.closed)
+unfolding session-of
+started-there r h n r′ s e g k c =
+    let r₁ = putMid 0 head-size r h in
+    let r₂ = putMid 8 run-size r₁ n in
+    let l : length r₁ ≡ region-size = replaced-size r h s 0 head-size (g .size) (lit≤ tt) ∙ s in
+    let l₂ : length r₂ ≡ region-size = replaced-size r₁ n l 8 run-size (k .size) (lit≤ tt) ∙ l in
+    let a : head-area r₂ ≡ h = area-before 8 run-size r₁ n (k .size) (omega arith) 0 head-size (lit≤ tt)
+    ∙ area-same 0 head-size r h (g .size) (omega arith) in
+    let b : run-area r₂ ≡ n = area-same 8 run-size r₁ n (k .size) (omega arith) in (
+      good-of r′ (c .size ∙ l₂) (ap head-formed (c .head ∙ a) ∙ g .formed) (ap run-formed (c .run ∙ b) ∙ k .formed) (c .formed),
+      ap (λ (x : Session). meaning x (run-of (run-area r′)) (subscriptions-in r′)) (ap head-of (c .head ∙ a) ∙ e),
+    )
+
+-- ==== a decision is carried out
+
+-- what it held, where it is not gone
+abbrev pub held : Decision → List ℕ → List Subscription
+held d r = cond (d .begins) no-subscriptions (subscriptions-in r)
+
+module _ (d : Decision) (r r₁ r₂ : List ℕ) (sends : Bool) (few : d .kind < length kinds)
+    (c : Changes r (d .next) empty-run (held d r) r₁) (e : DealtTo (d .kind) (deed-of (d .deed)) r₁ sends r₂) where
+  abbrev kind : ℕ
+  kind = d .kind
+
+  abbrev xs : List Subscription
+  xs = held d r
+
+  abbrev x : Subscription
+  x = getD xs kind unsubscribed
+
+  abbrev y : Subscription × List Notice
+  y = act (room-of kind) (deed-of (d .deed)) x
+
+  subs₁ : subscriptions-in r₁ ≡ xs
+  subs₁ = c .becomes .subscriptions
+
+  fits : kind < length xs
+  fits = subst (λ (l : List Subscription). kind < length l) subs₁ (there r₁ kind few)
+
+  is-x : subscription-in kind r₁ ≡ x
+  is-x = sym (subscription-at r₁ kind few) ∙ ap (λ (l : List Subscription). getD l kind unsubscribed) subs₁
+
+  subs₂ : subscriptions-in r₂ ≡ set xs kind (y .0)
+  subs₂ =
+      e .changes .becomes .subscriptions
+      ∙ ap₂ (λ (l : List Subscription) (z : Subscription). set l kind ((act (room-of kind) (deed-of (d .deed)) z) .0)) subs₁ is-x
+
+  now-is : subscription-in kind r₂ ≡ y .0
+  now-is =
+      sym (subscription-at r₂ kind few) ∙ ap (λ (l : List Subscription). getD l kind unsubscribed) subs₂
+      ∙ getD-set-same xs kind (y .0) unsubscribed fits
+
+  due : sends ≡ any (y .1)
+  due = e .sends ∙ ap (λ (z : Subscription). any ((act (room-of kind) (deed-of (d .deed)) z) .1)) is-x
+
+  now : session-of r₂ ≡ meaning (d .next) empty-run (set xs kind (y .0))
+  now =
+      means (e .changes .becomes)
+      ∙ ap₂ (λ (z : Session) (n : Run). meaning z n
+      (set (subscriptions-in r₁) kind ((act (room-of kind) (deed-of (d .deed)) (subscription-in kind r₁)) .0)))
+      (c .becomes .head) (c .becomes .runs)
+      ∙ ap (meaning (d .next) empty-run) (sym (e .changes .becomes .subscriptions) ∙ subs₂)
+
+  pub carries-out : CarriesOut d r sends r₂
+  carries-out =
+      let q = quiet-of (d .deed) in
+      record {
+        good = e .changes .becomes .good;
+        size = e .changes .becomes .size ∙ c .becomes .size;
+        bytes = e .changes .bytes ∙ c .bytes;
+        ready = λ b. rw now-is (after (room-of kind) (deed-of (d .deed)) x q .there (sym due ∙ b));
+        carries = λ st.
+            ap₂ (λ (m : model.Session) (es : List Emission). (m, es))
+            (ap (meaning (d .next) empty-run) (row-one kind (deed-of (d .deed)) xs fits st) ∙ sym now)
+            (said-one kind (deed-of (d .deed)) xs fits st ∙ sent (room-of kind) (deed-of (d .deed)) x q st kind
+            ∙ ap₂ (due-copy st kind) (sym due) (sym now-is));
+      }
+
+-- step by step: the run is over, what it held is gone or not, and it is then as the decision says
+pub changed-so : (d : Decision) (r r₁ r₂ r₃ : List ℕ) → Changes r (head-of (head-area r)) empty-run (subscriptions-in r) r₁
+    → Changes r₁ (head-of (head-area r₁)) (run-of (run-area r₁)) (cond (d .begins) no-subscriptions (subscriptions-in r₁)) r₂
+    → Changes r₂ (d .next) (run-of (run-area r₂)) (subscriptions-in r₂) r₃ → Changes r (d .next) empty-run (held d r) r₃
+changed-so d r r₁ r₂ r₃ a b c =
+    let empty : run-of (run-area r₂) ≡ empty-run = b .becomes .runs ∙ a .becomes .runs in
+    let subs : subscriptions-in r₂ ≡ held d r =
+    b .becomes .subscriptions ∙ ap (cond (d .begins) no-subscriptions) (a .becomes .subscriptions) in
+    changes-then a (changes-then b
+    (subst (λ (l : List Subscription). Changes r₂ (d .next) empty-run l r₃) subs
+    (subst (λ (n : Run). Changes r₂ (d .next) n (subscriptions-in r₂) r₃) empty c)))
+
+-- ==== the run is over
+
+-- of a header only one that is mirrored is read
+replies-same : (st : Settings) (h h′ : List ℕ) (r : Reply) → (r ≡ reply.Mirrored → h ≡ h′) → replies st h r ≡ replies st h′ r
+replies-same st h h′ reply.Nothing e = refl
+replies-same st h h′ reply.Started e = refl
+replies-same st h h′ (reply.Accepted mid) e = refl
+replies-same st h h′ (reply.Error mid code) e = refl
+replies-same st h h′ reply.Mirrored e = ap (λ (z : List ℕ). replies st z reply.Mirrored) (e refl)
+
+known-by : (b : Bool) (bs : List ℕ) → b ≡ is-known (announced b bs)
+known-by false bs = refl
+known-by true bs = refl
+
+module _ (granted : Bool) (bs r place : List ℕ) (x : Session) (ex : x ≡ head-of (head-area r)) (idle : x .idle < idle-limit)
+    (standing : Standing) (stands : standing-of standing ≡ stood x granted (subscriptions-in r)) where
+  abbrev n : Run
+  n = longer (run-of (run-area r)) bs
+
+  module _ (d : Decision) (place′ : List ℕ) (ruled : Ruled x standing n place d place′) where
+    pub kind-known : d .kind < length kinds
+    kind-known = rw (ruled .decides) (decided-kind x standing (header-of (n .kept) (n .count)) (drop header-length (n .kept)))
+
+    pub idle-few : d .next .idle < idle-limit
+    idle-few = rw (ruled .decides) (decided-idle x idle standing (header-of (n .kept) (n .count)) (drop header-length (n .kept)))
+
+    pub header-there : d .reply ≡ reply.Mirrored → header-length ≤ length (n .kept)
+    header-there q = mirrored-whole x standing n (ap (λ (z : Decision). z .reply) (sym (ruled .decides)) ∙ q)
+
+    pub run-ends : (whole sends : Bool) (r′ : List ℕ) → CarriesOut d r sends r′
+        → (d .reply ≡ reply.Mirrored → take header-length (n .kept) ≡ take header-length (ended-in whole bs r′))
+        → (d .reply ≡ reply.Mirrored → header-length ≤ length (ended-in whole bs r′))
+        → RunEnds granted bs r place (ended-by d whole sends) r′ place′
+    run-ends whole sends r′ c same long = record {
+      good = c .good;
+      size = c .size;
+      kind = kind-known;
+      ready = c .ready;
+      whole = long;
+      steps = λ st eg.
+          ap (step (shared-begun st 0) (receives (ending bs))) (means-so r x ex)
+          ∙ decide-right st (run-of (run-area r)) (subscriptions-in r) (ending bs) refl standing x (so st eg)
+          ∙ ap (λ (z : Decision). carried-out st (take header-length (n .kept)) z (subscriptions-in r)) (sym (ruled .decides))
+          ∙ ap₂ (λ (q : model.Session × List Emission) (es : List Emission). (q .0, es ++ q .1)) (c .carries st)
+          (replies-same st _ _ (d .reply) same);
+      knows = λ st eg.
+          let told = ap (announces (shared-begun st 0) (ending bs)) (means-so r x ex)
+          ∙ identify-right st (run-of (run-area r)) (subscriptions-in r) (ending bs) refl standing x (so st eg)
+          ∙ ap (λ (z : Decision). announced (z .identifies) (drop header-length (n .kept))) (sym (ruled .decides)) in (
+            known-by (d .identifies) (drop header-length (n .kept)) ∙ ap is-known (sym told),
+            ruled .knows ∙ ap (λ (z : Option (List ℕ)). known-in z place) (sym told),
+          );
+    }
+      where
+        so : (st : Settings) → st .granted ≡ granted → standing-of standing ≡ standing-in st (x .phase) (subscriptions-in r)
+        so st eg = stands ∙ ap (λ (b : Bool). stood x b (subscriptions-in r)) (sym eg)
+
+-- ==== where its bytes are
+
+-- whole in the slice
+pub whole-header : (bs : List ℕ) → take header-length (longer empty-run bs .kept) ≡ take header-length bs
+whole-header bs = take-take header-length run-kept bs (omega arith)
+
+pub whole-long : (bs : List ℕ) → header-length ≤ length (longer empty-run bs .kept) → header-length ≤ length bs
+whole-long bs h = omega (arith, length-take run-kept bs)
+
+pub taken-few : (bs : List ℕ) → length (longer empty-run bs .kept) ≤ run-kept
+taken-few bs = rw (length-take run-kept bs) (omega arith)
+
+-- kept in the region
+pub kept-few : (a : List ℕ) → length (run-of a .kept) ≤ run-kept
+unfolding run-of
+kept-few a = rw (length-take (min run-kept (little (take 2 a))) (drop 2 a)) (omega arith)
+
+module _ (a : List ℕ) (area : run.Area a) where
+  pub longer-none : longer (run-of a) [] ≡ run-of a
+  unfolding run-of
+  longer-none =
+      let c = counted a area in
+      ap₂ {C = Run} (λ (bs : List ℕ) (n : ℕ). record { kept = bs; count = n })
+      (ap (take run-kept) (append-nil (run-of a .kept))
+      ∙ take-all run-kept (run-of a .kept) (omega (arith, length-take (min run-kept (little (take 2 a))) (drop 2 a))))
+      (omega arith)
+
+  pub kept-header : header-length ≤ length (run-of a .kept) → take header-length (run-of a .kept) ≡ take header-length (bytes-of a)
+  unfolding run-of
+  kept-header h =
+      let l = length-take (min run-kept (little (take 2 a))) (drop 2 a) in
+      take-take header-length (min run-kept (little (take 2 a))) (drop 2 a) (omega arith)
+      ∙ sym (take-take header-length run-kept (drop 2 a) (omega arith))
+
+  pub bytes-long : header-length ≤ length (bytes-of a)
+  bytes-long = let s = area .size in omega (arith, length-take run-kept (drop 2 a), length-drop 2 a)
+
+pub run-empty : (a : List ℕ) → run-of a .count ≡ 0 → run-of a ≡ empty-run
+unfolding run-of
+run-empty a e = ap (λ (n : ℕ). record { kept = take (min run-kept n) (drop 2 a); count = n }) e
+
+-- ==== it is over, and what is decided on it is carried out
+
+module _ (granted : Bool) (bs r place : List ℕ) (x : Session) (ex : x ≡ head-of (head-area r)) (idle : x .idle < idle-limit)
+    (standing : Standing) (stands : standing-of standing ≡ stood x granted (subscriptions-in r)) (d : Decision) (place′ : List ℕ)
+    (ruled : Ruled x standing (longer (run-of (run-area r)) bs) place d place′) (sends : Bool) (r′ : List ℕ)
+    (c : CarriesOut d r sends r′) where
+  -- where it stands whole in the slice
+  pub ends-whole : run-of (run-area r) ≡ empty-run → RunEnds granted bs r place (ended-by d true sends) r′ place′
+  ends-whole e =
+      let n : longer (run-of (run-area r)) bs ≡ longer empty-run bs = ap (λ (z : Run). longer z bs) e in
+      run-ends granted bs r place x ex idle standing stands d place′ ruled true sends r′ c
+      (λ q. ap (λ (z : Run). take header-length (z .kept)) n ∙ whole-header bs)
+      (λ q. whole-long bs (subst (λ (z : Run). header-length ≤ length (z .kept)) n
+      (header-there granted bs r place x ex idle standing stands d place′ ruled q)))
+
+module _ (granted : Bool) (r place : List ℕ) (x : Session) (ex : x ≡ head-of (head-area r)) (idle : x .idle < idle-limit)
+    (standing : Standing) (stands : standing-of standing ≡ stood x granted (subscriptions-in r)) (d : Decision) (place′ : List ℕ)
+    (ruled : Ruled x standing (longer (run-of (run-area r)) []) place d place′) (sends : Bool) (r′ : List ℕ)
+    (c : CarriesOut d r sends r′) where
+  -- where it is kept
+  pub ends-kept : run.Area (run-area r) → RunEnds granted [] r place (ended-by d false sends) r′ place′
+  ends-kept area =
+      let n = longer-none (run-area r) area in
+      let long : d .reply ≡ reply.Mirrored → header-length ≤ length (run-of (run-area r) .kept) =
+      λ q. subst (λ (z : Run). header-length ≤ length (z .kept)) n
+      (header-there granted [] r place x ex idle standing stands d place′ ruled q) in
+      run-ends granted [] r place x ex idle standing stands d place′ ruled false sends r′ c
+      (λ q. ap (λ (z : Run). take header-length (z .kept)) n ∙ kept-header (run-area r) area (long q)
+      ∙ ap (take header-length) (sym (c .bytes)))
+      (λ q. rw (c .bytes) (bytes-long (run-area r) area))
+
+-- ==== a run that began earlier ends: first it gets longer, and then it is over
+
+module _ (bs r r₁ : List ℕ) (x : Session) (ex : x ≡ head-of (head-area r))
+    (b : Becomes r x (longer (run-of (run-area r)) bs) (subscriptions-in r) r₁) where
+  abbrev run₀ : Run
+  run₀ = run-of (run-area r)
+
+  abbrev subs : List Subscription
+  subs = subscriptions-in r
+
+  again : longer (longer run₀ bs) [] ≡ longer run₀ bs
+  again = longer-longer run₀ bs [] ∙ ap (longer run₀) (append-nil bs)
+
+  steps-same : (st : Settings) (p : Phase)
+      → step (shared-begun st 0) (receives (ending bs)) (session-as p (x .idle) run₀ subs)
+      ≡ step (shared-begun st 0) (receives (ending [])) (session-as p (x .idle) (longer run₀ bs) subs)
+  steps-same st Closed = refl
+  steps-same st Opened = rw again
+  steps-same st Started = rw again
+
+  tells-same : (st : Settings) (p : Phase)
+      → announces (shared-begun st 0) (ending bs) (session-as p (x .idle) run₀ subs)
+      ≡ announces (shared-begun st 0) (ending []) (session-as p (x .idle) (longer run₀ bs) subs)
+  tells-same st Closed = refl
+  tells-same st Opened = refl
+  tells-same st Started = rw again
+
+  pub ends-longer : (granted : Bool) (place : List ℕ) (e : Ended) (r′ place′ : List ℕ) → e .whole ≡ false
+      → RunEnds granted [] r₁ place e r′ place′ → RunEnds granted bs r place e r′ place′
+  ends-longer granted place e r′ place′ kept w =
+      let was = means-so r x ex in
+      let is = means b in
+      record {
+        good = w .good;
+        size = w .size ∙ b .size;
+        kind = w .kind;
+        ready = w .ready;
+        whole = λ q. rw kept (rw kept at (w .whole q));
+        steps = λ st eg.
+            ap (step (shared-begun st 0) (receives (ending bs))) was ∙ steps-same st (x .phase)
+            ∙ ap (step (shared-begun st 0) (receives (ending []))) (sym is) ∙ w .steps st eg
+            ∙ ap (λ (z : Bool). (
+              session-of r′,
+              replies st (take header-length (cond z [] (run-bytes r′))) (e .reply)
+                  ++ due-copy st (e .kind) (e .sends) (subscription-in (e .kind) r′),
+            )) kept
+            ∙ sym (ap (λ (z : Bool). (
+              session-of r′,
+              replies st (take header-length (cond z bs (run-bytes r′))) (e .reply)
+                  ++ due-copy st (e .kind) (e .sends) (subscription-in (e .kind) r′),
+            )) kept);
+        knows = λ st eg.
+            subst (λ (z : Option (List ℕ)). Knows z place (e .identified) place′)
+            (ap (announces (shared-begun st 0) (ending [])) is ∙ sym (tells-same st (x .phase))
+            ∙ ap (announces (shared-begun st 0) (ending bs)) (sym was))
+            (w .knows st eg);
+      }

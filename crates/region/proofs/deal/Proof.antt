@@ -1,0 +1,73 @@
+-- `region::deal` meets its contract, by whether there is anything to do. Assumes nothing.
+use borrow.Author.Needs.{needs}
+use mathlib.Core.Path.{sym, subst}
+use mathlib.Core.List.{List}
+use Prim.Native.Nat.{ℕ}
+use Rattle.frame.specs.Places.{notice-in}
+use Rattle.session.specs.Meaning.{deed-of}
+use Rattle.session.specs.declared.Deed.{Deed}
+use Rattle.lane.specs.Lane.{Lane}
+use Rattle.region.specs.Said.{DealtTo}
+use Rattle.region.proofs.Areas.{lane-lies, lane-part, lane-good}
+use Rattle.region.proofs.Walks.{dealt-to}
+use Rattle.region.proofs.Ends.{nothing-dealt}
+use Rattle.region.proofs.deal.Statement.{statement}
+use Rattle.region.proofs.deal.Tie as tie
+
+returns : tie.Need-returns
+returns c =
+    let s = c .before .before .before in
+    let r = s .args .region .now in
+    subst (λ (d : Deed). DealtTo (s .args .kind) (deed-of d) r _ r) (sym (c .enum-told .given .1))
+    (nothing-dealt r (s .args .kind) (s .pre .1) (s .pre .0))
+
+add-e : tie.Need-add-e
+add-e c =
+    let s = c .before .before .before .before in
+    let l = lane-lies (s .args .region .now) (s .args .kind) (s .pre .1) (c .before .lane-at .result) (c .size .result)
+    (c .before .lane-at .ensures) (c .size .ensures) (s .pre .0 .size) in
+    search needs
+
+part-deal-end : tie.Need-part-deal-end
+part-deal-end c =
+    let s = c .before .before .before .before in
+    let l = lane-lies (s .args .region .now) (s .args .kind) (s .pre .1) (c .before .lane-at .result) (c .size .result)
+    (c .before .lane-at .ensures) (c .size .ensures) (s .pre .0 .size) in
+    search needs
+
+deal-requires : tie.Need-deal-requires
+deal-requires c κs =
+    let z = c .before in
+    let s = z .before .before .before .before in
+    let r = s .args .region .now in
+    let kind = s .args .kind in
+    let few = s .pre .1 in (
+      few,
+      subst (Lane kind) (sym (lane-part r kind few (z .before .lane-at .result) (z .size .result) (z .before .lane-at .ensures)
+          (z .size .ensures))) (lane-good r kind few (s .pre .0)),
+    )
+
+returns-2 : tie.Need-returns-2
+returns-2 c =
+    let d = c .before .before in
+    let z = d .before .before in
+    let s = z .before .before .before .before in
+    let kind = s .args .kind in
+    dealt-to (s .args .region .now) kind (deed-of (s .args .deed)) (s .pre .1) (s .pre .0) (z .before .lane-at .result) (z .size .result)
+    (d .deal .result) (d .deal .last .0) (z .before .lane-at .ensures) (z .size .ensures) (d .deal .ensures (notice-in kind))
+
+pub deal-spec : {M : Type 1} → statement M
+deal-spec =
+    tie.close
+    (tie.spec
+    (λ c. search needs)
+    returns
+    (λ c κs. search needs)
+    (λ c κs. search needs)
+    add-e
+    (λ c. search needs)
+    (λ c. search needs)
+    part-deal-end
+    deal-requires
+    (λ c. search needs)
+    returns-2)

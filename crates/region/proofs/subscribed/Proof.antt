@@ -1,0 +1,55 @@
+-- `region::subscribed` meets its contract. The invariant: what is told so far, and what is left to tell, is all of it. Assumes nothing.
+use borrow.Author.Needs.{needs}
+use mathlib.Core.Path.{refl, ap, _∙_}
+use native.Mathlib.Omega.{arith}
+use Prim.Native.Nat.{ℕ, _-_}
+use lib.ListN.{length}
+use Rattle.model.specs.Kinds.{kinds}
+use Rattle.model.specs.Notices.{is-subscribed}
+use Rattle.frame.specs.Places.{notice-in}
+use Rattle.lane.specs.Lane.{lane-of}
+use Rattle.region.proofs.Areas.{lane-length}
+use Rattle.region.proofs.Walks.{Telling, telling-none, telling-next, all-told}
+use Rattle.region.proofs.subscribed.Statement.{statement}
+use Rattle.region.proofs.subscribed.Tie as tie
+
+abbrev Inv-loop : tie.InvT-loop
+Inv-loop region known₀ kind₀ known kind = Telling region known kind
+
+abbrev μ-loop : tie.MeasureT-loop
+μ-loop region known₀ kind₀ known kind = length kinds - kind
+
+is-subscribed-requires : tie.Need-is-subscribed-requires Inv-loop μ-loop
+is-subscribed-requires c κs =
+    let l = c .before .before .loop in
+    let s = c .before .before .before .before in
+    let e = ap length (c .lane .ensures) ∙ lane-length (s .args .region .now) (l .kind) (c .before .loop-test .taken) (s .pre .size) in
+    omega arith
+
+loop-again : tie.Need-loop-again Inv-loop μ-loop
+loop-again c =
+    let n = c .before in
+    let l = n .before .before .loop in
+    let r = n .before .before .before .before .args .region .now in
+    telling-next r (l .known) (l .kind) (c .is-subscribed .result) (l .inv) (n .before .loop-test .taken)
+    (c .is-subscribed .ensures (notice-in (l .kind)) (l .kind) ∙ ap is-subscribed (ap (lane-of (l .kind)) (n .lane .ensures)))
+
+returns : tie.Need-returns Inv-loop μ-loop
+returns c =
+    let l = c .before .loop in
+    all-told (c .before .before .before .args .region .now) (l .known) (l .kind) (l .inv) (c .loop-test .left)
+
+pub subscribed-spec : {M : Type 1} → statement M
+subscribed-spec =
+    tie.close
+    (tie.spec
+    Inv-loop
+    μ-loop
+    (λ c. telling-none _ _ refl)
+    (λ c κs. let g = c .before .before .before .pre .size in search needs)
+    is-subscribed-requires
+    (λ c. let n = c .before .before .before .loop .inv .count in search needs)
+    (λ c. search needs)
+    (λ c. search needs)
+    loop-again
+    returns)

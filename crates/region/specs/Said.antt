@@ -1,0 +1,179 @@
+-- What is said of a region once it has changed: copies of the notices that are then open, of an event itself, a reply. Each change tells by
+-- value what there is to say. 01, "What a message does" and "Notices and the clock". Assumes nothing: these are definitions.
+use mathlib.Core.Path.{_≡_}
+use Prim.Native.Nat.{ℕ, suc, _≤_, _<_}
+use mathlib.Core.Bool.{Bool, true, false, cond}
+use mathlib.Core.List.{List, [], _∷_, _++_, map}
+use mathlib.Core.Option.{Option, none, some}
+use lib.ListN.{length, getD, set, take, drop}
+use Rattle.model.specs.Limits.{header-length}
+use Rattle.model.specs.Records.{Settings}
+use Rattle.model.specs.Runs.{Run, Piece}
+use Rattle.model.specs.Kinds.{kinds, room-of}
+use Rattle.model.specs.Events.{Notice}
+use Rattle.model.specs.Notices.{Subscription, unsubscribed, is-subscribed, Deed, act}
+use Rattle.model.specs.Messages as model-messages
+use Rattle.model.specs.Session.{Emission, copy, close, copies-to, subscribed-to}
+use Rattle.model.specs.Session as model
+use Rattle.model.specs.Row.{tag, row}
+use Rattle.model.specs.Local.{step, tick, event, receives, announces, takes}
+use Rattle.model.specs.Sharing.{Shared, shared-begun}
+use Rattle.frame.specs.Header.{header-of}
+use Rattle.frame.specs.Places.{event-in, notice-in}
+use Rattle.message.specs.declared.Standing.{Standing}
+use Rattle.session.specs.Decisions.{is-started, decision}
+use Rattle.session.specs.Effects.{ticked-so, carried, replies, announced}
+use Rattle.session.specs.declared.Idling.the-variants.{Stays}
+use Rattle.session.specs.declared.Session.{Session}
+use Rattle.session.specs.declared.Decision.{Decision}
+use Rattle.session.specs.declared.Reply.{Reply}
+use Rattle.session.specs.declared.Reply.the-variants.{Mirrored}
+use Rattle.lane.specs.Lane.{open-one, any}
+use Rattle.run.specs.Area.{run-of}
+use Rattle.head.specs.Head.{head-of}
+use Rattle.region.specs.Region.{head-area, run-area, subscriptions-in, subscription-in, session-of, Good, run-bytes, Changes}
+use Rattle.region.specs.declared.Ticked.{Ticked}
+use Rattle.region.specs.declared.Ended.{Ended}
+use Rattle.lane.specs.declared.Told.{Told}
+
+-- ==== copies
+
+-- of these notices, to one that is subscribed to the kind so
+abbrev pub copies : Settings → ℕ → Subscription → List Notice → List Emission
+copies st kind x ns = map copy (tag kind (copies-to st x ns))
+
+-- of the open notice, where one is due
+abbrev pub due-copy : Settings → ℕ → Bool → Subscription → List Emission
+due-copy st kind due x = cond due (copies st kind x (open-one x)) []
+
+-- of each kind from that one on, in order
+abbrev pub due-copies : Settings → ℕ → List Bool → List Subscription → List Emission
+due-copies st kind [] xs = []
+due-copies st kind (due ∷ dues) [] = []
+due-copies st kind (due ∷ dues) (x ∷ xs) = due-copy st kind due x ++ due-copies st (suc kind) dues xs
+
+-- there is one where one is due
+abbrev pub Ready : Bool → Subscription → Type 0
+Ready due x = due ≡ true → any (open-one x) ≡ true
+
+pub record AllReady (dues : List Bool) (xs : List Subscription) : Type 0 where
+  pub count : length dues ≡ length xs
+  pub ready : (kind : ℕ) → kind < length xs → Ready (getD dues kind false) (getD xs kind unsubscribed)
+
+-- ==== deeds to the subscriptions, and which of them have a copy to send
+
+abbrev pub acting : (ℕ → Deed) → ℕ → Subscription → Subscription × List Notice
+acting deed kind x = act (room-of kind) (deed kind) x
+
+abbrev pub dues : (ℕ → Deed) → ℕ → List Subscription → List Bool
+dues deed kind [] = []
+dues deed kind (x ∷ xs) = any ((acting deed kind x) .1) ∷ dues deed (suc kind) xs
+
+-- the deed to the notices of one kind: whether a copy is due
+pub record DealtTo (kind : ℕ) (deed : Deed) (r : List ℕ) (due : Bool) (r′ : List ℕ) : Type 0 where
+  pub changes : Changes r (head-of (head-area r)) (run-of (run-area r))
+      (set (subscriptions-in r) kind ((act (room-of kind) deed (subscription-in kind r)) .0)) r′
+  pub sends : due ≡ any ((act (room-of kind) deed (subscription-in kind r)) .1)
+
+-- to those of every kind
+pub record DealtToAll (deed : ℕ → Deed) (r : List ℕ) (due : List Bool) (r′ : List ℕ) : Type 0 where
+  pub changes : Changes r (head-of (head-area r)) (run-of (run-area r)) (row (acting deed) 0 (subscriptions-in r)) r′
+  pub sends : due ≡ dues deed 0 (subscriptions-in r)
+
+-- ==== a tick
+
+-- to one that stays, with that phase and idle count
+pub record TickStays (x : Session) (r : List ℕ) (due : List Bool) (r′ : List ℕ) : Type 0 where
+  pub good : Good r′
+  pub size : length r′ ≡ length r
+  pub ready : AllReady due (subscriptions-in r′)
+  pub steps : (st : Settings)
+      → ticked-so st (run-of (run-area r)) (subscriptions-in r) (Stays x) ≡ (session-of r′, due-copies st 0 due (subscriptions-in r′))
+
+-- what is said: the order to close, or the copies that are due
+abbrev pub tick-said : Settings → Ticked → List ℕ → List Emission
+tick-said st t r = cond (t .closes) (close ∷ []) (due-copies st 0 (t .due) (subscriptions-in r))
+
+pub record Ticks (r : List ℕ) (t : Ticked) (r′ : List ℕ) : Type 0 where
+  pub good : Good r′
+  pub size : length r′ ≡ length r
+  pub ready : AllReady (t .due) (subscriptions-in r′)
+  pub steps : (g : Shared) → step g tick (session-of r) ≡ (session-of r′, tick-said (g .settings) t r′)
+
+-- ==== an event of that kind, whose notice is in the place p
+
+abbrev pub event-said : Settings → ℕ → List ℕ → Told → List ℕ → List Emission
+event-said st kind p told r = cond (told .tell) (copies st kind (subscription-in kind r) (notice-in kind p ∷ [])) []
+
+pub record Takes (kind : ℕ) (p r : List ℕ) (told : Told) (r′ : List ℕ) : Type 0 where
+  pub good : Good r′
+  pub size : length r′ ≡ length r
+  pub takes : told .taken ≡ takes kind (session-of r)
+  pub ready : told .tell ≡ true → is-subscribed (subscription-in kind r′) ≡ true
+  pub steps : (st : Settings)
+      → step (shared-begun st 0) (event (event-in kind p)) (session-of r) ≡ (session-of r′, event-said st kind p told r′)
+
+-- ==== the end of a run
+
+abbrev pub ending : List ℕ → Piece
+ending bs = record { bytes = bs; ends = true }
+
+-- an identifier that is made known:
+
+-- whether there is one
+abbrev pub is-known : Option (List ℕ) → Bool
+is-known none = false
+is-known (some x) = true
+
+-- it takes the place, which is else as it was
+abbrev pub known-in : Option (List ℕ) → List ℕ → List ℕ
+known-in none p = p
+known-in (some x) p = x
+
+abbrev pub Knows : Option (List ℕ) → List ℕ → Bool → List ℕ → Type 0
+Knows x place known place′ = (known ≡ is-known x) × (place′ ≡ known-in x place)
+
+-- what the tests of a message look at, of one with that phase and those subscriptions
+abbrev pub stood : Session → Bool → List Subscription → model-messages.Standing
+stood x granted subs = record { started = is-started (x .phase); granted = granted; subscribed = subscribed-to subs }
+
+-- the decision on a run, to one that stands so; an identifier that it makes known is in its place
+pub record Ruled (x : Session) (standing : Standing) (run : Run) (place : List ℕ) (d : Decision) (place′ : List ℕ) : Type 0 where
+  pub decides : d ≡ decision x standing (header-of (run .kept) (run .count)) (drop header-length (run .kept))
+  pub knows : place′ ≡ known-in (announced (d .identifies) (drop header-length (run .kept))) place
+
+-- what the decision does
+pub record CarriesOut (d : Decision) (r : List ℕ) (sends : Bool) (r′ : List ℕ) : Type 0 where
+  pub good : Good r′
+  pub size : length r′ ≡ length r
+  pub bytes : run-bytes r′ ≡ run-bytes r
+  pub ready : Ready sends (subscription-in (d .kind) r′)
+  pub carries : (st : Settings)
+      → carried st d (subscriptions-in r) ≡ (session-of r′, due-copy st (d .kind) sends (subscription-in (d .kind) r′))
+
+-- what is left to say
+abbrev pub ended-by : Decision → Bool → Bool → Ended
+ended-by d whole sends =
+    record { whole = whole; reply = d .reply; kind = d .kind; sends = sends; identified = d .identifies }
+
+-- where its bytes stand when it is over: in the slice that it ended in, if it began there, or in the region
+abbrev pub ended-in : Bool → List ℕ → List ℕ → List ℕ
+ended-in whole bs r = cond whole bs (run-bytes r)
+
+-- what is said: the reply, and behind it the copy that is due
+abbrev pub end-said : Settings → List ℕ → Ended → List ℕ → List Emission
+end-said st bs e r =
+    replies st (take header-length (ended-in (e .whole) bs r)) (e .reply)
+    ++ due-copy st (e .kind) (e .sends) (subscription-in (e .kind) r)
+
+-- the bytes bs end a run, where identifiers over the net are granted or not
+pub record RunEnds (granted : Bool) (bs r place : List ℕ) (e : Ended) (r′ place′ : List ℕ) : Type 0 where
+  pub good : Good r′
+  pub size : length r′ ≡ length r
+  pub kind : e .kind < length kinds
+  pub ready : Ready (e .sends) (subscription-in (e .kind) r′)
+  pub whole : e .reply ≡ Mirrored → header-length ≤ length (ended-in (e .whole) bs r′)
+  pub steps : (st : Settings) → st .granted ≡ granted
+      → step (shared-begun st 0) (receives (ending bs)) (session-of r) ≡ (session-of r′, end-said st bs e r′)
+  pub knows : (st : Settings) → st .granted ≡ granted
+      → Knows (announces (shared-begun st 0) (ending bs) (session-of r)) place (e .identified) place′

@@ -1,0 +1,71 @@
+-- What passes over the table: an event, received bytes. 01, "What a message does" and "Notices and the clock". Assumes nothing: these
+-- are definitions.
+use mathlib.Core.Path.{_≡_}
+use Prim.Native.Nat.{ℕ, _+_, _^_, _≤_, _<_}
+use mathlib.Core.Bool.{false}
+use mathlib.Core.List.{List, [], _∷_}
+use mathlib.Core.Option.{Option, Option·map as option-map}
+use lib.ListN.{length}
+use Rattle.model.specs.Limits.{session-count}
+use Rattle.model.specs.Runs.{Piece}
+use Rattle.model.specs.Kinds.{kinds, kind-at, copy-most, session-most, event-most, receive-most}
+use Rattle.model.specs.Events.{identified}
+use Rattle.model.specs.Local.{event, takes, announces}
+use Rattle.model.specs.World.{World, session-at, Moment, to as to-one, to-all, happens, hears, next, emits}
+use Rattle.model.specs.Calls.{output, takers, happening}
+use Rattle.text.specs.Put.{Put}
+use Rattle.frame.specs.Places.{place-size, event-in}
+use Rattle.frame.specs.declared.To.{To}
+use Rattle.region.specs.Said.{ending, Knows}
+use Rattle.table.specs.Table.{decode, Becomes, Went}
+use Rattle.table.specs.Says.{Lent}
+use Rattle.table.specs.declared.Took.{Took}
+use Rattle.table.specs.declared.Told.{Told}
+use Rattle.table.specs.declared.Heard.{Heard}
+
+-- ==== an event of a kind, whose notice is in the place p
+
+pub record EventLent (t o : List ℕ) (to : To) (kind : ℕ) (p : List ℕ) : Type 0 where
+  pub known : kind < length kinds
+  pub lent : Lent t o to (copy-most (kind-at kind))
+  pub place : length p ≡ place-size kind
+
+-- to one session
+pub record TellsOne (t o : List ℕ) (to : To) (kind : ℕ) (p : List ℕ) (r : Took) (t′ o′ : List ℕ) : Type 0 where
+  pub within : r .at ≤ to .at + copy-most (kind-at kind)
+  pub takes : r .taken ≡ takes kind (session-at (decode t) (to .session))
+  pub went : Went t o (to .at) (to-one (to .session) (event (event-in kind p)) ∷ []) (r .at) t′ o′
+
+-- to every session
+pub record Tells (t o : List ℕ) (at kind : ℕ) (p : List ℕ) (r : Told) (t′ o′ : List ℕ) : Type 0 where
+  pub within : r .at ≤ at + event-most kind
+  pub taken : r .taken ≡ takers kind 0 (decode t .sessions)
+  pub becomes : Becomes t (next (decode t) (to-all (event (event-in kind p)))) t′
+  pub bytes : Put o at (output (emits (decode t) (to-all (event (event-in kind p))))) (r .at) o′
+
+-- and to what all share
+pub record Happens (t o : List ℕ) (at kind : ℕ) (p : List ℕ) (r : Told) (t′ o′ : List ℕ) : Type 0 where
+  pub within : r .at ≤ at + event-most kind
+  pub went : Went t o at (happens (event-in kind p) ∷ []) (r .at) t′ o′
+  pub taken : r .taken ≡ takers kind 0 (decode t .sessions)
+  pub few : r .taken < 2 ^ session-count
+
+-- ==== received bytes
+
+-- bytes that end a run of a session: what goes to that session, and the identifier that they make known
+pub record Hears (t o : List ℕ) (to : To) (bs place : List ℕ) (r : Heard) (t′ o′ place′ : List ℕ) : Type 0 where
+  pub within : r .at ≤ to .at + session-most
+  pub went : Went t o (to .at) (hears (to .session) (ending bs) ∷ []) (r .at) t′ o′
+  pub knows : Knows (announces (decode t .shared) (ending bs) (session-at (decode t) (to .session))) place (r .identified) place′
+
+-- a session hears a piece, and behind it all sessions of the identifier that it makes known
+abbrev pub heard-by-all : World → ℕ → Piece → List Moment
+heard-by-all w s p = hears s p ∷ happening (option-map identified (announces (w .shared) p (session-at w s)))
+
+pub record Received (t o : List ℕ) (to : To) (p : Piece) (next : ℕ) (t′ o′ : List ℕ) : Type 0 where
+  pub within : next ≤ to .at + receive-most
+  pub went : Went t o (to .at) (heard-by-all (decode t) (to .session) p) next t′ o′
+
+-- bytes that end no run
+abbrev pub unended : List ℕ → Piece
+unended bs = record { bytes = bs; ends = false }

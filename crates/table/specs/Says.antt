@@ -1,0 +1,63 @@
+-- What is said of a table, and what is lent for it: first the table has changed, and then it is lent beside the output.
+-- 01, "Frames we write" and "Notices and the clock". Assumes nothing: these are definitions.
+use mathlib.Core.Path.{_≡_}
+use Prim.Native.Nat.{ℕ, _+_, _≤_, _<_}
+use mathlib.Core.Bool.{Bool, true}
+use mathlib.Core.List.{List}
+use lib.ListN.{length}
+use Rattle.model.specs.Limits.{session-count, header-length}
+use Rattle.model.specs.Kinds.{kinds, kind-at, copy-most, copies-most, session-most}
+use Rattle.model.specs.Notices.{Subscription, is-subscribed}
+use Rattle.model.specs.Session.{Emission}
+use Rattle.text.specs.Put.{Put}
+use Rattle.frame.specs.Places.{place-size}
+use Rattle.frame.specs.declared.To.{To}
+use Rattle.session.specs.Effects.{out-bytes}
+use Rattle.session.specs.declared.Reply.the-variants.{Mirrored}
+use Rattle.region.specs.Region.{subscriptions-in, subscription-in}
+use Rattle.region.specs.Said.{Ready, AllReady, ended-in}
+use Rattle.region.specs.declared.Ended.{Ended}
+use Rattle.table.specs.Table.{region-in, Table}
+
+-- the subscription of a session to a kind, and all of them
+abbrev pub subscription-to : To → ℕ → List ℕ → Subscription
+subscription-to to kind t = subscription-in kind (region-in (to .session) t)
+
+abbrev pub subscriptions-to : To → List ℕ → List Subscription
+subscriptions-to to t = subscriptions-in (region-in (to .session) t)
+
+-- a table, one of its sessions, and room for so many bytes
+pub record Lent (t o : List ℕ) (to : To) (most : ℕ) : Type 0 where
+  pub table : Table t
+  pub session : to .session < session-count
+  pub room : to .at + most ≤ length o
+
+-- what went out to that session was written, no more bytes than so many
+pub record Wrote (most : ℕ) (es : List Emission) (to : To) (o : List ℕ) (next : ℕ) (o′ : List ℕ) : Type 0 where
+  pub within : next ≤ to .at + most
+  pub bytes : Put o (to .at) (out-bytes (to .session) es) next o′
+
+-- for a copy of the notice in a place
+pub record CopyLent (t o : List ℕ) (to : To) (kind : ℕ) (p : List ℕ) : Type 0 where
+  pub known : kind < length kinds
+  pub lent : Lent t o to (copy-most (kind-at kind))
+  pub place : length p ≡ place-size kind
+  pub subscribed : is-subscribed (subscription-to to kind t) ≡ true
+
+-- for a copy of the open notice of a kind, where one is due
+pub record OpenLent (t o : List ℕ) (to : To) (kind : ℕ) (due : Bool) : Type 0 where
+  pub known : kind < length kinds
+  pub lent : Lent t o to (copy-most (kind-at kind))
+  pub ready : Ready due (subscription-to to kind t)
+
+-- for copies of the kinds of which one is due
+pub record DueLent (t o : List ℕ) (to : To) (due : List Bool) : Type 0 where
+  pub lent : Lent t o to (copies-most kinds)
+  pub ready : AllReady due (subscriptions-to to t)
+
+-- for what the end of a run leaves to say, the bytes of the run among it
+pub record EndLent (t o : List ℕ) (to : To) (bs : List ℕ) (e : Ended) : Type 0 where
+  pub lent : Lent t o to session-most
+  pub known : e .kind < length kinds
+  pub ready : Ready (e .sends) (subscription-to to (e .kind) t)
+  pub whole : e .reply ≡ Mirrored → header-length ≤ length (ended-in (e .whole) bs (region-in (to .session) t))
