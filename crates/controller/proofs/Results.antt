@@ -1,23 +1,24 @@
 -- A tightening as it is kept: the payload of its record with another identifier before the rest and its number behind it. Assumes nothing.
-use mathlib.Core.Path.{_≡_, sym, ap, _∙_}
+use mathlib.Core.Path.{_≡_, refl, sym, ap, ap₂, _∙_}
 use Prim.Native.Nat.{suc, ℕ, _+_, _-_, _≤_, _<_}
-use native.Mathlib.Nat.{zero-add}
+use native.Mathlib.Nat.{zero-add, add-assoc}
 use native.Mathlib.Omega.{arith}
 use mathlib.Core.Bool.{Bool, true, false, cond}
-use mathlib.Core.List.{List, _++_}
+use mathlib.Core.List.{List, [], _∷_, _++_}
 use lib.Dec.{lit≤}
 use lib.ListN.{length, take, drop, length-drop}
 use lib.Seq.{sets, length-sets, sets-eq, take-take, drop-drop, drop-append-le, take-append-le}
-use Rattle.model.specs.Limits.{identifier-length, time-length, number-length, number-greatest}
+use Rattle.model.specs.Limits.{identifier-length, number-length, number-greatest}
 use Rattle.model.specs.Bytes.{is-space, all, little, in-bytes}
-use Rattle.model.specs.Records.{tightening-length, identifier-in, tightening-of, tightening}
+use Rattle.model.specs.Records.{Item, item-length, payload-length, parts-from, Value, value-of, values-of}
+use Rattle.model.specs.Records.{tightening-items, tightening-length, identifier-in, tightening-of, tightening}
 use Rattle.model.specs.Events.{tightened, identifier-of}
 use Rattle.model.specs.Sharing.{Shared, reported}
 use Rattle.text.specs.Put.{Put}
 use Rattle.text.proofs.Lists.{drop-sets, take-sets, take-sets-before, drop-sets-after, drop-take}
 use Rattle.text.proofs.Numbers.{in-bytes-length}
 use Rattle.shared.proofs.Areas.{four}
-use Rattle.frame.specs.Layout.{result-of}
+use Rattle.frame.specs.Places.{result-of}
 
 -- how many bytes a payload has behind its identifier, and a tightening as it is kept
 abbrev rest-length : ℕ
@@ -38,32 +39,17 @@ module _ (p q : List ℕ) (same : take rest-length (drop identifier-length p) �
   part-same : (a k : ℕ) → a + k ≤ rest-length → take k (drop (identifier-length + a) p) ≡ take k (drop (identifier-length + a) q)
   part-same a k h = part p a k h ∙ ap (λ (bs : List ℕ). take k (drop a bs)) same ∙ sym (part q a k h)
 
-  number-same : (a k : ℕ) → a + k ≤ rest-length
-      → little (take k (drop (identifier-length + a) p)) ≡ little (take k (drop (identifier-length + a) q))
-  number-same a k h = ap little (part-same a k h)
+  -- the values of items that begin `at` bytes behind the identifiers
+  values-same : (es : List Item) (at : ℕ) → at + payload-length es ≤ rest-length
+      → values-of es (parts-from (identifier-length + at) es p) ≡ values-of es (parts-from (identifier-length + at) es q)
+  values-same [] at h = refl
+  values-same (e ∷ es) at h =
+      ap₂ (λ (v : Value) (vs : List Value). v ∷ vs) (ap (value-of e) (part-same at (item-length e) (omega arith)))
+      (rw (add-assoc identifier-length at (item-length e)) (values-same es (at + item-length e) (omega arith)))
 
   pub tightening-same : tightening-of p ≡ tightening-of q
   unfolding tightening-of
-  tightening-same = λ i. record {
-    job = number-same 0 1 (lit≤ tt) i;
-    parameter-set = number-same 1 2 (lit≤ tt) i;
-    batch-size = number-same 3 2 (lit≤ tt) i;
-    batch-counter = number-same 5 2 (lit≤ tt) i;
-    tightening-status = number-same 7 1 (lit≤ tt) i;
-    torque-status = number-same 8 1 (lit≤ tt) i;
-    angle-status = number-same 9 1 (lit≤ tt) i;
-    torque-min = number-same 10 4 (lit≤ tt) i;
-    torque-max = number-same 14 4 (lit≤ tt) i;
-    torque-target = number-same 18 4 (lit≤ tt) i;
-    torque = number-same 22 4 (lit≤ tt) i;
-    angle-min = number-same 26 4 (lit≤ tt) i;
-    angle-max = number-same 30 4 (lit≤ tt) i;
-    angle-target = number-same 34 4 (lit≤ tt) i;
-    angle = number-same 38 4 (lit≤ tt) i;
-    time-stamp = part-same 42 time-length (lit≤ tt) i;
-    change-time = part-same 61 time-length (lit≤ tt) i;
-    batch-status = number-same 80 1 (lit≤ tt) i;
-  }
+  tightening-same = values-same (drop 1 tightening-items) 0 (lit≤ tt)
 
 -- the payload p, then the identifier x over its own, then the number n behind it
 module _ (z p x : List ℕ) (n : ℕ) (lz : length z ≡ result-length) (lp : length p ≡ tightening-length) (lx : length x ≡ identifier-length)

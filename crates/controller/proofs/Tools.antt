@@ -15,7 +15,7 @@ use Rattle.model.specs.Events.{Event, identified, tightened}
 use Rattle.model.specs.World.{Moment, happens}
 use Rattle.model.specs.Calls.{tool, does, happening, moments, takers, taken-by}
 use Rattle.model.specs.Sharing.{reported}
-use Rattle.frame.specs.Layout.{result-of}
+use Rattle.frame.specs.Places.{result-of}
 use Rattle.frame.specs.Places.{event-in}
 use Rattle.record.specs.declared.Kind.{Kind}
 use Rattle.record.specs.declared.Kind.the-variants.{Bad, Tightening, Scanned}

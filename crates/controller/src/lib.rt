@@ -18,7 +18,7 @@ ghost use Rattle.model.specs.Calls.{
   does,
   moments,
 };
-ghost use Rattle.frame.specs.Layout.{result-of};
+ghost use Rattle.frame.specs.Places.{result-of};
 ghost use Rattle.record.specs.Tools.{tool-in};
 ghost use Rattle.table.specs.Table.{decode, Table, Went};
 ghost use Rattle.controller.specs.Contract.{Outcome};

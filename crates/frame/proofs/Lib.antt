@@ -1,5 +1,9 @@
 pub mod Tests
 pub mod Headers
-pub mod Frames
-pub mod Built
 pub mod Answers
+pub mod Arms
+pub mod Placing
+pub mod Rows
+pub mod Values
+pub mod Data
+pub mod Built

@@ -1,71 +1,101 @@
--- Layouts: how the fields of a frame are made of the bytes of a source. Assumes nothing: these are definitions.
-use mathlib.Core.Path.{_≡_}
-use Prim.Native.Nat.{ℕ, _+_, _^_, _≤_}
-use mathlib.Core.Bool.{Bool, true, cond, _&&_}
-use mathlib.Core.List.{List, [], _∷_, map}
-use lib.Dec.{leb, eqb}
+-- The layouts of the frames that we write, where the values stand as bytes. 01, "Frames we write". Assumes nothing: these are definitions.
+use Prim.Native.Nat.{ℕ, _+_}
+use mathlib.Core.Bool.{Bool, true, false, cond, _&&_}
+use mathlib.Core.List.{List, []}
+use lib.Dec.{leb, ltb, eqb}
 use lib.ListN.{length, getD, take, drop}
-use Rattle.model.specs.Bytes.{all, spaces, little}
-use Rattle.model.specs.Records.{payload-length, tightening-items, identifier-in, tightening-of}
-use Rattle.model.specs.Frames.{Field, number, text, fields-from}
-use Rattle.model.specs.Events.{Result}
+use Rattle.model.specs.Bytes.{spaces, digits, little}
+use Rattle.model.specs.Records.{Item, time, item-length, payload-length, values, settings-items}
+use Rattle.model.specs.Layouts.{Sources, settings, Row, number, text, blank, known, Layout, label-length, data-of}
+use Rattle.model.specs.Layouts.{layout-0002, layout-0004, layout-0005}
+use Rattle.model.specs.Kinds.{kind-at}
+use Rattle.frame.specs.Places.{place-items}
+use Rattle.frame.specs.declared.Placed.{Placed}
+use Rattle.frame.specs.declared.Placed.the-variants.{Number, Text, Blank, Known}
+use Rattle.frame.specs.declared.Form.{Form}
+use Rattle.frame.specs.declared.Form.the-variants.{Started, Refused, Accepted, Notice}
+use Rattle.frame.specs.declared.Extent.{Extent}
 
--- ==== a row of a layout: a field's width, how many bytes of the source it is read from, and where they begin
+-- ==== the forms of frame: the layout of each, and of which items what it tells is the payload
 
--- a text is copied, byte for byte: its row has 0 bytes to be read. So many, which no number has, mark spaces
-abbrev pub blank : ℕ
-blank = 9
+abbrev pub layout-of : Form → Layout
+layout-of Started = layout-0002
+layout-of (Refused mid error) = layout-0004 mid error
+layout-of (Accepted mid) = layout-0005 mid
+layout-of (Notice kind revision) = ((kind-at kind) .layout) revision
 
-abbrev pub is-copied : List ℕ → Bool
-is-copied row = eqb (getD row 1 0) 0
+abbrev pub items-told : Form → List Item
+items-told Started = []
+items-told (Refused mid error) = []
+items-told (Accepted mid) = []
+items-told (Notice kind revision) = place-items kind
 
-abbrev pub is-blank : List ℕ → Bool
-is-blank row = eqb (getD row 1 0) blank
+abbrev pub extent-of : Form → Extent
+extent-of form = record { label = label-length (layout-of form .numbered); count = length (layout-of form .rows) }
 
-abbrev pub width : List ℕ → ℕ
-width row = getD row 0 0
+-- row k (past the last there is none)
+abbrev pub row-at : List Row → ℕ → Row
+row-at rows k = getD rows k (blank 0)
 
--- the field that a row makes of a source
-abbrev pub field-of : List ℕ → List ℕ → Field
-field-of source row =
-    cond (is-copied row) (text (take (width row) (drop (getD row 2 0) source)))
-    (cond (is-blank row) (text (spaces (width row))) (number (width row) (little (take (getD row 1 0) (drop (getD row 2 0) source)))))
+-- ==== a row with its place: an item's bytes stand behind those of the items before it
 
--- the data of a frame: the fields of the rows, numbered from `first` on
-unfoldable pub laid-out : ℕ → List (List ℕ) → List ℕ → List ℕ
-laid-out first rows source = fields-from first (map (field-of source) rows)
+abbrev pub items-of : List Item → ℕ → List Item
+items-of told from = cond (eqb from settings) settings-items told
 
--- how many bytes that is: each field has its number before it, in so many digits
-abbrev pub field-digits : ℕ
-field-digits = 2
+abbrev pub item-at : List Item → ℕ → Item
+item-at es i = getD es i time
 
-unfoldable pub layout-length : List (List ℕ) → ℕ
-layout-length [] = 0
-layout-length (row ∷ rows) = field-digits + width row + layout-length rows
+abbrev pub place-of : List Item → ℕ → ℕ
+place-of es i = payload-length (take i es)
 
--- ==== which rows a source of so many bytes can serve
+abbrev pub placed : List Item → Row → Placed
+placed told (number width from i) =
+    let es = items-of told from in Number width from (item-length (item-at es i)) (place-of es i)
+placed told (text width from i) = Text width from (place-of (items-of told from) i)
+placed told (blank width) = Blank width
+placed told (known width n) = Known width n
 
-abbrev pub served : ℕ → List ℕ → Bool
-served size row =
-    leb (getD row 2 0 + cond (is-copied row) (width row) (getD row 1 0)) size && leb (getD row 1 0) blank
+-- row k of a form
+abbrev pub placed-row : Form → ℕ → Placed
+placed-row form k = placed (items-told form) (row-at (layout-of form .rows) k)
 
--- a layout can go there: the source serves its rows, there is room for its fields, and their numbers have no more than their digits
-pub record Layable (out : List ℕ) (at first : ℕ) (rows : List (List ℕ)) (source : List ℕ) : Type 0 where
-  pub sources : all (served (length source)) rows ≡ true
-  pub room : at + layout-length rows ≤ length out
-  pub numbers : first + length rows ≤ 10 ^ field-digits
+-- ==== what a frame is made of, as bytes: a settings record's payload, and what it tells
 
--- ==== how a result is kept: as the tool record's payload with the identifier that was meant, and its number behind it
+pub record Given : Type 0 where
+  pub settings : List ℕ
+  pub told : List ℕ
 
-abbrev pub number-at : ℕ
-number-at = payload-length tightening-items
+abbrev pub bytes-of : Given → ℕ → List ℕ
+bytes-of b from = cond (eqb from settings) (b .settings) (b .told)
 
-abbrev pub number-size : ℕ
-number-size = 4
+-- so many bytes at a place
+abbrev pub part : Given → ℕ → ℕ → ℕ → List ℕ
+part b from size place = take size (drop place (bytes-of b from))
 
-unfoldable pub result-of : List ℕ → Result
-result-of bs = record {
-  number = little (take number-size (drop number-at bs));
-  identifier = identifier-in bs;
-  tightening = tightening-of bs;
-}
+abbrev pub placed-width : Placed → ℕ
+placed-width (Number width from size place) = width
+placed-width (Text width from place) = width
+placed-width (Blank width) = width
+placed-width (Known width n) = width
+
+-- the characters of a field
+unfoldable pub shown : Given → Placed → List ℕ
+shown b (Number width from size place) = digits width (little (part b from size place))
+shown b (Text width from place) = part b from width place
+shown b (Blank width) = spaces width
+shown b (Known width n) = digits width n
+
+-- the data: of the values that the bytes hold
+abbrev pub said-by : Form → Given → Sources
+said-by form b = record { settings = values settings-items (b .settings); told = values (items-told form) (b .told) }
+
+unfoldable pub data-in : Form → Given → List ℕ
+data-in form b = data-of (layout-of form) (said-by form b)
+
+-- ==== which rows so many bytes can serve
+
+abbrev pub served : ℕ → ℕ → Placed → Bool
+served s t (Number width from size place) = leb (place + size) (cond (eqb from settings) s t) && leb size 8
+served s t (Text width from place) = leb (place + width) (cond (eqb from settings) s t)
+served s t (Blank width) = true
+served s t (Known width n) = true

@@ -1,4 +1,4 @@
+pub mod Places
 pub mod Layout
 pub mod Header
-pub mod Places
 pub mod Output

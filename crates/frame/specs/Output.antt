@@ -1,26 +1,83 @@
--- What the writers of output records are lent. 01, "House records", output records. Assumes nothing: these are definitions.
+-- What the writers of fields, frames and output records are lent, and what they do. 01, "Frames we write", and "House records", output
+-- records. Assumes nothing: these are definitions.
 use mathlib.Core.Path.{_≡_}
 use Prim.Native.Nat.{ℕ, suc, _+_, _≤_, _<_}
-use mathlib.Core.List.{List}
+use mathlib.Core.Bool.{true, cond}
+use mathlib.Core.List.{List, map}
 use lib.ListN.{length}
-use Rattle.model.specs.Limits.{header-length, identifier-length}
+use Rattle.model.specs.Limits.{header-length}
+use Rattle.model.specs.Bytes.{space, digit-0, digit-1, all}
 use Rattle.model.specs.Records.{record-head, settings-length}
+use Rattle.model.specs.Layouts.{data-length}
 use Rattle.model.specs.Kinds.{kinds, kind-at, copy-most}
-use Rattle.frame.specs.Layout.{field-digits}
+use Rattle.model.specs.Frames.{frame}
+use Rattle.text.specs.Put.{Put}
 use Rattle.frame.specs.Places.{place-size}
+use Rattle.frame.specs.Layout.{layout-of, items-told, placed, Given, bytes-of, placed-width, data-in, served}
+use Rattle.frame.specs.declared.Placed.{Placed}
+use Rattle.frame.specs.declared.Form.{Form}
+use Rattle.frame.specs.declared.Form.the-variants.{Started, Refused, Accepted, Notice}
+use Rattle.frame.specs.declared.Frame.{Frame}
 use Rattle.frame.specs.declared.To.{To}
 use Rattle.frame.specs.declared.Asked.{Asked}
 
--- how long the frames are that are shorter than the longest of theirs, which the model's Kinds has: behind the header stands the number
--- that is answered; and an error; and in revision 1 of 0052 one field
+-- ==== fields
+
+-- n bytes were written: bs, from `at` on
+pub record Wrote (o : List ℕ) (at n : ℕ) (bs : List ℕ) (next : ℕ) (o′ : List ℕ) : Type 0 where
+  pub place : next ≡ at + n
+  pub put : Put o at bs next o′
+
+-- so many bytes at a place are there
+abbrev pub Readable : Given → ℕ → ℕ → ℕ → Type 0
+Readable b from size place = place + size ≤ length (bytes-of b from)
+
+-- a row can be written: its bytes are there, and an output of so many bytes has room for it
+pub record Servable (b : Given) (row : Placed) (at size : ℕ) : Type 0 where
+  pub sound : served (length (b .settings)) (length (b .told)) row ≡ true
+  pub room : at + placed-width row ≤ size
+
+-- a kind of notice is one that there is
+abbrev pub Real : Form → Type 0
+Real Started = Unit {0}
+Real (Refused mid error) = Unit {0}
+Real (Accepted mid) = Unit {0}
+Real (Notice kind revision) = kind < length kinds
+
+-- the rows of a frame can be written
+pub record Layable (form : Form) (b : Given) (at size : ℕ) : Type 0 where
+  pub real : Real form
+  pub sound : all (served (length (b .settings)) (length (b .told))) (map (placed (items-told form)) (layout-of form .rows)) ≡ true
+  pub room : at + data-length (layout-of form) ≤ size
+
+-- ==== frames
+
+-- how long a frame is
+abbrev pub frame-length : Form → ℕ
+frame-length form = header-length + data-length (layout-of form)
+
+abbrev pub frame-of : Frame → Given → List ℕ
+frame-of f b = frame (f .mid) (f .revision) (f .«byte_12») (data-in (f .form) b)
+
+abbrev pub reply-of : ℕ → Form → Frame
+reply-of mid form = record { mid = mid; revision = 1; «byte_12» = space; form = form }
+
+abbrev pub notice-of : Asked → Frame
+notice-of asked = record {
+  mid = (kind-at (asked .kind)) .notice;
+  revision = asked .revision;
+  «byte_12» = cond (asked .«no_acknowledge») digit-1 digit-0;
+  form = Notice (asked .kind) (asked .revision);
+}
+
+-- 0005 has the number that is answered, 0004 an error behind it
 abbrev pub length-0005 : ℕ
-length-0005 = header-length + 4
+length-0005 = frame-length (Accepted 0)
 
 abbrev pub length-0004 : ℕ
-length-0004 = length-0005 + 2
+length-0004 = frame-length (Refused 0 0)
 
-abbrev pub length-0052-1 : ℕ
-length-0052-1 = header-length + (field-digits + identifier-length)
+-- ==== output records
 
 -- the record of a frame of so many bytes: its head, the frame, its NUL
 abbrev pub record-length : ℕ → ℕ
@@ -30,6 +87,12 @@ record-length size = record-head + suc size
 pub record Writable (out : List ℕ) (to : To) (size : ℕ) : Type 0 where
   pub room : to .at + size ≤ length out
   pub numbered : to .session < 256
+
+-- a frame can go there
+pub record Sendable (out : List ℕ) (to : To) (f : Frame) (b : Given) : Type 0 where
+  pub output : Writable out to (record-length (frame-length (f .form)))
+  pub real : Real (f .form)
+  pub sound : all (served (length (b .settings)) (length (b .told))) (map (placed (items-told (f .form))) (layout-of (f .form) .rows)) ≡ true
 
 -- a copy of the notice in a place can go there: it may be as long as its kind has them, and what it is made of is whole
 pub record Lent (out : List ℕ) (to : To) (asked : Asked) (st p : List ℕ) : Type 0 where

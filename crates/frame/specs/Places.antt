@@ -1,19 +1,32 @@
 -- The notices that are kept: what a place of a kind holds, and how many bytes it has. 01, "Notices and the clock". Assumes nothing: these
 -- are definitions.
-use Prim.Native.Nat.{ℕ, _+_}
+use Prim.Native.Nat.{ℕ}
 use mathlib.Core.Bool.{cond}
-use mathlib.Core.List.{List}
+use mathlib.Core.List.{List, [], _∷_, _++_}
 use lib.Dec.{eqb}
-use Rattle.model.specs.Limits.{identifier-length}
+use Rattle.model.specs.Limits.{number-length, number-greatest}
+use Rattle.model.specs.Records.{Item, number, payload-length, number-at, values, identifier-in, tightening-of}
+use Rattle.model.specs.Records.{tightening-items, scanned-items}
 use Rattle.model.specs.Kinds.{identifiers}
-use Rattle.model.specs.Events.{Event, identified, tightened, Notice}
-use Rattle.frame.specs.Layout.{number-at, number-size, result-of}
+use Rattle.model.specs.Events.{Result, Event, identified, tightened, Notice}
 
-abbrev pub result-size : ℕ
-result-size = number-at + number-size
+-- a result is kept as the tool record's payload with the identifier that was meant, and its number behind it
+abbrev pub result-items : List Item
+result-items = tightening-items ++ number number-length number-greatest ∷ []
+
+unfoldable pub result-of : List ℕ → Result
+result-of bs = record {
+  number = number-at (values result-items bs) 19;
+  identifier = identifier-in bs;
+  tightening = tightening-of bs;
+}
+
+-- what is kept of a kind
+abbrev pub place-items : ℕ → List Item
+place-items kind = cond (eqb kind identifiers) scanned-items result-items
 
 abbrev pub place-size : ℕ → ℕ
-place-size kind = cond (eqb kind identifiers) identifier-length result-size
+place-size kind = payload-length (place-items kind)
 
 abbrev pub event-in : ℕ → List ℕ → Event
 event-in kind p = cond (eqb kind identifiers) (identified p) (tightened (result-of p))

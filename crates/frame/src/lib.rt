@@ -1,30 +1,38 @@
-// Frames: the header of a received one is read, and those that we send are put together by layouts.
+// Frames: the header of a received one is read, and those that we send are written by their rows.
 ghost use mathlib.Core.Path.{_≡_};
 ghost use mathlib.Core.Bool.{true, cond, _||_};
+ghost use mathlib.Core.List.{[]};
 ghost use Prim.Native.Nat.{_+_, _≤_, _<_};
 ghost use lib.ListN.{length, take, drop};
-ghost use Rattle.model.specs.Limits.{header-length, identifier-length};
-ghost use Rattle.model.specs.Bytes.{digit-0, digit-1, is-digit, is-space, all};
+ghost use Rattle.model.specs.Limits.{header-length};
+ghost use Rattle.model.specs.Bytes.{digit-0, digit-1, is-digit, is-space, all, little};
 ghost use Rattle.model.specs.Runs.{is-flag as is-flag-byte, revision-of, is-message as is-message-run};
-ghost use Rattle.model.specs.Records.{record-head, settings-of, settings-length};
-ghost use Rattle.model.specs.Kinds.{kind-at, identifiers, tightenings, copy-most, reply-most};
-ghost use Rattle.model.specs.Frames.{
-  header as header-bytes,
-  value,
-  frame-0002,
-  frame-0004,
-  frame-0005,
-  frame-0052,
-  frame-0061,
-  event-frame,
-  frame-record,
-  close-record,
-};
+ghost use Rattle.model.specs.Records.{record-head, settings-of, settings-length, scanned-items};
+ghost use Rattle.model.specs.Layouts.{controller-rows, identifier-rows, result-rows, data-length};
+ghost use Rattle.model.specs.Kinds.{kinds, kind-at, copy-most, reply-most};
+ghost use Rattle.model.specs.Frames.{header as header-bytes, frame-0002, frame-0004, frame-0005, event-frame, frame-record, close-record};
 ghost use Rattle.text.specs.Put.{Put};
 ghost use Rattle.frame.specs.Header.{header-of};
-ghost use Rattle.frame.specs.Layout.{width as width-of, field-of, laid-out, layout-length, served, Layable, result-of};
-ghost use Rattle.frame.specs.Places.{result-size, event-in};
-ghost use Rattle.frame.specs.Output.{length-0004, length-0005, length-0052-1, record-length, Writable, Lent};
+ghost use Rattle.frame.specs.Places.{result-items, event-in};
+ghost use Rattle.frame.specs.Layout.{Given, layout-of, row-at, placed, placed-row, extent-of, placed-width, part, shown, data-in};
+ghost use Rattle.frame.specs.Output.{
+  Wrote,
+  Real,
+  Readable,
+  Servable,
+  Layable,
+  Sendable,
+  frame-length,
+  frame-of,
+  reply-of,
+  notice-of,
+  length-0004,
+  length-0005,
+  record-length,
+  Writable,
+  Lent,
+};
+ghost use Rattle.frame.specs.declared.Form.the-variants.{Notice};
 
 // ---- headers: length and message number in so many digits each, the revision in so many, byte 12, and spaces
 
@@ -42,6 +50,7 @@ const REVISION_AT: usize = NUMBER_AT + NUMBER_DIGITS;
 const FLAG_AT: usize = REVISION_AT + REVISION_DIGITS;
 
 use model::IDENTIFIER_LENGTH;
+use model::NUMBER_LENGTH;
 use model::TIME_LENGTH;
 
 // ---- the header of a received run
@@ -161,101 +170,261 @@ pub fn read_header<'a>(run: &'a [u8], count: usize) -> Reading<'a>
     Reading { header, field }
 }
 
-// ---- layouts: a row is a field's width, how many bytes it is read from, and where they begin in the source
+// ---- layouts: the rows of each form of frame, and where the value of each stands in the bytes that the frame is made of
 
-// A row of so many bytes is a text, which is copied; one of so many is spaces.
-const COPIED: usize = 0;
+// These bytes: a settings record's payload, and what the frame tells.
+const SETTINGS: usize = 0;
 
-const BLANK: usize = 9;
+const TOLD: usize = 1;
 
-// Fields 01 to 03 of 0002 and 0061, of the settings: cell, channel, name.
-const CONTROLLER: [[usize; 3]; 3] = [[4, 2, 0], [2, 1, 2], [IDENTIFIER_LENGTH, COPIED, 4]];
-
-// 0052, of the identifier.
-const IDENTIFIER_1: [[usize; 3]; 1] = [[IDENTIFIER_LENGTH, COPIED, 0]];
-
-const IDENTIFIER_2: [[usize; 3]; 4] = [
-    [IDENTIFIER_LENGTH, COPIED, 0],
-    [IDENTIFIER_LENGTH, BLANK, 0],
-    [IDENTIFIER_LENGTH, BLANK, 0],
-    [IDENTIFIER_LENGTH, BLANK, 0],
-];
-
-// Fields 04 to 23 of 0061, of a result as it is kept.
-const RESULT: [[usize; 3]; 20] = [
-    // identifier, job, parameter set, batch size, batch counter
-    [IDENTIFIER_LENGTH, COPIED, 0],
-    [2, 1, IDENTIFIER_LENGTH],
-    [3, 2, 26],
-    [4, 2, 28],
-    [4, 2, 30],
-    // tightening status, torque status, angle status
-    [1, 1, 32],
-    [1, 1, 33],
-    [1, 1, 34],
-    // torques: min, max, target, the torque
-    [6, 4, 35],
-    [6, 4, 39],
-    [6, 4, 43],
-    [6, 4, 47],
-    // angles: min, max, target, the angle
-    [5, 4, 51],
-    [5, 4, 55],
-    [5, 4, 59],
-    [5, 4, 63],
-    // time, parameter set change time, batch status, tightening number
-    [TIME_LENGTH, COPIED, 67],
-    [TIME_LENGTH, COPIED, 86],
-    [1, 1, 105],
-    [10, 4, 106],
-];
-
-// The value of one field.
-fn put_value(out: &mut [u8], at: usize, row: &[usize; 3], source: &[u8]) -> usize
-    requires { ⌜ (served (length (now source)) (now row) ≡ true) × (at + width-of (now row) ≤ length (now out)) ⌝ }
-    ensures { λ r. ⌜ (r ≡ at + width-of (now (row .entry)))
-        × Put (now (out .entry)) at (value (field-of (now (source .entry)) (now (row .entry)))) r (now (out .exit)) ⌝ }
-{
-    let width = row[0];
-    let size = row[1];
-    let from = row[2];
-    if size == COPIED {
-        return text::copy(&source[from..from + width], out, at);
-    }
-    if size == BLANK {
-        return text::fill(out, at, width, b' ');
-    }
-    text::put_digits(out, at, width, text::little(source, from, size))
+// A row with its place.
+pub enum Placed {
+    // width; which bytes, how many of them, and where they begin
+    Number(usize, usize, usize, usize),
+    // width; which bytes, and where the text begins
+    Text(usize, usize, usize),
+    // width
+    Blank(usize),
+    // width; the number
+    Known(usize, u64),
 }
 
-// The fields of a layout, each with its number before it, from `first` on.
-fn put_fields(out: &mut [u8], at: usize, first: u64, rows: &[[usize; 3]], source: &[u8]) -> usize
-    requires { ⌜ Layable (now out) at first (now rows) (now source) ⌝ }
-    ensures { λ r. ⌜ (r ≡ at + layout-length (now (rows .entry)))
-        × Put (now (out .entry)) at (laid-out first (now (rows .entry)) (now (source .entry))) r (now (out .exit)) ⌝ }
+// Which frame it is.
+pub enum Form {
+    // 0002
+    Started,
+    // 0004: the message that is answered, and the error
+    Refused(u64, u64),
+    // 0005: the message that is answered
+    Accepted(u64),
+    // a kind of notice, and the revision
+    Notice(usize, u64),
+}
+
+// In how many digits the number stands that each field has before it, and how many rows there are.
+pub struct Extent {
+    pub label: usize,
+    pub count: usize,
+}
+
+const NUMBERED: usize = 2;
+
+const PLAIN: usize = 0;
+
+// 0002, and the first fields of 0061: cell, channel, name.
+const CONTROLLER_COUNT: usize = 3;
+
+fn controller_row(k: usize) -> Placed
+    requires { ⌜ k < length controller-rows ⌝ }
+    ensures { λ r. ⌜ r ≡ placed [] (row-at controller-rows k) ⌝ }
 {
+    match k {
+        0 => Placed::Number(4, SETTINGS, 2, 0),
+        1 => Placed::Number(2, SETTINGS, 1, 2),
+        _ => Placed::Text(IDENTIFIER_LENGTH, SETTINGS, 4),
+    }
+}
+
+// 0052: the identifier, and three parts more.
+const IDENTIFIER_COUNT: usize = 4;
+
+fn identifier_row(k: usize) -> Placed
+    requires { ⌜ k < length identifier-rows ⌝ }
+    ensures { λ r. ⌜ r ≡ placed scanned-items (row-at identifier-rows k) ⌝ }
+{
+    match k {
+        0 => Placed::Text(IDENTIFIER_LENGTH, TOLD, 0),
+        _ => Placed::Blank(IDENTIFIER_LENGTH),
+    }
+}
+
+// 0061, behind the fields of the controller.
+const RESULT_COUNT: usize = 20;
+
+fn result_row(k: usize) -> Placed
+    requires { ⌜ k < length result-rows ⌝ }
+    ensures { λ r. ⌜ r ≡ placed result-items (row-at result-rows k) ⌝ }
+{
+    match k {
+        // identifier, job, parameter set, batch size, batch counter
+        0 => Placed::Text(IDENTIFIER_LENGTH, TOLD, 0),
+        1 => Placed::Number(2, TOLD, 1, IDENTIFIER_LENGTH),
+        2 => Placed::Number(3, TOLD, 2, 26),
+        3 => Placed::Number(4, TOLD, 2, 28),
+        4 => Placed::Number(4, TOLD, 2, 30),
+        // statuses: tightening, torque, angle
+        5 => Placed::Number(1, TOLD, 1, 32),
+        6 => Placed::Number(1, TOLD, 1, 33),
+        7 => Placed::Number(1, TOLD, 1, 34),
+        // torques: minimum, maximum, target, the torque
+        8 => Placed::Number(6, TOLD, 4, 35),
+        9 => Placed::Number(6, TOLD, 4, 39),
+        10 => Placed::Number(6, TOLD, 4, 43),
+        11 => Placed::Number(6, TOLD, 4, 47),
+        // angles: minimum, maximum, target, the angle
+        12 => Placed::Number(5, TOLD, 4, 51),
+        13 => Placed::Number(5, TOLD, 4, 55),
+        14 => Placed::Number(5, TOLD, 4, 59),
+        15 => Placed::Number(5, TOLD, 4, 63),
+        // time, time of the last change of the parameter set, batch status, tightening number
+        16 => Placed::Text(TIME_LENGTH, TOLD, 67),
+        17 => Placed::Text(TIME_LENGTH, TOLD, 86),
+        18 => Placed::Number(1, TOLD, 1, 105),
+        _ => Placed::Number(10, TOLD, NUMBER_LENGTH, 106),
+    }
+}
+
+// A notice.
+fn notice_extent(kind: usize, revision: u64) -> Extent
+    requires { ⌜ kind < length kinds ⌝ }
+    ensures { λ r. ⌜ r ≡ extent-of (Notice kind revision) ⌝ }
+{
+    if kind == model::IDENTIFIERS {
+        let count = if revision == 1 { 1 } else { IDENTIFIER_COUNT };
+        return Extent {
+            label: NUMBERED,
+            count,
+        };
+    }
+    Extent {
+        label: NUMBERED,
+        count: CONTROLLER_COUNT + RESULT_COUNT,
+    }
+}
+
+fn notice_row(kind: usize, revision: u64, k: usize) -> Placed
+    requires { ⌜ (kind < length kinds) × (k < length (layout-of (Notice kind revision) .rows)) ⌝ }
+    ensures { λ r. ⌜ r ≡ placed-row (Notice kind revision) k ⌝ }
+{
+    if kind == model::IDENTIFIERS {
+        return identifier_row(k);
+    }
+    if k < CONTROLLER_COUNT {
+        return controller_row(k);
+    }
+    result_row(k - CONTROLLER_COUNT)
+}
+
+// Any frame.
+fn measure(form: Form) -> Extent
+    requires { ⌜ Real form ⌝ }
+    ensures { λ r. ⌜ r ≡ extent-of form ⌝ }
+{
+    match form {
+        Form::Started => Extent {
+            label: NUMBERED,
+            count: CONTROLLER_COUNT,
+        },
+        Form::Refused(mid, error) => Extent {
+            label: PLAIN,
+            count: 2,
+        },
+        Form::Accepted(mid) => Extent {
+            label: PLAIN,
+            count: 1,
+        },
+        Form::Notice(kind, revision) => notice_extent(kind, revision),
+    }
+}
+
+// Row k of it.
+fn row(form: Form, k: usize) -> Placed
+    requires { ⌜ Real form × (k < length (layout-of form .rows)) ⌝ }
+    ensures { λ r. ⌜ r ≡ placed-row form k ⌝ }
+{
+    match form {
+        Form::Started => controller_row(k),
+        Form::Refused(mid, error) => {
+            if k == 0 {
+                return Placed::Known(NUMBER_DIGITS, mid);
+            }
+            Placed::Known(2, error)
+        }
+        Form::Accepted(mid) => Placed::Known(NUMBER_DIGITS, mid),
+        Form::Notice(kind, revision) => notice_row(kind, revision, k),
+    }
+}
+
+// ---- the data of a frame, by its rows
+
+// So many bytes at a place of one of the two.
+pub struct Part {
+    pub from: usize,
+    pub size: usize,
+    pub place: usize,
+}
+
+fn number(p: Part, settings: &[u8], told: &[u8]) -> u64
+    requires { ⌜ Readable (record { settings = now settings; told = now told }) (p .from) (p .size) (p .place) × (p .size ≤ 8) ⌝ }
+    ensures { λ r. ⌜ r ≡ little (part (record { settings = now (settings .entry); told = now (told .entry) }) (p .from) (p .size) (p .place)) ⌝ }
+{
+    if p.from == SETTINGS {
+        return text::little(settings, p.place, p.size);
+    }
+    text::little(told, p.place, p.size)
+}
+
+fn put_bytes(out: &mut [u8], at: usize, size: usize, place: usize, source: &[u8]) -> usize
+    requires { ⌜ (place + size ≤ length (now source)) × (at + size ≤ length (now out)) ⌝ }
+    ensures { λ r. ⌜ Wrote (now (out .entry)) at size (take size (drop place (now (source .entry)))) r (now (out .exit)) ⌝ }
+{
+    text::copy(&source[place..place + size], out, at)
+}
+
+fn put_text(out: &mut [u8], at: usize, p: Part, settings: &[u8], told: &[u8]) -> usize
+    requires { ⌜ Readable (record { settings = now settings; told = now told }) (p .from) (p .size) (p .place)
+        × (at + p .size ≤ length (now out)) ⌝ }
+    ensures { λ r. ⌜ Wrote (now (out .entry)) at (p .size)
+        (part (record { settings = now (settings .entry); told = now (told .entry) }) (p .from) (p .size) (p .place)) r (now (out .exit)) ⌝ }
+{
+    if p.from == SETTINGS {
+        return put_bytes(out, at, p.size, p.place, settings);
+    }
+    put_bytes(out, at, p.size, p.place, told)
+}
+
+// The characters of a field.
+fn put_value(out: &mut [u8], at: usize, row: Placed, settings: &[u8], told: &[u8]) -> usize
+    requires { ⌜ Servable (record { settings = now settings; told = now told }) row at (length (now out)) ⌝ }
+    ensures { λ r. ⌜ Wrote (now (out .entry)) at (placed-width row)
+        (shown (record { settings = now (settings .entry); told = now (told .entry) }) row) r (now (out .exit)) ⌝ }
+{
+    match row {
+        Placed::Number(width, from, size, place) => {
+            let n = number(Part { from, size, place }, settings, told);
+            text::put_digits(out, at, width, n)
+        }
+        Placed::Text(width, from, place) => {
+            let p = Part {
+                from,
+                size: width,
+                place,
+            };
+            put_text(out, at, p, settings, told)
+        }
+        Placed::Blank(width) => text::fill(out, at, width, b' '),
+        Placed::Known(width, n) => text::put_digits(out, at, width, n),
+    }
+}
+
+// The fields of a frame, each with its number before it where they are numbered.
+fn put_fields(out: &mut [u8], at: usize, form: Form, settings: &[u8], told: &[u8]) -> usize
+    requires { ⌜ Layable form (record { settings = now settings; told = now told }) at (length (now out)) ⌝ }
+    ensures { λ r. ⌜ Wrote (now (out .entry)) at (data-length (layout-of form))
+        (data-in form (record { settings = now (settings .entry); told = now (told .entry) })) r (now (out .exit)) ⌝ }
+{
+    let extent = measure(form);
+    let label = extent.label;
+    let count = extent.count;
     let mut to = at;
     let mut k = 0;
-    while k < rows.len() {
-        let n = text::put_digits(out, to, 2, first + k as u64);
-        to = put_value(out, n, &rows[k], source);
+    while k < count {
+        let n = text::put_digits(out, to, label, (k + 1) as u64);
+        let row = row(form, k);
+        to = put_value(out, n, row, settings, told);
         k += 1;
     }
     to
-}
-
-// A frame's header. The frame is as long as the bytes that it is put together in.
-fn put_header(out: &mut [u8], mid: u64, revision: u64, byte_12: u8) -> usize
-    requires { ⌜ header-length ≤ length (now out) ⌝ }
-    ensures { λ r. ⌜ (r ≡ header-length)
-        × Put (now (out .entry)) 0 (header-bytes (length (now (out .entry))) mid revision byte_12) r (now (out .exit)) ⌝ }
-{
-    let size = out.len() as u64;
-    let at = text::put_digits(out, 0, NUMBER_DIGITS, size);
-    let at = text::put_digits(out, at, NUMBER_DIGITS, mid);
-    let at = text::put_digits(out, at, REVISION_DIGITS, revision);
-    let at = text::fill(out, at, 1, byte_12);
-    text::fill(out, at, 8, b' ')
 }
 
 // ---- output records
@@ -272,7 +441,7 @@ const FRAME_KIND: u64 = 256;
 const CLOSE_KIND: u64 = 512;
 
 // A frame, with its NUL.
-pub fn put_frame(out: &mut [u8], to: To, frame: &[u8]) -> usize
+fn put_record(out: &mut [u8], to: To, frame: &[u8]) -> usize
     requires { ⌜ Writable (now out) to (record-length (length (now frame))) ⌝ }
     ensures { λ r. ⌜ (r ≡ to .at + record-length (length (now (frame .entry))))
         × Put (now (out .entry)) (to .at) (frame-record (to .session) (now (frame .entry))) r (now (out .exit)) ⌝ }
@@ -293,7 +462,57 @@ pub fn put_close(out: &mut [u8], to: To) -> usize
     text::put_little(out, at, 2, CLOSE_KIND + to.session)
 }
 
-// ---- the frames that we write: each is put together in a scratch array and copied to its output record
+// ---- frames: what the header says, and the form
+
+pub struct Frame {
+    pub mid: u64,
+    pub revision: u64,
+    pub byte_12: u8,
+    pub form: Form,
+}
+
+// A frame's header.
+fn put_header(out: &mut [u8], size: u64, f: Frame) -> usize
+    requires { ⌜ header-length ≤ length (now out) ⌝ }
+    ensures { λ r. ⌜ (r ≡ header-length)
+        × Put (now (out .entry)) 0 (header-bytes size (f .mid) (f .revision) (f .«byte_12»)) r (now (out .exit)) ⌝ }
+{
+    let at = text::put_digits(out, 0, NUMBER_DIGITS, size);
+    let at = text::put_digits(out, at, NUMBER_DIGITS, f.mid);
+    let at = text::put_digits(out, at, REVISION_DIGITS, f.revision);
+    let at = text::fill(out, at, 1, f.byte_12);
+    text::fill(out, at, 8, b' ')
+}
+
+// The longest.
+const FRAME_LONGEST: usize = 231;
+
+// Any frame: it is put together in a scratch array, the data first, whose end is the frame's length, and copied to its output record.
+fn put_frame(out: &mut [u8], to: To, f: Frame, settings: &[u8], told: &[u8]) -> usize
+    requires { ⌜ Sendable (now out) to f (record { settings = now settings; told = now told }) ⌝ }
+    ensures { λ r. ⌜ Wrote (now (out .entry)) (to .at) (record-length (frame-length (f .form)))
+        (frame-record (to .session) (frame-of f (record { settings = now (settings .entry); told = now (told .entry) }))) r
+        (now (out .exit)) ⌝ }
+{
+    let mut frame = [0u8; FRAME_LONGEST];
+    let form = f.form;
+    let end = put_fields(&mut frame, HEADER_LENGTH, form, settings, told);
+    put_header(&mut frame, end as u64, f);
+    put_record(out, to, &frame[..end])
+}
+
+// ---- replies: revision 1, and byte 12 a space
+
+fn reply(mid: u64, form: Form) -> Frame
+    ensures { λ r. ⌜ r ≡ reply-of mid form ⌝ }
+{
+    Frame {
+        mid,
+        revision: 1,
+        byte_12: b' ',
+        form,
+    }
+}
 
 // 0002: the session is started. The settings are a settings record's payload.
 pub fn put_0002(out: &mut [u8], to: To, settings: &[u8]) -> usize
@@ -302,10 +521,8 @@ pub fn put_0002(out: &mut [u8], to: To, settings: &[u8]) -> usize
         × Put (now (out .entry)) (to .at) (frame-record (to .session) (frame-0002 (settings-of (now (settings .entry))))) r
         (now (out .exit)) ⌝ }
 {
-    let mut frame = [0u8; 57];
-    let at = put_header(&mut frame, 2, 1, b' ');
-    put_fields(&mut frame, at, 1, &CONTROLLER, settings);
-    put_frame(out, to, &frame)
+    let f = reply(2, Form::Started);
+    put_frame(out, to, f, settings, &settings[0..0])
 }
 
 // 0004: message mid has an error.
@@ -314,11 +531,8 @@ pub fn put_0004(out: &mut [u8], to: To, mid: u64, error: u64) -> usize
     ensures { λ r. ⌜ (r ≡ to .at + record-length length-0004)
         × Put (now (out .entry)) (to .at) (frame-record (to .session) (frame-0004 mid error)) r (now (out .exit)) ⌝ }
 {
-    let mut frame = [0u8; 26];
-    let at = put_header(&mut frame, 4, 1, b' ');
-    let at = text::put_digits(&mut frame, at, NUMBER_DIGITS, mid);
-    text::put_digits(&mut frame, at, 2, error);
-    put_frame(out, to, &frame)
+    let f = reply(4, Form::Refused(mid, error));
+    put_frame(out, to, f, &[], &[])
 }
 
 // 0005: message mid is accepted.
@@ -327,10 +541,8 @@ pub fn put_0005(out: &mut [u8], to: To, mid: u64) -> usize
     ensures { λ r. ⌜ (r ≡ to .at + record-length length-0005)
         × Put (now (out .entry)) (to .at) (frame-record (to .session) (frame-0005 mid)) r (now (out .exit)) ⌝ }
 {
-    let mut frame = [0u8; 24];
-    let at = put_header(&mut frame, 5, 1, b' ');
-    text::put_digits(&mut frame, at, NUMBER_DIGITS, mid);
-    put_frame(out, to, &frame)
+    let f = reply(5, Form::Accepted(mid));
+    put_frame(out, to, f, &[], &[])
 }
 
 // 9999: the header as it came.
@@ -339,7 +551,7 @@ pub fn put_9999(out: &mut [u8], to: To, run: &[u8]) -> usize
     ensures { λ r. ⌜ (r ≡ to .at + record-length header-length)
         × Put (now (out .entry)) (to .at) (frame-record (to .session) (take header-length (now (run .entry)))) r (now (out .exit)) ⌝ }
 {
-    put_frame(out, to, &run[0..HEADER_LENGTH])
+    put_record(out, to, &run[0..HEADER_LENGTH])
 }
 
 // ---- copies of notices
@@ -358,68 +570,20 @@ fn byte_12(no_acknowledge: bool) -> u8
     if no_acknowledge { b'1' } else { b'0' }
 }
 
-// The number of the notice of an identifier.
-const MID_0052: u64 = 52;
+// The numbers of the notices, by kind.
+const NOTICES: [u64; model::KIND_COUNT] = [52, 61];
 
-// 0052, revision 1.
-fn put_0052_1(out: &mut [u8], to: To, asked: Asked, identifier: &[u8]) -> usize
-    requires { ⌜ Writable (now out) to (record-length length-0052-1) × (length (now identifier) ≡ identifier-length) ⌝ }
-    ensures { λ r. ⌜ (r ≡ to .at + record-length length-0052-1)
-        × Put (now (out .entry)) (to .at) (frame-record (to .session) (frame-0052 1 (asked .«no_acknowledge») (now (identifier .entry)))) r
-        (now (out .exit)) ⌝ }
+fn notice(asked: Asked) -> Frame
+    requires { ⌜ asked .kind < length kinds ⌝ }
+    ensures { λ r. ⌜ r ≡ notice-of asked ⌝ }
 {
-    let mut frame = [0u8; 47];
-    let flag = byte_12(asked.no_acknowledge);
-    let at = put_header(&mut frame, MID_0052, 1, flag);
-    put_fields(&mut frame, at, 1, &IDENTIFIER_1, identifier);
-    put_frame(out, to, &frame)
-}
-
-// 0052, any later revision.
-fn put_0052_2(out: &mut [u8], to: To, asked: Asked, identifier: &[u8]) -> usize
-    requires { ⌜ Writable (now out) to (copy-most (kind-at identifiers)) × (length (now identifier) ≡ identifier-length) ⌝ }
-    requires { ⌜ (asked .revision ≡ 1 → ⊥) ⌝ }
-    ensures { λ r. ⌜ (r ≡ to .at + copy-most (kind-at identifiers))
-        × Put (now (out .entry)) (to .at)
-        (frame-record (to .session) (frame-0052 (asked .revision) (asked .«no_acknowledge») (now (identifier .entry)))) r
-        (now (out .exit)) ⌝ }
-{
-    let mut frame = [0u8; 128];
-    let flag = byte_12(asked.no_acknowledge);
-    let at = put_header(&mut frame, MID_0052, asked.revision, flag);
-    put_fields(&mut frame, at, 1, &IDENTIFIER_2, identifier);
-    put_frame(out, to, &frame)
-}
-
-// 0052: an identifier, to a session that subscribed so.
-fn put_0052(out: &mut [u8], to: To, asked: Asked, identifier: &[u8]) -> usize
-    requires { ⌜ Writable (now out) to (copy-most (kind-at identifiers)) × (length (now identifier) ≡ identifier-length) ⌝ }
-    ensures { λ r. ⌜ (r ≤ to .at + copy-most (kind-at identifiers))
-        × Put (now (out .entry)) (to .at)
-        (frame-record (to .session) (frame-0052 (asked .revision) (asked .«no_acknowledge») (now (identifier .entry)))) r
-        (now (out .exit)) ⌝ }
-{
-    if asked.revision == 1 {
-        return put_0052_1(out, to, asked, identifier);
+    let kind = asked.kind;
+    Frame {
+        mid: NOTICES[kind],
+        revision: asked.revision,
+        byte_12: byte_12(asked.no_acknowledge),
+        form: Form::Notice(kind, asked.revision),
     }
-    put_0052_2(out, to, asked, identifier)
-}
-
-// 0061: a result as it is kept, to a session that subscribed so.
-fn put_0061(out: &mut [u8], to: To, asked: Asked, settings: &[u8], result: &[u8]) -> usize
-    requires { ⌜ Writable (now out) to (copy-most (kind-at tightenings)) ⌝ }
-    requires { ⌜ (length (now settings) ≡ settings-length) × (length (now result) ≡ result-size) ⌝ }
-    ensures { λ r. ⌜ (r ≡ to .at + copy-most (kind-at tightenings))
-        × Put (now (out .entry)) (to .at) (frame-record (to .session)
-        (frame-0061 (settings-of (now (settings .entry))) (asked .revision) (asked .«no_acknowledge») (result-of (now (result .entry))))) r
-        (now (out .exit)) ⌝ }
-{
-    let mut frame = [0u8; 231];
-    let flag = byte_12(asked.no_acknowledge);
-    let at = put_header(&mut frame, 61, asked.revision, flag);
-    let at = put_fields(&mut frame, at, 1, &CONTROLLER, settings);
-    put_fields(&mut frame, at, 4, &RESULT, result);
-    put_frame(out, to, &frame)
 }
 
 // A copy of the notice in a place, to a session that subscribed so.
@@ -430,8 +594,6 @@ pub fn put_copy(out: &mut [u8], to: To, asked: Asked, settings: &[u8], place: &[
         (event-frame (settings-of (now (settings .entry))) (asked .revision) (asked .«no_acknowledge»)
         (event-in (asked .kind) (now (place .entry))))) r (now (out .exit)) ⌝ }
 {
-    if asked.kind == model::IDENTIFIERS {
-        return put_0052(out, to, asked, place);
-    }
-    put_0061(out, to, asked, settings, place)
+    let f = notice(asked);
+    put_frame(out, to, f, settings, place)
 }

@@ -13,6 +13,7 @@ use borrow.Author.Tests.{ne-eqb}
 use Rattle.model.specs.Limits.{session-count}
 use Rattle.model.specs.Bytes.{NUL, decimal, digits}
 use Rattle.model.specs.Runs.{empty-run, longer, cut, Message, read-run}
+use Rattle.model.specs.Layouts.{characters, data-from}
 use Rattle.model.specs.Frames.{header, frame, frame-0005, frame-kind, close-kind}
 use Rattle.model.specs.Calls.{Call, open-session, bytes}
 use Rattle.model.specs.Wire.{Every, NoNUL, Framed}
@@ -140,7 +141,7 @@ abbrev has-a-NUL : List ℕ
 has-a-NUL = frame-text "0020" ++ NUL ∷ frame-text "999001_________"
 
 pub a-frame-of-ours : Framed (frame-text "00240005001_________0060")
-unfolding frame-0005 frame header digits
+unfolding frame-0005 frame header data-from characters digits
 a-frame-of-ours = framed-0005 60
 
 pub no-frame-counts-its-NUL : Framed counts-its-NUL → ⊥

@@ -13,7 +13,7 @@ use Rattle.model.specs.Bytes.{digits}
 use Rattle.model.specs.Records.{Settings}
 use Rattle.model.specs.Kinds.{kinds, kind-at}
 use Rattle.model.specs.Events.{Event, identified, tightened, kind-of}
-use Rattle.model.specs.Frames.{header, frame, frame-0052, frame-0061, event-frame}
+use Rattle.model.specs.Frames.{header, frame, event-frame}
 use Rattle.model.specs.Row.{Tagged, pick}
 use Rattle.model.specs.Session.{Copy, Emission, reply, copy, close}
 use Rattle.model.specs.World.{World, begun}
@@ -43,7 +43,7 @@ abbrev notice : ℕ → ℕ
 notice kind = (kind-at kind) .notice
 
 event-mid : (st : Settings) (r : ℕ) (a : Bool) (e : Event) → mid-of (event-frame st r a e) ≡ notice (kind-of e)
-unfolding frame-0052 frame-0061 frame header digits
+unfolding event-frame frame header digits
 event-mid st r a (identified x) = refl
 event-mid st r a (tightened x) = refl
 

@@ -11,7 +11,8 @@ use Rattle.model.specs.Bytes.{places, decimal, digits}
 use Rattle.model.specs.Records.{Settings}
 use Rattle.model.specs.Messages.{Bearing, entry-bearing, entry-of}
 use Rattle.model.specs.Events.{Event, identified, tightened, Notice}
-use Rattle.model.specs.Frames.{header, frame, frame-0002, frame-0004, frame-0005, frame-0052, frame-0061, event-frame}
+use Rattle.model.specs.Layouts.{characters, data-from}
+use Rattle.model.specs.Frames.{header, frame, frame-0002, frame-0004, frame-0005, event-frame}
 use Rattle.model.specs.Kinds.{room-of}
 use Rattle.model.specs.Notices.{Pending, Subscription, unsubscribed, plain, acked, Deed, nothing, beats, news, asks, drops, acks, act}
 use Rattle.model.specs.Row.{Tagged, tag, said}
@@ -38,7 +39,7 @@ silence = record { closes = false; welcomes = false; accepts = λ so. false }
 -- ==== notices
 
 pub notice-mid : (st : Settings) (r : ℕ) (a : Bool) (e : Event) → 5 < mid-of (event-frame st r a e)
-unfolding frame-0052 frame-0061 frame header digits
+unfolding event-frame frame header digits
 notice-mid st r a (identified x) = omega arith
 notice-mid st r a (tightened x) = omega arith
 
@@ -160,7 +161,7 @@ same-test false = refl
 
 pub accepting-0005 : (mid : ℕ) (b : Bearing) → decimal (digits 4 mid) ≡ mid → entry-bearing (entry-of mid) ≡ b
     → signals-by (frame-0005 mid) ≡ accepting b
-unfolding frame-0005 frame header digits
+unfolding frame-0005 frame header data-from characters digits
 accepting-0005 mid b h e =
     λ i. signals-of false false
     ((fun-ext (λ so. same-test (so (entry-bearing (entry-of (decimal (digits 4 mid)))))

@@ -9,8 +9,9 @@ use native.Mathlib.Omega.{arith}
 use Rattle.model.specs.Limits.{identifier-length, copy-every, given-up-at, output-least}
 use Rattle.model.specs.Bytes.{spaces, digits}
 use Rattle.model.specs.Records.{Settings, settings-length, settings-of, tightening-length, tightening-of}
-use Rattle.model.specs.Events.{Result, Notice}
-use Rattle.model.specs.Frames.{header, frame, fields-from, frame-0002, frame-0052, frame-0061}
+use Rattle.model.specs.Events.{Event, identified, tightened, Notice}
+use Rattle.model.specs.Layouts.{characters, data-from}
+use Rattle.model.specs.Frames.{header, frame, frame-0002, event-frame}
 use Rattle.model.specs.Kinds.{Room, Kind, kinds, kind-at, identifiers, tightenings, copy-most, copies-most, longest-reply, event-most}
 use Rattle.model.specs.Kinds.{receive-most, tick-most, call-most}
 use Rattle.model.specs.Notices.{empty, busy, Subscription, unsubscribed, plain, acked, Deed, nothing, beats, news, asks, drops, acks}
@@ -37,15 +38,17 @@ the-table = refl
 abbrev sample : Settings
 sample = settings-of (spaces settings-length)
 
-abbrev result : Result
-result = record { number = 1; identifier = spaces identifier-length; tightening = tightening-of (spaces tightening-length) }
+abbrev result : Event
+result =
+    tightened (record { number = 1; identifier = spaces identifier-length; tightening = tightening-of (spaces tightening-length) })
 
 abbrev frames : List (List ℕ)
-frames = frame-0002 sample ∷ frame-0052 2 false (spaces identifier-length) ∷ frame-0061 sample 1 false result ∷ []
+frames =
+    frame-0002 sample ∷ event-frame sample 2 false (identified (spaces identifier-length)) ∷ event-frame sample 1 false result ∷ []
 
 pub the-lengths : map length frames
     ≡ longest-reply ∷ map (λ k. k .longest) kinds
-unfolding frame-0002 frame-0052 frame-0061 frame header fields-from digits settings-of tightening-of
+unfolding frame-0002 event-frame frame header data-from characters digits settings-of tightening-of
 the-lengths = refl
 
 -- 01, "What the product holds": the output that has to be lent suffices

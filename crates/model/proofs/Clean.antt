@@ -13,16 +13,16 @@ use borrow.Author.Tests.{leb-true, eqb-true, eqb-false}
 use Rattle.model.specs.Limits.{header-length, identifier-length, message-longest, run-kept}
 use Rattle.model.specs.Bytes.{NUL, dash, colon, is-digit, is-text, is-space, all, places, decimal}
 use Rattle.model.specs.Tests.{first}
-use Rattle.model.specs.Records.{is-record, payload, Item, number, text, time, item-length, payload-length, parts-from, parts}
-use Rattle.model.specs.Records.{good-in-time, is-time-from, good-item, good-parts, good-payload, good-record}
+use Rattle.model.specs.Records.{is-record, payload, Item, number, text, time, item-length, payload-length, parts-from, parts, values-of}
+use Rattle.model.specs.Records.{good-in-time, is-time-from, good-item, good-parts, good-payload, good-record, value-of, values}
 use Rattle.model.specs.Records.{settings-kind, tightening-kind, scanned-kind, Settings, settings-items, settings-of, read-settings}
 use Rattle.model.specs.Records.{tightening-items, tightening-of, identifier-in, scanned-items, Tool, scanned, tightening, read-tool}
 use Rattle.model.specs.Runs.{Run, longer, Piece, cut, Message, is-flag, is-message, message-of, read-run}
 use Rattle.model.specs.Messages.{Effect, starts, stops, identifies, subscribes, unsubscribes, acknowledges, mirrors, Entry, table}
 use Rattle.model.specs.Messages.{listed, entry-of, Error, already-started, wrong-length, wrong-revision, wrong-data, Standing}
 use Rattle.model.specs.Messages.{good-length, good-among, own-test, tested}
-use Rattle.model.specs.Wire.{NoNUL, Framed}
-use Rattle.model.proofs.Framed.{every-take, Shown, nul-append, nul-text, Text, CleanSettings}
+use Rattle.model.specs.Wire.{Every, NoNUL, Framed}
+use Rattle.model.proofs.Framed.{every-take, Shown, nul-append, nul-text, Text, Fit, CleanSettings}
 
 -- ==== records: the texts of a good one
 
@@ -44,36 +44,29 @@ nul-time place (b ∷ bs) h =
     let k = both (good-in-time place b) (is-time-from (suc place) bs) h in
     (nul-in-time place b (k .0), nul-time (suc place) bs (k .1))
 
--- item i of a good payload is good, and no longer than it may be
-good-at : (es : List Item) (at : ℕ) (bs : List ℕ) (i : ℕ) → i < length es → good-parts es (parts-from at es bs) ≡ true
-    → good-item (getD es i time) (getD (parts-from at es bs) i []) ≡ true
-good-at [] at bs i h k = absurd (omega arith)
-good-at (e ∷ es) at bs zero h k = both (good-item e (take (item-length e) (drop at bs))) _ k .0
-good-at (e ∷ es) at bs (suc i) h k =
-    good-at es (at + item-length e) bs i (omega arith) (both (good-item e (take (item-length e) (drop at bs))) _ k .1)
+-- what a good payload says can stand in fields, if no item is longer
+abbrev slim-item : Item → Bool
+slim-item e = leb (item-length e) identifier-length
 
-long-at : (es : List Item) (at : ℕ) (bs : List ℕ) (i : ℕ) → i < length es
-    → length (getD (parts-from at es bs) i []) ≤ item-length (getD es i time)
-long-at [] at bs i h = absurd (omega arith)
-long-at (e ∷ es) at bs zero h = omega (arith, length-take (item-length e) (drop at bs))
-long-at (e ∷ es) at bs (suc i) h = long-at es (at + item-length e) bs i (omega arith)
+fit-value : (e : Item) (bs : List ℕ) → slim-item e ≡ true → good-item e bs ≡ true → length bs ≤ item-length e → Fit (value-of e bs)
+fit-value (number size greatest) bs s h k = tt
+fit-value (text size) bs s h k = record { no-NUL = nul-text bs h; short = omega (arith, leb-true size identifier-length s) }
+fit-value time bs s h k = record { no-NUL = nul-time 1 bs h; short = omega arith }
 
-abbrev Texts : Item → List ℕ → Type 0
-Texts (number size greatest) bs = Unit {0}
-Texts (text size) bs = size ≤ identifier-length → Text bs
-Texts time bs = Text bs
+fit-parts : (es : List Item) (at : ℕ) (bs : List ℕ) → all slim-item es ≡ true → good-parts es (parts-from at es bs) ≡ true
+    → Every Fit (values-of es (parts-from at es bs))
+fit-parts [] at bs s h = tt
+fit-parts (e ∷ es) at bs s h =
+    let p = take (item-length e) (drop at bs) in
+    let t = both (slim-item e) (all slim-item es) s in
+    let g = both (good-item e p) _ h in (
+      fit-value e p (t .0) (g .0) (omega (arith, length-take (item-length e) (drop at bs))),
+      fit-parts es (at + item-length e) bs (t .1) (g .1),
+    )
 
-texts : (e : Item) (bs : List ℕ) → good-item e bs ≡ true → length bs ≤ item-length e → Texts e bs
-texts (number size greatest) bs h k = tt
-texts (text size) bs h k = λ n. record { no-NUL = nul-text bs h; short = omega arith }
-texts time bs h k = record { no-NUL = nul-time 1 bs h; short = omega arith }
-
-text-at : (es : List Item) (bs : List ℕ) (i : ℕ) → i < length es → good-payload es bs ≡ true
-    → Texts (getD es i time) (getD (parts es bs) i [])
+fit-payload : (es : List Item) (bs : List ℕ) → all slim-item es ≡ true → good-payload es bs ≡ true → Every Fit (values es bs)
 unfolding good-payload
-text-at es bs i h k =
-    let good = both (eqb (length bs) (payload-length es)) (good-parts es (parts es bs)) k .1 in
-    texts (getD es i time) (getD (parts es bs) i []) (good-at es 0 bs i h good) (long-at es 0 bs i h)
+fit-payload es bs s h = fit-parts es 0 bs s (both (eqb (length bs) (payload-length es)) (good-parts es (parts es bs)) h .1)
 
 good-of : (kind : ℕ) (es : List Item) (slice : List ℕ) → good-record kind es slice ≡ true → good-payload es (payload slice) ≡ true
 unfolding good-record
@@ -89,13 +82,13 @@ unfolding read-settings settings-of
 clean-start slice = go (good-record settings-kind settings-items slice) refl
   where
     go : (b : Bool) → good-record settings-kind settings-items slice ≡ b → CleanStart (cond b (some (settings-of (payload slice))) none)
-    go true e = text-at settings-items (payload slice) 3 (omega arith) (good-of settings-kind settings-items slice e) (omega arith)
+    go true e = fit-payload settings-items (payload slice) refl (good-of settings-kind settings-items slice e)
     go false e = tt
 
 abbrev pub CleanTool : Option Tool → Type 0
 CleanTool none = Unit {0}
 CleanTool (some (scanned x)) = Text x
-CleanTool (some (tightening x t)) = Text x × Text (t .time-stamp) × Text (t .change-time)
+CleanTool (some (tightening x t)) = Text x × Every Fit t
 
 -- and a tool record is good
 pub clean-tool : (slice : List ℕ) → CleanTool (read-tool slice)
@@ -107,15 +100,13 @@ clean-tool slice = go (good-record tightening-kind tightening-items slice) (good
         (cond a (some (tightening (identifier-in (payload slice)) (tightening-of (payload slice))))
         (cond b (some (scanned (payload slice))) none))
     go true b e f =
-        let g = good-of tightening-kind tightening-items slice e in
-        let at = text-at tightening-items (payload slice) in
-        (at 0 (omega arith) g (omega arith), at 16 (omega arith) g, at 17 (omega arith) g)
+        fit-payload tightening-items (payload slice) refl (good-of tightening-kind tightening-items slice e)
     go false true e f =
         let g = good-of scanned-kind scanned-items slice f in
         let good = good-parts scanned-items (parts scanned-items (payload slice)) in
         let n = eqb-true (length (payload slice)) identifier-length (both (eqb (length (payload slice)) identifier-length) good g .0) in
         subst Text (take-all identifier-length (payload slice) (omega arith))
-        (text-at scanned-items (payload slice) 0 (omega arith) g (omega arith))
+        (fit-payload scanned-items (payload slice) refl g .0)
     go false false e f = tt
 
 -- ==== runs: a piece of bytes ends before its NUL, and so nothing that is kept has one

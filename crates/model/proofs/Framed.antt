@@ -2,18 +2,20 @@
 -- every frame whose fields are numbers in so many digits, whatever the number, and texts without NUL. Assumes nothing.
 use Prim.Native.Nat.{ℕ, zero, suc, _+_, _*_, _/_, _%_, _≤_, _<_}
 use mathlib.Core.Path.{_≡_, refl, _∙_}
-use mathlib.Core.Bool.{Bool, true, false, cond, and-eq-true-iff}
+use mathlib.Core.Bool.{Bool, true, false, cond, _&&_, and-eq-true-iff}
 use mathlib.Core.List.{List, [], _∷_, _++_}
 use native.Mathlib.Omega.{arith}
 use lib.Dec.{leb, eqb}
-use lib.ListN.{length, take, length-append}
+use lib.ListN.{length, take, length-append, length-replicate}
 use borrow.Author.Tests.{le-leb, leb-true}
 use Rattle.model.specs.Limits.{header-length, identifier-length}
 use Rattle.model.specs.Bytes.{NUL, space, digit-0, digit-1, is-digit, is-text, all, spaces, decimal, digits}
-use Rattle.model.specs.Records.{Settings}
-use Rattle.model.specs.Events.{Event, identified, tightened}
-use Rattle.model.specs.Frames.{header, frame, Field, number, text, value, fields-from, fields, controller-fields}
-use Rattle.model.specs.Frames.{frame-0002, frame-0004, frame-0005, fields-0052, frame-0052, result-fields, frame-0061, event-frame}
+use Rattle.model.specs.Records.{Value, counted, said, number-at, text-at, Settings}
+use Rattle.model.specs.Layouts.{Sources, settings, source, Row, number, text, blank, known, width-of, characters, label-length, label}
+use Rattle.model.specs.Layouts.{Layout, data-from, data-of, layout-0002, layout-0004, layout-0005, identifier-rows}
+use Rattle.model.specs.Kinds.{kind-at}
+use Rattle.model.specs.Events.{Event, identified, tightened, kind-of, told-of}
+use Rattle.model.specs.Frames.{header, frame, sources, nothing, frame-0002, frame-0004, frame-0005, event-frame}
 use Rattle.model.specs.Wire.{Every, NoNUL, Framed, is-notice}
 
 -- ==== lists of which each element is so
@@ -107,47 +109,81 @@ pub record Text (bs : List ℕ) : Type 0 where
   pub no-NUL : NoNUL bs
   pub short : length bs ≤ identifier-length
 
--- one fact, and those behind it, as they are asked of a list's elements
-infixr 20 _and_
-abbrev _and_ : {A B : Type 0} → A → B → A × B
-a and b = (a, b)
+-- a value that can stand in one
+abbrev pub Fit : Value → Type 0
+Fit (counted n) = Unit {0}
+Fit (said bs) = Text bs
 
-abbrev Fit : Field → Type 0
-Fit (number width n) = width ≤ identifier-length
-Fit (text bs) = Text bs
+-- sources of which each can
+pub record Fits (b : Sources) : Type 0 where
+  pub settings : Every Fit (b .settings)
+  pub told : Every Fit (b .told)
 
-nul-value : (f : Field) → Fit f → NoNUL (value f)
-nul-value (number width n) h = nul-digits width n
-nul-value (text bs) h = h .no-NUL
+fit-at : (vs : List Value) (i : ℕ) → Every Fit vs → Text (text-at vs i)
+fit-at [] i h = record { no-NUL = tt; short = omega arith }
+fit-at (counted n ∷ vs) zero h = record { no-NUL = tt; short = omega arith }
+fit-at (said bs ∷ vs) zero h = h .0
+fit-at (v ∷ vs) (suc i) h = fit-at vs i (h .1)
 
-length-value : (f : Field) → Fit f → length (value f) ≤ identifier-length
-length-value (number width n) h = omega (arith, length-digits width n)
-length-value (text bs) h = h .short
+-- ==== layouts of which no field is longer, and which have so few that a frame's length goes into its digits
 
-nul-fields : (i : ℕ) (fs : List Field) → Every Fit fs → NoNUL (fields-from i fs)
-unfolding fields-from
-nul-fields i [] h = tt
-nul-fields i (f ∷ fs) h =
-    nul-append (digits 2 i ++ value f) (fields-from (suc i) fs)
-    (nul-append (digits 2 i) (value f) (nul-digits 2 i) (nul-value f (h .0))) (nul-fields (suc i) fs (h .1))
+abbrev slim-row : Row → Bool
+slim-row row = leb (width-of row) identifier-length
 
-length-fields : (i : ℕ) (fs : List Field) → Every Fit fs → length (fields-from i fs) ≤ 27 * length fs
-unfolding fields-from
-length-fields i [] h = omega arith
-length-fields i (f ∷ fs) h =
-    let ih = length-fields (suc i) fs (h .1) in
-    omega (
-      arith,
-      length-digits 2 i,
-      length-value f (h .0),
-      length-append (digits 2 i ++ value f) (fields-from (suc i) fs),
-      length-append (digits 2 i) (value f),
-    )
+abbrev slim : Layout → Bool
+slim l = leb (length (l .rows)) 300 && all slim-row (l .rows)
 
-framed-fields : (mid revision byte-12 : ℕ) (fs : List Field) → Shown byte-12 → Every Fit fs → length fs ≤ 23
-    → Framed (frame mid revision byte-12 (fields fs))
-framed-fields mid revision byte-12 fs h k few =
-    framed mid revision byte-12 (fields fs) h (nul-fields 1 fs k) (let n = length-fields 1 fs k in omega arith)
+module _ (b : Sources) (h : Fits b) where
+  fit-source : (from i : ℕ) → Text (text-at (source b from) i)
+  fit-source from i = fit-at (source b from) i (either (Every Fit) (eqb from settings) (b .settings) (b .told) (h .settings) (h .told))
+
+  nul-characters : (row : Row) → NoNUL (characters b row)
+  unfolding characters
+  nul-characters (number width from i) = nul-digits width _
+  nul-characters (text width from i) = fit-source from i .no-NUL
+  nul-characters (blank width) = nul-spaces width
+  nul-characters (known width n) = nul-digits width n
+
+  length-characters : (row : Row) → slim-row row ≡ true → length (characters b row) ≤ identifier-length
+  unfolding characters
+  length-characters (number width from i) e =
+      omega (arith, length-digits width (number-at (source b from) i), leb-true width identifier-length e)
+  length-characters (text width from i) e = fit-source from i .short
+  length-characters (blank width) e = omega (arith, length-replicate width space, leb-true width identifier-length e)
+  length-characters (known width n) e = omega (arith, length-digits width n, leb-true width identifier-length e)
+
+  module _ (numbered : Bool) where
+    label-few : label-length numbered ≤ 2
+    label-few = either (λ (n : ℕ). n ≤ 2) numbered 2 0 (omega arith) (omega arith)
+
+    nul-data : (i : ℕ) (rows : List Row) → NoNUL (data-from numbered i rows b)
+    unfolding data-from
+    nul-data i [] = tt
+    nul-data i (row ∷ rows) =
+        nul-append (label numbered i ++ characters b row) (data-from numbered (suc i) rows b)
+        (nul-append (label numbered i) (characters b row) (nul-digits (label-length numbered) i) (nul-characters row)) (nul-data (suc i) rows)
+
+    length-data : (i : ℕ) (rows : List Row) → all slim-row rows ≡ true → length (data-from numbered i rows b) ≤ 27 * length rows
+    unfolding data-from
+    length-data i [] e = omega arith
+    length-data i (row ∷ rows) e =
+        let t = and-eq-true-iff (slim-row row) (all slim-row rows) .0 e in
+        let ih = length-data (suc i) rows (t .1) in
+        let few = label-few in
+        omega (
+          arith,
+          length-digits (label-length numbered) i,
+          length-characters row (t .0),
+          length-append (label numbered i ++ characters b row) (data-from numbered (suc i) rows b),
+          length-append (label numbered i) (characters b row),
+        )
+
+  framed-layout : (mid revision byte-12 : ℕ) (l : Layout) → Shown byte-12 → slim l ≡ true
+      → Framed (frame mid revision byte-12 (data-of l b))
+  framed-layout mid revision byte-12 l k e =
+      let t = and-eq-true-iff (leb (length (l .rows)) 300) (all slim-row (l .rows)) .0 e in
+      framed mid revision byte-12 (data-of l b) k (nul-data (l .numbered) 1 (l .rows))
+      (omega (arith, length-data (l .numbered) 1 (l .rows) (t .1), leb-true (length (l .rows)) 300 (t .0)))
 
 -- ==== the frames
 
@@ -156,56 +192,51 @@ text-spaces = record { no-NUL = nul-spaces identifier-length; short = omega arit
 
 -- settings, and events, whose texts can stand in fields
 abbrev pub CleanSettings : Settings → Type 0
-CleanSettings st = Text (st .name)
+CleanSettings st = Every Fit (st .values)
 
 abbrev pub CleanEvent : Event → Type 0
 CleanEvent (identified x) = Text x
-CleanEvent (tightened r) = Text (r .identifier) × Text (r .tightening .time-stamp) × Text (r .tightening .change-time)
+CleanEvent (tightened r) = Text (r .identifier) × Every Fit (r .tightening)
+
+fit-told : (e : Event) → CleanEvent e → Every Fit (told-of e)
+fit-told (identified x) h = (h, tt)
+fit-told (tightened r) h = (h .0, every-append Fit (r .tightening) (counted (r .number) ∷ []) (h .1) (tt, tt))
+
+nothing-fits : Fits nothing
+nothing-fits = record { settings = tt; told = tt }
 
 pub framed-0002 : (st : Settings) → CleanSettings st → Framed (frame-0002 st)
 unfolding frame-0002
 framed-0002 st h =
-    framed-fields 2 1 space (controller-fields st) (λ e. omega arith) (omega arith and omega arith and h and tt) (omega arith)
+    framed-layout (sources st []) (record { settings = h; told = tt }) 2 1 space layout-0002 (λ e. omega arith) refl
 
 pub framed-0004 : (mid error : ℕ) → Framed (frame-0004 mid error)
 unfolding frame-0004
-framed-0004 mid error =
-    framed 4 1 space (digits 4 mid ++ digits 2 error) (λ e. omega arith)
-    (nul-append (digits 4 mid) (digits 2 error) (nul-digits 4 mid) (nul-digits 2 error))
-    (omega (arith, length-append (digits 4 mid) (digits 2 error), length-digits 4 mid, length-digits 2 error))
+framed-0004 mid error = framed-layout nothing nothing-fits 4 1 space (layout-0004 mid error) (λ e. omega arith) refl
 
 pub framed-0005 : (mid : ℕ) → Framed (frame-0005 mid)
 unfolding frame-0005
-framed-0005 mid = framed 5 1 space (digits 4 mid) (λ e. omega arith) (nul-digits 4 mid) (omega (arith, length-digits 4 mid))
+framed-0005 mid = framed-layout nothing nothing-fits 5 1 space (layout-0005 mid) (λ e. omega arith) refl
 
 byte-12-shown : (b : Bool) → Shown (cond b digit-1 digit-0)
 byte-12-shown b = either Shown b digit-1 digit-0 (λ e. omega arith) (λ e. omega arith)
 
-fields-0052-fit : (b : Bool) (x : List ℕ) → Text x
-    → let blank = text (spaces identifier-length) in
-    let fs = cond b (text x ∷ []) (text x ∷ blank ∷ blank ∷ blank ∷ []) in
-    Every Fit fs × (length fs ≤ 23)
-fields-0052-fit true x h = (h and tt, omega arith)
-fields-0052-fit false x h = (h and text-spaces and text-spaces and text-spaces and tt, omega arith)
+slim-notice : (e : Event) (revision : ℕ) → slim (((kind-at (kind-of e)) .layout) revision) ≡ true
+slim-notice (identified x) revision = go (eqb revision 1)
+  where
+    go : (b : Bool) → slim (record { numbered = true; rows = take (cond b 1 4) identifier-rows }) ≡ true
+    go true = refl
+    go false = refl
+slim-notice (tightened r) revision = refl
 
 module _ (st : Settings) (clean : CleanSettings st) (revision : ℕ) (no-acknowledge : Bool) where
   pub framed-event : (e : Event) → CleanEvent e → Framed (event-frame st revision no-acknowledge e)
-  unfolding frame-0052 frame-0061
-  framed-event (identified x) h =
-      let k = fields-0052-fit (eqb revision 1) x h in
-      framed-fields 52 revision (cond no-acknowledge digit-1 digit-0) (fields-0052 revision x) (byte-12-shown no-acknowledge) (k .0) (k .1)
-  framed-event (tightened r) h =
-      framed-fields 61 revision (cond no-acknowledge digit-1 digit-0) (controller-fields st ++ result-fields r (r .tightening))
-      (byte-12-shown no-acknowledge)
-      (omega arith and omega arith and clean and h .0
-      and omega arith and omega arith and omega arith and omega arith
-      and omega arith and omega arith and omega arith
-      and omega arith and omega arith and omega arith and omega arith
-      and omega arith and omega arith and omega arith and omega arith
-      and h .1 and h .2 and omega arith and omega arith and tt)
-      (omega arith)
+  unfolding event-frame
+  framed-event e h =
+      framed-layout (sources st (told-of e)) (record { settings = clean; told = fit-told e h }) ((kind-at (kind-of e)) .notice) revision
+      (cond no-acknowledge digit-1 digit-0) (((kind-at (kind-of e)) .layout) revision) (byte-12-shown no-acknowledge) (slim-notice e revision)
 
   pub notice-event : (e : Event) → is-notice (event-frame st revision no-acknowledge e) ≡ true
-  unfolding frame-0052 frame-0061 frame header digits
+  unfolding event-frame frame header digits
   notice-event (identified x) = refl
   notice-event (tightened r) = refl

@@ -16,6 +16,7 @@ pub mod Lived
 pub mod Cuts
 pub mod Erase
 pub mod Framed
+pub mod ReadBack
 pub mod Clean
 pub mod Sent
 pub mod Wire

@@ -145,7 +145,7 @@ identifier-clean x y h k = either Text (all is-space x) y x k h
 reported-clean : (w : World) (o : Option Tool) → CleanWorld w → CleanTool o → CleanNews (option-map (reported (w .shared)) o)
 reported-clean w none h c = tt
 reported-clean w (some (scanned x)) h c = c
-reported-clean w (some (tightening x t)) h c = (identifier-clean x (w .shared .in-force) (c .0) (h .in-force), c .1, c .2)
+reported-clean w (some (tightening x t)) h c = (identifier-clean x (w .shared .in-force) (c .0) (h .in-force), c .1)
 
 session-clean : (xs : List Session) (s : ℕ) → Every CleanSession xs → CleanSession (getD xs s closed)
 session-clean [] s h = tt

@@ -1,10 +1,11 @@
--- 01, "What a message does" and "Notices and the clock": the kinds of notice, a row each, with all that tells one kind from another
--- but for the fields of its frame. Assumes nothing: these are definitions.
+-- 01, "What a message does", "Notices and the clock" and "Frames we write": the kinds of notice, a row each, with all that tells one kind
+-- from another. Assumes nothing: these are definitions.
 use Prim.Native.Nat.{ℕ, suc, _+_, _*_}
 use mathlib.Core.List.{List, [], _∷_, map}
 use lib.ListN.{length, getD}
 use Rattle.model.specs.Limits.{session-count, tightenings-held}
 use Rattle.model.specs.Records.{record-head}
+use Rattle.model.specs.Layouts.{Layout, layout-0052, layout-0061}
 
 -- how many notices a kind holds: beside the open one the newest alone waits; or so many in all, the open one counted
 pub data Room : Type 0 where
@@ -23,12 +24,14 @@ pub record Kind : Type 0 where
   pub already : ℕ
   pub not-subscribed : ℕ
   pub room : Room
+  -- the layout of its notice, by the revision
+  pub layout : ℕ → Layout
   -- how long its longest frame is
   pub longest : ℕ
 
--- the four messages; revisions; the two errors; room; length
-abbrev pub a-kind : ℕ → ℕ → ℕ → ℕ → ℕ → ℕ → ℕ → Room → ℕ → Kind
-a-kind subscribe notice acknowledge unsubscribe newest already not-subscribed room longest = record {
+-- the four messages; revisions; the two errors; room; layout and length
+abbrev pub a-kind : ℕ → ℕ → ℕ → ℕ → ℕ → ℕ → ℕ → Room → (ℕ → Layout) → ℕ → Kind
+a-kind subscribe notice acknowledge unsubscribe newest already not-subscribed room layout longest = record {
   subscribe = subscribe;
   notice = notice;
   acknowledge = acknowledge;
@@ -37,14 +40,15 @@ a-kind subscribe notice acknowledge unsubscribe newest already not-subscribed ro
   already = already;
   not-subscribed = not-subscribed;
   room = room;
+  layout = layout;
   longest = longest;
 }
 
 -- in the order in which a tick looks at them
 abbrev pub kinds : List Kind
 kinds =
-    a-kind 0051 0052 0053 0054 2 06 07 the-newest 128
-    ∷ a-kind 0060 0061 0062 0063 1 09 10 (up-to tightenings-held) 231
+    a-kind 0051 0052 0053 0054 2 06 07 the-newest layout-0052 128
+    ∷ a-kind 0060 0061 0062 0063 1 09 10 (up-to tightenings-held) layout-0061 231
     ∷ []
 
 -- their places
@@ -56,7 +60,7 @@ tightenings = 1
 
 -- (past the last there is none)
 abbrev pub kind-at : ℕ → Kind
-kind-at place = getD kinds place (a-kind 0 0 0 0 0 0 0 the-newest 0)
+kind-at place = getD kinds place (a-kind 0 0 0 0 0 0 0 the-newest layout-0052 0)
 
 abbrev pub room-of : ℕ → Room
 room-of place = (kind-at place) .room

@@ -2,12 +2,14 @@ pub mod Limits
 pub mod Bytes
 pub mod Tests
 pub mod Records
+pub mod Layouts
 pub mod Runs
 pub mod Kinds
 pub mod Events
 pub mod Sharing
 pub mod Messages
 pub mod Frames
+pub mod FieldsRead
 pub mod Notices
 pub mod Row
 pub mod Session

@@ -19,7 +19,7 @@ use Rattle.model.specs.Local.{event, takes, step}
 use Rattle.model.specs.World.{World, uncounted, session-at, to as alone}
 use Rattle.model.specs.Calls.{takers}
 use Rattle.model.proofs.InTurn.{next-to}
-use Rattle.frame.specs.Layout.{result-of}
+use Rattle.frame.specs.Places.{result-of}
 use Rattle.frame.specs.Places.{event-in}
 use Rattle.shared.specs.Shared.{settings-part, in-force-of, last-of, Holds}
 use Rattle.region.specs.Region.{session-of}

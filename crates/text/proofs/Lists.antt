@@ -59,6 +59,12 @@ sets-set [] o i j x h = refl
 sets-set (y ∷ a) o i j x h =
     ap (λ (l : List ℕ). sets l (suc i) a) (set-comm o j i x y (λ e. omega arith)) ∙ sets-set a (set o i y) (suc i) j x (omega arith)
 
+-- two runs of stores, the second behind the first: in either order
+pub sets-swap : (a b o : List ℕ) (i j : ℕ) → i + length a ≤ j → sets (sets o j b) i a ≡ sets (sets o i a) j b
+sets-swap a [] o i j h = refl
+sets-swap a (x ∷ b) o i j h =
+    sets-swap a b (set o j x) i (suc j) (omega arith) ∙ ap (λ (l : List ℕ). sets l (suc j) b) (sets-set a o i j x h)
+
 -- the last element first
 pub sets-last : (a o : List ℕ) (i x : ℕ) → sets o i (a ++ x ∷ []) ≡ sets (set o (i + length a) x) i a
 sets-last a o i x = sym (sets-sets a (x ∷ []) o i) ∙ sym (sets-set a o i (i + length a) x (omega arith))

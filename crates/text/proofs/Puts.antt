@@ -1,13 +1,13 @@
 -- Writes one after another. Assumes nothing.
 use mathlib.Core.Path.{_≡_, refl, sym, ap, ap₂, subst, _∙_}
-use Prim.Native.Nat.{ℕ, _+_}
+use Prim.Native.Nat.{ℕ, _+_, _≤_}
 use native.Mathlib.Nat.{add-zero, add-assoc}
 use native.Mathlib.Omega.{arith}
 use mathlib.Core.List.{List, [], _++_, append-nil}
-use lib.ListN.{length, length-append, drop-of-length-le}
+use lib.ListN.{length, take, length-append, drop-of-length-le}
 use lib.Seq.{sets, length-sets, sets-eq}
 use Rattle.text.specs.Put.{Put}
-use Rattle.text.proofs.Lists.{sets-sets}
+use Rattle.text.proofs.Lists.{sets-sets, sets-swap, take-sets}
 
 pub put-nothing : (o : List ℕ) (at : ℕ) → Put o at [] at o
 put-nothing o at = record { output = refl; place = sym (add-zero at) }
@@ -19,6 +19,18 @@ put-then {o} {o₁} {o₂} {a} {b} {at} {r₁} {r₂} p q = record {
       q .place ∙ ap (λ (n : ℕ). n + length b) (p .place) ∙ add-assoc at (length a) (length b)
       ∙ ap (λ (n : ℕ). at + n) (sym (length-append a b));
 }
+
+-- what is written before something that stands there already
+pub put-before : {o o₁ o₂ d h : List ℕ} {at m r e : ℕ} → Put o m d e o₁ → Put o₁ at h r o₂ → r ≡ m → Put o at (h ++ d) e o₂
+put-before {o} {o₁} {o₂} {d} {h} {at} {m} {r} {e} p q z =
+    let n : m ≡ at + length h = sym z ∙ q .place in
+    record {
+      output =
+          q .output ∙ ap (λ (l : List ℕ). sets l at h) (p .output) ∙ sets-swap h d o at m (omega arith)
+          ∙ ap (λ (k : ℕ). sets (sets o at h) k d) n ∙ sets-sets h d o at;
+      place =
+          p .place ∙ ap (λ (k : ℕ). k + length d) n ∙ add-assoc at (length h) (length d) ∙ ap (λ (k : ℕ). at + k) (sym (length-append h d));
+    }
 
 -- the same bytes by another name
 pub put-as : {o o′ bs cs : List ℕ} {at r : ℕ} → bs ≡ cs → Put o at bs r o′ → Put o at cs r o′
@@ -67,3 +79,7 @@ pub scratch : {o o′ bs : List ℕ} {r : ℕ} → length o ≡ length bs → Pu
 scratch {o} {o′} {bs} e p =
     p .output ∙ sets-eq bs o 0 (omega arith) ∙ ap (λ (l : List ℕ). bs ++ l) (drop-of-length-le o {i = 0 + length bs} (omega arith))
     ∙ append-nil bs
+
+-- or from its beginning on
+pub scratched : {o o′ bs : List ℕ} {r : ℕ} → length bs ≤ length o → Put o 0 bs r o′ → take r o′ ≡ bs
+scratched {o} {o′} {bs} h p = ap₂ take (p .place) (p .output) ∙ take-sets bs o 0 (omega arith)

@@ -1,73 +1,75 @@
--- `frame::put_fields` meets its contract. The invariant: the fields of the rows that are left, over what is there, are all of them
--- over what was there. Assumes nothing.
+-- `frame::put_fields` meets its contract. The invariant: the rows that are left, over what is there, are all of them over what was
+-- there. Assumes nothing.
 use borrow.Author.Needs.{needs}
-use mathlib.Core.Path.{_≡_, refl, sym, ap, _∙_}
-use mathlib.Core.List.{[]}
-use Prim.Native.Nat.{ℕ, _+_, _-_, _≤_}
-use native.Mathlib.Nat.{add-zero}
+use mathlib.Core.Path.{_≡_, ap}
+use Prim.Native.Nat.{_-_, _<_}
 use native.Mathlib.Omega.{arith}
-use lib.ListN.{length, getD, drop, drop-of-length-le}
-use Rattle.model.specs.Frames.{fields-from}
-use Rattle.text.proofs.Lists.{all-at}
-use Rattle.text.proofs.Puts.{Left, left-all, left-put, left-none, left-as, put-then}
-use Rattle.frame.specs.Layout.{width, field-digits, laid-out, layout-length, served}
-use Rattle.frame.proofs.Frames.{laid-out-next, layout-length-next}
+use lib.ListN.{length}
+use Rattle.model.specs.Layouts.{label-length}
+use Rattle.frame.specs.declared.Extent.{Extent}
+use Rattle.frame.specs.Layout.{layout-of}
+use Rattle.frame.proofs.Data.{Laying, laying, label-room, row-servable, laid, all-laid}
 use Rattle.frame.proofs.put_fields.Statement.{statement}
 use Rattle.frame.proofs.put_fields.Tie as tie
 
 abbrev Inv-loop : tie.InvT-loop
-Inv-loop out₀ at first rows source to₀ k₀ out to k =
-    (k ≤ length rows)
-    × (to + layout-length (drop k rows) ≡ at + layout-length rows)
-    × Left out₀ at (laid-out first rows source) out to (laid-out (first + k) (drop k rows) source)
+Inv-loop out₀ at form settings told label count to₀ k₀ out to k =
+    (label ≡ label-length (layout-of form .numbered))
+    × (count ≡ length (layout-of form .rows))
+    × Laying form (record { settings = settings; told = told }) out₀ at out to k
 
 abbrev μ-loop : tie.MeasureT-loop
-μ-loop out₀ at first rows source to₀ k₀ out to k = length rows - k
+μ-loop out₀ at form settings told label count to₀ k₀ out to k = count - k
 
 loop-holds : tie.Need-loop-holds Inv-loop μ-loop
 loop-holds c =
-    let a = c .before .before .args in
-    (omega arith, refl, left-as (ap (λ (n : ℕ). laid-out n (a .rows .now) (a .source .now)) (sym (add-zero (a .first)))) (left-all _ _ _))
+    (ap (λ (x : Extent). x .label) (c .measure .ensures), ap (λ (x : Extent). x .count) (c .measure .ensures), laying _ _ _ _)
 
--- in a turn: the row's bytes are there to be read and to be written
-turn : (c : tie.In-loop Inv-loop μ-loop) → let rows = c .before .before .before .before .args .rows .now in let k = c .before .loop .k in
-    layout-length (drop k rows) ≡ field-digits + width (getD rows k []) + layout-length (drop (k + 1) rows)
-turn c = layout-length-next (c .before .before .before .before .args .source .now) _ _ (c .loop-test .taken)
+put-digits-requires : tie.Need-put-digits-requires Inv-loop μ-loop
+put-digits-requires c κs =
+    let t = c .before .loop-test .taken in
+    let i = c .before .before .loop .inv in
+    let e = i .1 in
+    label-room _ _ _ _ (i .2) (omega arith) (c .before .before .before .before .before .before .before .pre) (i .0)
+
+row-requires : tie.Need-row-requires Inv-loop μ-loop
+row-requires c κs =
+    let t = c .before .before .before .before .loop-test .taken in
+    let e = c .before .before .before .before .before .loop .inv .1 in
+    (c .before .before .before .before .before .before .before .before .before .before .pre .real, omega arith)
 
 put-value-requires : tie.Need-put-value-requires Inv-loop μ-loop
 put-value-requires c κs =
-    let d = c .before .before .before .before in
+    let r = c .before in
+    let d = r .before .before .before in
     let t = d .before .before in
-    let s = t .before .before .before .before in
-    let e = turn t in
-    let z = t .before .loop .inv .2 .size in (
-      all-at (served (length (s .args .source .now))) (s .args .rows .now) _ [] (s .pre .sources) (t .loop-test .taken),
-      omega (arith, d .put-digits .ensures .0),
-    )
+    let i = t .before .loop .inv in
+    let e = i .1 in
+    let h = t .loop-test .taken in
+    row-servable _ _ _ _ (i .2) (omega arith) (t .before .before .before .before .before .before .pre) (i .0)
+    (r .row .ensures) (d .put-digits .ensures .0) (search needs)
 
 loop-again : tie.Need-loop-again Inv-loop μ-loop
 loop-again c =
     let v = c .before .before in
-    let d = v .before .before .before .before .before in
+    let r = v .before .before in
+    let d = r .before .before .before in
     let t = d .before .before in
-    let l = t .before .loop in
-    let a = t .before .before .before .before .args in
-    let next = laid-out-next (a .source .now) (a .rows .now) (l .k) (t .loop-test .taken) (a .first) in
-    let e = turn t in (
-      omega arith,
-      omega (arith, v .put-value .ensures .0, d .put-digits .ensures .0),
-      left-put (left-as next (l .inv .2)) (put-then (d .put-digits .ensures .1) (v .put-value .ensures .1)),
+    let i = t .before .loop .inv in
+    let e = i .1 in
+    let h = t .loop-test .taken in (
+      i .0,
+      e,
+      laid _ _ _ _ (i .2) (omega arith) (t .before .before .before .before .before .before .pre) (i .0) (r .row .ensures)
+          (d .put-digits .ensures) (v .put-value .ensures),
     )
 
 returns : tie.Need-returns Inv-loop μ-loop
-unfolding laid-out fields-from layout-length
 returns c =
-    let l = c .before .loop in
-    let rows = c .before .before .before .before .args .rows .now in
-    let e = drop-of-length-le rows {i = l .k} (c .loop-test .left) in (
-      sym (add-zero (l .to)) ∙ (rw e at (l .inv .1)),
-      left-none (rw e at (l .inv .2)),
-    )
+    let i = c .before .loop .inv in
+    let e = i .1 in
+    let h = c .loop-test .left in
+    all-laid _ _ _ _ (i .2) (omega arith)
 
 pub put-fields-spec : {M : Type 1} → statement M
 put-fields-spec =
@@ -75,14 +77,14 @@ put-fields-spec =
     (tie.spec
     Inv-loop
     μ-loop
+    (λ c κs. search needs)
     loop-holds
     (λ c. search needs)
-    (λ c κs. let l = c .before .before .loop .inv .2 .size in let t = turn (c .before) in search needs)
-    (λ c. search needs)
-    (λ c. search needs)
+    put-digits-requires
+    row-requires
     put-value-requires
     (λ c. search needs)
     (λ c. search needs)
     loop-again
-    (λ c. search needs)
+    (λ c. let z = c .before .loop .inv .2 .left .size in search needs)
     returns)

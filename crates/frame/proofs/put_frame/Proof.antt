@@ -1,36 +1,67 @@
--- `frame::put_frame` meets its contract: four writes. Assumes nothing.
+-- `frame::put_frame` meets its contract: the data, the header before it, and the output record. Assumes nothing.
 use borrow.Author.Needs.{needs}
-use mathlib.Core.List.{[], _∷_}
-use lib.ListN.{length-append}
-use Rattle.model.specs.Bytes.{NUL, in-bytes}
+use mathlib.Core.Path.{sym, ap, _∙_}
+use Prim.Native.Nat.{ℕ, _+_}
 use Rattle.model.specs.Frames.{frame-record}
-use Rattle.text.proofs.Puts.{put-then, put-as}
+use Rattle.text.proofs.Puts.{put-as}
+use Rattle.frame.specs.Output.{record-length}
+use Rattle.frame.proofs.Built.{built-within, built-length, built, form-short}
 use Rattle.frame.proofs.put_frame.Statement.{statement}
 use Rattle.frame.proofs.put_frame.Tie as tie
 
+put-fields-requires : tie.Need-put-fields-requires
+put-fields-requires c κs =
+    let s = c .before .before .before .before in
+    record { real = s .pre .real; sound = s .pre .sound; room = form-short (s .args .f .form) (s .pre .real) }
+
+array-share-prefix-frame : tie.Need-array-share-prefix-frame
+array-share-prefix-frame c =
+    let h = c .before .before in
+    let p = h .before .before .before in
+    let s = p .before .before .before .before .before in
+    built-within _ _ _ (form-short (s .args .f .form) (s .pre .real)) (p .put-fields .ensures) (h .put-header .ensures)
+
+slice-aggregate-put-record : tie.Need-slice-aggregate-put-record
+slice-aggregate-put-record c =
+    let h = c .before .before .before in
+    let p = h .before .before .before in
+    let s = p .before .before .before .before .before in
+    p .put-fields .ensures .place
+    ∙ sym (built-length _ _ _ (form-short (s .args .f .form) (s .pre .real)) (p .put-fields .ensures) (h .put-header .ensures))
+
+put-record-requires : tie.Need-put-record-requires
+put-record-requires c κs =
+    let h = c .before .before .before in
+    let p = h .before .before .before in
+    let s = p .before .before .before .before .before in
+    rw (built-length _ _ _ (form-short (s .args .f .form) (s .pre .real)) (p .put-fields .ensures) (h .put-header .ensures)) (s .pre .output)
+
 returns : tie.Need-returns
-unfolding frame-record in-bytes
 returns c =
-    let z = c .before .before in
-    let i = z .before .before .before .before in
-    let q = i .before .before .before .before in
-    let p = q .before .before .before .before .before in
-    let s = p .before .before .before .before in
-    let head = put-then (p .put-little .ensures .1) (q .put-little2 .ensures .1) in (
-      search needs,
-      put-as (rw (length-append (s .args .frame .now) (NUL ∷ [])))
-          (put-then (put-then head (i .copy .ensures)) (z .put-little3 .ensures .1)),
-    )
+    let r = c .before .before in
+    let h = r .before .before .before .before in
+    let p = h .before .before .before in
+    let s = p .before .before .before .before .before in
+    let a = s .args in
+    let short = form-short (a .f .form) (s .pre .real) in
+    let e = built-length _ _ _ short (p .put-fields .ensures) (h .put-header .ensures) in
+    record {
+      place = r .put-record .ensures .0 ∙ ap (λ (n : ℕ). a .to .at + record-length n) e;
+      put =
+          put-as (ap (frame-record (a .to .session)) (built _ _ _ short (p .put-fields .ensures) (h .put-header .ensures)))
+          (r .put-record .ensures .1);
+    }
 
 pub put-frame-spec : {M : Type 1} → statement M
 put-frame-spec =
     tie.close
     (tie.spec
     (λ c. search needs)
-    (λ c κs. search needs)
+    put-fields-requires
     (λ c. search needs)
     (λ c κs. search needs)
-    (λ c κs. search needs)
-    (λ c κs. search needs)
+    array-share-prefix-frame
+    slice-aggregate-put-record
+    put-record-requires
     (λ c. search needs)
     returns)

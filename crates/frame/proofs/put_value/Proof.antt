@@ -1,85 +1,58 @@
--- `frame::put_value` meets its contract: the form says which writer, and the source has what it reads. Assumes nothing.
+-- `frame::put_value` meets its contract: each sort of row by its writer. Assumes nothing.
 use borrow.Author.Needs.{needs}
-use mathlib.Core.Path.{ap, _∙_}
-use Prim.Native.Nat.{ℕ, _+_, _≤_}
-use native.Mathlib.Nat.{add-sub-cancel-left}
-use native.Mathlib.Omega.{arith}
-use lib.ListN.{length, getD, take, drop, length-drop}
-use lib.Seq.{length-take-le}
-use Rattle.text.proofs.Puts.{put-as}
-use Rattle.frame.proofs.Frames.{size-few, copied-fits, number-fits, value-length, value-copied, value-blank, value-number}
+use Rattle.frame.proofs.Values.{number-served, text-served, row-room, wrote-number, wrote-text, wrote-blank, wrote-known}
 use Rattle.frame.proofs.put_value.Statement.{statement}
 use Rattle.frame.proofs.put_value.Tie as tie
 
--- a text's bytes are in the source, and so are a number's
-module _ (c : tie.Then1) where
-  copied : let a =
-      c .before .before .before .before .before .before .args in getD (a .row .now) 2 0 + getD (a .row .now) 0 0 ≤ length (a .source .now)
-  copied =
-      let s = c .before .before .before .before .before .before in
-      copied-fits (s .args .source .now) (s .args .row .now) (s .pre .0) (c .if1 .taken)
+number-requires : tie.Need-number-requires
+number-requires c κs = number-served _ (c .before .row .given .1) (c .before .before .before .before .before .before .pre)
 
-copy-requires : tie.Need-copy-requires
-copy-requires c κs =
-    let s = c .before .before .before .before .before .before .before .before in
-    let h = copied (c .before .before) in
-    let n = length-take-le (getD (s .args .row .now) 0 0) (drop (getD (s .args .row .now) 2 0) (s .args .source .now)) in
-    rw (add-sub-cancel-left, n (simp length-drop (omega arith))) (s .pre .1)
+put-digits-requires : tie.Need-put-digits-requires
+put-digits-requires c κs =
+    row-room _ (c .before .before .before .row .given .1) (c .before .before .before .before .before .before .before .before .pre)
+
+put-text-requires : tie.Need-put-text-requires
+put-text-requires c κs = text-served _ (c .before .before .row2 .given .1) (c .before .before .before .before .before .before .before .pre)
+
+fill-requires : tie.Need-fill-requires
+fill-requires c κs = row-room _ (c .before .before .row3 .given .1) (c .before .before .before .before .before .before .before .pre)
+
+put-digits-requires-2 : tie.Need-put-digits-requires-2
+put-digits-requires-2 c κs = row-room _ (c .before .before .row4 .given .1) (c .before .before .before .before .before .before .before .pre)
 
 returns : tie.Need-returns
 returns c =
-    let t = c .before .before .before .before .before in
-    let s = t .before .before .before .before .before .before in
-    let row = s .args .row .now in
-    let source = s .args .source .now in
-    let w = add-sub-cancel-left (getD row 2 0) (getD row 0 0) in
-    let p = put-as (ap (λ (n : ℕ). take n (drop (getD row 2 0) source)) w ∙ value-copied source row (t .if1 .taken))
-    (c .before .before .copy .ensures) in
-    (p .place ∙ ap (λ (n : ℕ). s .args .at + n) (value-length source row (s .pre .0)), p)
+    let d = c .before .before in
+    let n = d .before .before in
+    wrote-number _ (n .before .before .row .given .1) (n .number .ensures) (d .put-digits .ensures)
 
 returns-2 : tie.Need-returns-2
-returns-2 c =
-    let s = c .before .before .before .before .before .before .before .before .before .before .before in (
-      search needs,
-      put-as (value-blank (s .args .source .now) (s .args .row .now) (c .before .before .before .before .if2 .taken))
-          (c .before .before .fill .ensures .1),
-    )
-
-little-requires : tie.Need-little-requires
-little-requires c κs =
-    let s = c .before .before .before .before .before .before .before .before in
-    let f = size-few (s .args .source .now) (s .args .row .now) (s .pre .0) in
-    let n = c .before .if2 .left in
-    (number-fits (s .args .source .now) (s .args .row .now) (s .pre .0) (c .before .before .if1 .left), omega (arith, n))
+returns-2 c = wrote-text _ (c .before .before .before .before .before .row2 .given .1) (c .before .before .put-text .ensures)
 
 returns-3 : tie.Need-returns-3
-returns-3 c =
-    let i = c .before .before .before .before .before in
-    let s = i .before .before .before .before .before .before .before in (
-      search needs,
-      put-as (value-number (s .args .source .now) (s .args .row .now) (i .before .if1 .left) (i .if2 .left)
-          (c .before .before .before .little .ensures .0))
-          (c .before .before .put-digits .ensures .1),
-    )
+returns-3 c = wrote-blank _ (c .before .before .before .before .before .row3 .given .1) (c .before .before .fill .ensures)
+
+returns-4 : tie.Need-returns-4
+returns-4 c = wrote-known _ (c .before .before .before .before .before .row4 .given .1) (c .before .before .put-digits2 .ensures)
 
 pub put-value-spec : {M : Type 1} → statement M
 put-value-spec =
     tie.close
     (tie.spec
     (λ c. search needs)
+    number-requires
+    put-digits-requires
     (λ c. search needs)
+    put-text-requires
     (λ c. search needs)
-    (λ c. let h = copied c in search needs)
+    fill-requires
     (λ c. search needs)
-    (λ c. search needs)
-    (λ c. let h = copied c in search needs)
-    copy-requires
+    put-digits-requires-2
     (λ c. search needs)
     returns
-    (λ c κs. search needs)
     (λ c. search needs)
     returns-2
-    little-requires
-    (λ c κs. search needs)
     (λ c. search needs)
-    returns-3)
+    returns-3
+    (λ c. search needs)
+    returns-4)

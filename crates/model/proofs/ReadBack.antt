@@ -1,0 +1,87 @@
+-- A reader gets back what was written, by the same rows, and needs to know no more rows than it wants. Assumes nothing.
+use mathlib.Core.Path.{_≡_, refl, sym, ap, ap₂, _∙_}
+use Prim.Native.Nat.{ℕ, zero, suc, _+_, _-_, _*_, _/_, _%_, _^_, _<_}
+use native.Mathlib.Nat.{add-zero, suc-add, add-suc, div-add-mod', div-lt-iff-lt-mul, pow-suc}
+use native.Mathlib.Omega.{arith}
+use mathlib.Core.Bool.{Bool, true, and-eq-true-iff}
+use mathlib.Core.List.{List, [], _∷_, _++_, map, append-assoc}
+use lib.ListN.{length, take, drop, length-replicate}
+use lib.Seq.{take-at, drop-at}
+use borrow.Author.Tests.{ltb-true, eqb-true}
+use Rattle.model.specs.Bytes.{space, all, digits, decimal, decimal-from}
+use Rattle.model.specs.Records.{Value, counted, number-at, text-at}
+use Rattle.model.specs.Layouts.{Sources, source, Row, number, text, blank, known, width-of, characters, label-length, label, data-from}
+use Rattle.model.specs.FieldsRead.{read-field, read-fields, value-in, legible}
+use Rattle.model.proofs.Framed.{length-digits}
+
+-- ==== digits, read
+
+decimal-last : (m : ℕ) (l : List ℕ) (x : ℕ) → decimal-from m (l ++ x ∷ []) ≡ decimal-from m l * 10 + (x - 0x30)
+decimal-last m [] x = refl
+decimal-last m (y ∷ l) x = decimal-last (m * 10 + (y - 0x30)) l x
+
+decimal-digits : (w n : ℕ) → n < 10 ^ w → decimal (digits w n) ≡ n
+unfolding digits
+decimal-digits zero n h = let z : n < 1 = h in omega arith
+decimal-digits (suc w) n h =
+    let less : n / 10 < 10 ^ w = div-lt-iff-lt-mul {k = 10} {x = n} {y = 10 ^ w} (omega arith) .1 (rw pow-suc at h) in
+    decimal-last 0 (digits w (n / 10)) (0x30 + n % 10)
+    ∙ ap (λ (k : ℕ). k * 10 + (0x30 + n % 10 - 0x30)) (decimal-digits w (n / 10) less)
+    ∙ ap (λ (k : ℕ). n / 10 * 10 + k) (omega arith) ∙ div-add-mod' n 10
+
+-- ==== one field
+
+module _ (b : Sources) where
+  -- what is legible has the row's width
+  width-kept : (row : Row) → legible b row ≡ true → length (characters b row) ≡ width-of row
+  unfolding characters
+  width-kept (number w f i) e = length-digits w (number-at (source b f) i)
+  width-kept (text w f i) e = eqb-true (length (text-at (source b f) i)) w e
+  width-kept (blank w) e = length-replicate w space
+  width-kept (known w n) e = length-digits w n
+
+  pub field-back : (row : Row) → legible b row ≡ true → read-field row (characters b row) ≡ value-in b row
+  unfolding characters
+  field-back (number w f i) e = ap counted (decimal-digits w _ (ltb-true (number-at (source b f) i) (10 ^ w) e))
+  field-back (text w f i) e = refl
+  field-back (blank w) e = refl
+  field-back (known w n) e = ap counted (decimal-digits w n (ltb-true n (10 ^ w) e))
+
+  -- ==== all of them
+
+  module _ (numbered : Bool) where
+    -- whatever stands behind them
+    pub read-back : (rows : List Row) (i : ℕ) (more : List ℕ) → all (legible b) rows ≡ true
+        → read-fields numbered rows (data-from numbered i rows b ++ more) ≡ map (value-in b) rows
+    unfolding read-fields data-from
+    read-back [] i more ok = refl
+    read-back (row ∷ rows) i more ok =
+        let t = and-eq-true-iff (legible b row) (all (legible b) rows) .0 ok in
+        let l = label numbered i in
+        let v = characters b row in
+        let d = data-from numbered (suc i) rows b in
+        let w = width-kept row (t .0) in
+        let e : l ++ v ++ d ++ more ≡ l ++ (v ++ (d ++ more)) = append-assoc (l ++ v) d more ∙ append-assoc l v (d ++ more) in
+        let field : drop (label-length numbered) (l ++ v ++ d ++ more) ≡ v ++ (d ++ more) =
+        ap (drop (label-length numbered)) e ∙ drop-at l (v ++ (d ++ more)) _ (length-digits (label-length numbered) i) in
+        ap (λ (z : List ℕ). read-field row (take (width-of row) z) ∷ read-fields numbered rows (drop (width-of row) z)) field
+        ∙ ap₂ (λ (x y : List ℕ). read-field row x ∷ read-fields numbered rows y)
+        (take-at v (d ++ more) (width-of row) w) (drop-at v (d ++ more) (width-of row) w)
+        ∙ ap₂ (λ (x : Value) (y : List Value). x ∷ y) (field-back row (t .0)) (read-back rows (suc i) more (t .1))
+
+    -- the data of two lists of rows, the second numbered on from the first
+    pub data-append : (xs ys : List Row) (i : ℕ)
+        → data-from numbered i (xs ++ ys) b ≡ data-from numbered i xs b ++ data-from numbered (i + length xs) ys b
+    unfolding data-from
+    data-append [] ys i = ap (λ (n : ℕ). data-from numbered n ys b) (sym (add-zero i))
+    data-append (x ∷ xs) ys i =
+        ap (λ (l : List ℕ). label numbered i ++ characters b x ++ l)
+        (data-append xs ys (suc i)
+        ∙ ap (λ (n : ℕ). data-from numbered (suc i) xs b ++ data-from numbered n ys b) (suc-add i (length xs) ∙ sym (add-suc i (length xs))))
+        ∙ sym (append-assoc (label numbered i ++ characters b x) (data-from numbered (suc i) xs b) (data-from numbered (i + suc (length xs)) ys b))
+
+    -- so by fewer rows a reader gets the values of these out of data that has more
+    pub read-fewer : (xs ys : List Row) → all (legible b) xs ≡ true
+        → read-fields numbered xs (data-from numbered 1 (xs ++ ys) b) ≡ map (value-in b) xs
+    read-fewer xs ys ok =
+        ap (read-fields numbered xs) (data-append xs ys 1) ∙ read-back xs 1 (data-from numbered (1 + length xs) ys b) ok
