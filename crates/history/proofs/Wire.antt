@@ -42,7 +42,7 @@ use Rattle.controller.proofs.Outputs.{Below, step-below, step-many}
 use Rattle.controller.proofs.Traces.{number-is, table-left, table-begun}
 use Rattle.controller.proofs.Modelled.{lending, one-call, begun-meaning}
 use Rattle.history.specs.Turns.{Turn}
-use Rattle.history.specs.Reading.{run-with, run}
+use Rattle.history.specs.Past.{run-with, run}
 use Rattle.history.specs.Output.{read-output, as-read, record-of}
 use Rattle.history.specs.Exports.{Export, ExportHistory, CallsOf}
 use Rattle.history.specs.Wire.{Whole, a-frame, an-order, asked, Completes, NoReply, a-notice, to-close, Replies, none-replies}
