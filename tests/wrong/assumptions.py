@@ -9,6 +9,8 @@ Outside comments and texts no file has a word that takes something for true with
 - a hole, `?` or `?name`, or a probe, `{! .. !}`;
 - an `extern "C"` block, whose contracts nothing proves; `unsafe`.
 
+No function that C calls has a `requires`: nothing would prove that C keeps it.
+
 A library stands on the repository's crates alone. A program may name the kit's io, libc and os, which rest on contracts of C functions.
 
 A law of a proof by hand takes the logic's rules as an argument, `Given`. Where a file does not hand them in itself (`givenOf`), its head
@@ -40,6 +42,9 @@ ASSUMES = {
     ".rt": [(r'\bextern\s*(?:"")?\s*\{', "contracts of C functions"), (r"\bunsafe\b", "what is unsafe"), (BEGINS + r"\?", "a hole")],
 }
 
+# A function that C calls, up to the next one.
+EXPORT = re.compile(r'\bextern\s*""\s*fn (\w+)((?:(?!\bfn\b).)*)', re.S)
+
 SAYS = re.compile(r"Assumes (.*?)\.(?: |$)")
 NOTHING = ("nothing", "nothing: these are definitions")
 RULES = "the logic's rules (`Given`), nothing else"
@@ -63,6 +68,7 @@ def held(path):
     code, wrong = bare(text, ending), []
     for pattern, what in ASSUMES[ending]:
         wrong += [f"{path}:{code.count(chr(10), 0, found.start()) + 1}: {what}" for found in re.finditer(pattern, code)]
+    wrong += [f"{path}: {name} requires something of C" for name, rest in EXPORT.findall(code) if re.search(r"\brequires\b", rest)]
     if ending == ".antt":
         names = re.findall(NAME, code)
         takes = "Given" in names and "givenOf" not in names
@@ -81,8 +87,8 @@ def main(arguments):
     on_c = [name for name, uses in crates.items() if uses & set(KIT)]
     wrong += [f"crates.txt: {name} is a library, and the kit's io, libc and os rest on contracts of C functions" for name in on_c
               if not os.path.isfile(f"crates/{name}/src/main.rt")]
-    print("\n".join(wrong) or f"{len(paths)} files assume nothing: no axiom, no hole, no contract of a C function; programs that call C "
-          f"through the kit: {', '.join(on_c) or 'none'}")
+    print("\n".join(wrong) or f"{len(paths)} files assume nothing: no axiom, no hole, no contract of a C function, nothing required of C; "
+          f"programs that call C through the kit: {', '.join(on_c) or 'none'}")
     return 1 if wrong or not paths else 0
 
 
