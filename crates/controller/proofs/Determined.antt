@@ -12,7 +12,7 @@ use Rattle.table.proofs.Regions.{past-least as past-of}
 use Rattle.controller.specs.declared.Answer.{Answer}
 use Rattle.controller.specs.Contract.{Outcome}
 
-pub record Same (r : Answer) (t o : List ℕ) (r₂ : Answer) (t₂ o₂ : List ℕ) : Type 0 where
+pub record SameOutcome (r : Answer) (t o : List ℕ) (r₂ : Answer) (t₂ o₂ : List ℕ) : Type 0 where
   pub answer : r ≡ r₂
   pub meaning : decode t ≡ decode t₂
   pub output : o ≡ o₂
@@ -21,7 +21,7 @@ pub record Same (r : Answer) (t o : List ℕ) (r₂ : Answer) (t₂ o₂ : List 
   pub kept : (r .number ≡ 0 → ⊥) → t ≡ t₂
 
 pub determined : {c : Call} {t o : List ℕ} {r r₂ : Answer} {t′ o′ t₂ o₂ : List ℕ}
-    → Outcome c t o r t′ o′ → Outcome c t o r₂ t₂ o₂ → Same r t′ o′ r₂ t₂ o₂
+    → Outcome c t o r t′ o′ → Outcome c t o r₂ t₂ o₂ → SameOutcome r t′ o′ r₂ t₂ o₂
 determined {r = r} {r₂ = r₂} a b =
     let e : r ≡ r₂ = a .answer ∙ sym (b .answer) in
     record {

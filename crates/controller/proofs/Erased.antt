@@ -19,7 +19,7 @@ use Rattle.session.specs.declared.Form.{Form}
 use Rattle.session.specs.declared.Form.the-variants.{Not, Plain, Acknowledged}
 use Rattle.session.specs.declared.Phase.{Phase}
 use Rattle.session.specs.declared.Phase.the-variants.{Closed, Opened, Started}
-use Rattle.session.specs.Meaning.{queue-in, subscription-as, session-as}
+use Rattle.session.specs.Meaning.{pending-in, subscription-as, session-as}
 use Rattle.run.specs.Area.{run-of}
 use Rattle.head.specs.Head.{head-of}
 use Rattle.lane.specs.Kinds.{lane-size, control-size}
@@ -49,7 +49,7 @@ sub-erased : (f : Form) (revision clock : ℕ) (ns : List Notice) → map erase 
 sub-erased Not revision clock ns e = refl
 sub-erased Plain revision clock ns e = refl
 sub-erased Acknowledged revision clock [] e = refl
-sub-erased Acknowledged revision clock (n ∷ ns) e = ap (λ (l : List Notice). acked revision (queue-in clock l)) e
+sub-erased Acknowledged revision clock (n ∷ ns) e = ap (λ (l : List Notice). acked revision (pending-in clock l)) e
 
 lane-erased : (kind : ℕ) (l : List ℕ) → erase-sub (lane-of kind l) ≡ lane-of kind l
 unfolding lane-by notices-in

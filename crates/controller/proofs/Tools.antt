@@ -17,8 +17,8 @@ use Rattle.model.specs.Calls.{tool, does, happening, moments, takers, taken-by}
 use Rattle.model.specs.Sharing.{reported}
 use Rattle.frame.specs.Places.{result-of}
 use Rattle.frame.specs.Places.{event-in}
-use Rattle.record.specs.declared.Kind.{Kind}
-use Rattle.record.specs.declared.Kind.the-variants.{Bad, Tightening, Scanned}
+use Rattle.record.specs.declared.RecordKind.{RecordKind}
+use Rattle.record.specs.declared.RecordKind.the-variants.{Bad, Tightening, Scanned}
 use Rattle.record.specs.Tools.{tool-in}
 use Rattle.table.specs.Table.{decode, Table, Went}
 use Rattle.refusal.proofs.Numbers.{good-length}
@@ -29,17 +29,17 @@ abbrev pub Reports : (slice t o : List ℕ) (at taken : ℕ) (t′ o′ : List �
 Reports slice t o at taken t′ o′ =
     (at ≤ call-most) × Went t o 0 (moments (decode t) (tool slice)) at t′ o′ × (taken ≡ (does (decode t) (tool slice)) .taken)
 
-module _ (kind : Kind) (slice : List ℕ) (e : tool-in kind slice ≡ read-tool slice) where
+module _ (record-kind : RecordKind) (slice : List ℕ) (e : tool-in record-kind slice ≡ read-tool slice) where
   -- the tool record that is read
-  read : {x : Kind} → kind ≡ x → tool-in x slice ≡ read-tool slice
-  read k = ap (λ (x : Kind). tool-in x slice) (sym k) ∙ e
+  read : {x : RecordKind} → record-kind ≡ x → tool-in x slice ≡ read-tool slice
+  read k = ap (λ (x : RecordKind). tool-in x slice) (sym k) ∙ e
 
   -- ==== how long the payload is
 
   abbrev by-tests : Bool → Bool → Option Tool
   by-tests a b = cond a (tool-in Tightening slice) (cond b (tool-in Scanned slice) none)
 
-  pub tightening-size : {p : List ℕ} → p ≡ payload slice → kind ≡ Tightening → length p ≡ tightening-length
+  pub tightening-size : {p : List ℕ} → p ≡ payload slice → record-kind ≡ Tightening → length p ≡ tightening-length
   unfolding read-tool
   tightening-size q k =
       ap length q ∙ go (good-record tightening-kind tightening-items slice) (good-record scanned-kind scanned-items slice) refl (read k)
@@ -50,7 +50,7 @@ module _ (kind : Kind) (slice : List ℕ) (e : tool-in kind slice ≡ read-tool 
       go false true p q = let z : _≡_ {A = ℕ} 0 1 = cc in absurd (omega arith)
       go false false p q = let z : _≡_ {A = ℕ} 0 1 = cc in absurd (omega arith)
 
-  pub scan-size : {p : List ℕ} → p ≡ payload slice → kind ≡ Scanned → length p ≡ identifier-length
+  pub scan-size : {p : List ℕ} → p ≡ payload slice → record-kind ≡ Scanned → length p ≡ identifier-length
   unfolding read-tool
   scan-size q k =
       ap length q ∙ go (good-record tightening-kind tightening-items slice) (good-record scanned-kind scanned-items slice) refl (read k)
@@ -76,10 +76,10 @@ module _ (kind : Kind) (slice : List ℕ) (e : tool-in kind slice ≡ read-tool 
       k ∙ ap (λ (x : Option Tool). taken-by (decode t .sessions) (is x)) q,
     )
 
-    pub bad-reported : kind ≡ Bad → Table t → Reports slice t o 0 0 t o
+    pub bad-reported : record-kind ≡ Bad → Table t → Reports slice t o 0 0 t o
     bad-reported k h = as-reported none (read k) refl refl (omega arith) (nothing-passed t o h)
 
-    pub tightening-reported : (r : List ℕ) {p : List ℕ} {at taken : ℕ} {t′ o′ : List ℕ} → kind ≡ Tightening → p ≡ payload slice
+    pub tightening-reported : (r : List ℕ) {p : List ℕ} {at taken : ℕ} {t′ o′ : List ℕ} → record-kind ≡ Tightening → p ≡ payload slice
         → tightened (result-of r) ≡ reported (decode t .shared) (tightening (identifier-in p) (tightening-of p))
         → at ≤ 0 + event-most tightenings → Went t o 0 (happens (event-in tightenings r) ∷ []) at t′ o′ → taken
         ≡ takers tightenings 0 (decode t .sessions)
@@ -90,7 +90,7 @@ module _ (kind : Kind) (slice : List ℕ) (e : tool-in kind slice ≡ read-tool 
         ∙ ap (λ (bs : List ℕ). reported (decode t .shared) (tightening (identifier-in bs) (tightening-of bs))) q))
         n (omega (arith, event-within tightenings (omega arith))) w
 
-    pub scan-reported : {p : List ℕ} {at taken : ℕ} {t′ o′ : List ℕ} → kind ≡ Scanned → p ≡ payload slice
+    pub scan-reported : {p : List ℕ} {at taken : ℕ} {t′ o′ : List ℕ} → record-kind ≡ Scanned → p ≡ payload slice
         → at ≤ 0 + event-most identifiers → Went t o 0 (happens (event-in identifiers p) ∷ []) at t′ o′ → taken
         ≡ takers identifiers 0 (decode t .sessions)
         → Reports slice t o at taken t′ o′

@@ -16,7 +16,7 @@ use Rattle.model.proofs.Erase.{output-append}
 use Rattle.table.specs.Table.{decode, Table}
 use Rattle.controller.specs.declared.Answer.{Answer}
 use Rattle.controller.specs.Contract.{Said}
-use Rattle.controller.specs.Reading.{Reads, nothing-left, and-on}
+use Rattle.controller.specs.HandedOn.{HandedOn, nothing-left, and-on}
 use Rattle.controller.proofs.Traces.{table-left}
 use Rattle.controller.proofs.Modelled.{lending, one-call}
 use Rattle.controller.proofs.Erased.{decode-erased}
@@ -28,14 +28,14 @@ unfolding step refusal
 room-enough size room s bs w h = rw (le-ltb room output-least h)
 
 -- what was read, and the model's reading
-pub record Read-as (m : Upshot) (size : ℕ) (out t′ : List ℕ) : Type 0 where
+pub record AsUncut (m : Upshot) (size : ℕ) (out t′ : List ℕ) : Type 0 where
   pub world : decode t′ ≡ erase-world (m .world)
   pub bytes : out ≡ output (m .emissions)
   pub table : Table t′
   pub same-size : length t′ ≡ size
 
-pub as-uncut : {s : ℕ} {t bs out t′ : List ℕ} (w : World) → Table t → decode t ≡ erase-world w → Reads s t bs out t′
-    → Read-as (read-all (lending (length t) output-least) w s bs) (length t) out t′
+pub as-uncut : {s : ℕ} {t bs out t′ : List ℕ} (w : World) → Table t → decode t ≡ erase-world w → HandedOn s t bs out t′
+    → AsUncut (read-all (lending (length t) output-least) w s bs) (length t) out t′
 unfolding read-within
 as-uncut w h e nothing-left = record { world = e; bytes = refl; table = h; same-size = refl }
 as-uncut {s = s} {t = t} w h e (and-on {t₁ = t₁} {o = o} {bs = bs} {b = b} {r = r} room out rest) =
@@ -63,8 +63,8 @@ as-uncut {s = s} {t = t} w h e (and-on {t₁ = t₁} {o = o} {bs = bs} {b = b} {
 
 -- CUTS DO NOT MATTER: two slices one after the other, or their bytes in one, leave a table of the same meaning, and have the same
 -- records written
-pub cut-anywhere-same : {s : ℕ} {t xs ys out₁ out₂ out t₁ t₂ t′ : List ℕ} → Table t → Reads s t xs out₁ t₁ → Reads s t₁ ys out₂ t₂
-    → Reads s t (xs ++ ys) out t′
+pub cut-anywhere-same : {s : ℕ} {t xs ys out₁ out₂ out t₁ t₂ t′ : List ℕ} → Table t → HandedOn s t xs out₁ t₁ → HandedOn s t₁ ys out₂ t₂
+    → HandedOn s t (xs ++ ys) out t′
     → (decode t₂ ≡ decode t′) × (out₁ ++ out₂ ≡ out)
 cut-anywhere-same {s = s} {t = t} {xs = xs} {ys = ys} {t₁ = t₁} h a b c =
     let l = lending (length t) output-least in

@@ -1,3 +1,3 @@
 pub mod Contract
 pub mod Trace
-pub mod Reading
+pub mod HandedOn

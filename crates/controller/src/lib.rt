@@ -27,7 +27,7 @@ use model::IDENTIFIER_LENGTH;
 use model::NUMBER_LENGTH;
 use model::RESULT_LENGTH;
 use model::TIGHTENING_LENGTH;
-use record::Kind;
+use record::RecordKind;
 use table::Told;
 
 // 01, "What the product holds": what each call answers.
@@ -150,21 +150,21 @@ fn result<'a>(table: &'a [u8], payload: &'a [u8]) -> [u8; RESULT_LENGTH]
 }
 
 // The event of a tool record, if it is good.
-fn report(table: &mut [u8], output: &mut [u8], slice: &[u8], kind: Kind) -> Told
-    requires { ⌜ Table (now table) × (output-least ≤ length (now output)) × (tool-in kind (now slice) ≡ read-tool (now slice)) ⌝ }
-    requires { ⌜ (kind ≡ Kind.Tightening → decode (now table) .shared .last ≡ number-greatest → ⊥) ⌝ }
+fn report(table: &mut [u8], output: &mut [u8], slice: &[u8], record_kind: RecordKind) -> Told
+    requires { ⌜ Table (now table) × (output-least ≤ length (now output)) × (tool-in «record_kind» (now slice) ≡ read-tool (now slice)) ⌝ }
+    requires { ⌜ («record_kind» ≡ RecordKind.Tightening → decode (now table) .shared .last ≡ number-greatest → ⊥) ⌝ }
     ensures { λ r. ⌜ (r .at ≤ call-most) × Went (now (table .entry)) (now (output .entry)) 0
         (moments (decode (now (table .entry))) (tool (now (slice .entry)))) (r .at) (now (table .exit)) (now (output .exit))
         × (r .taken ≡ (does (decode (now (table .entry))) (tool (now (slice .entry)))) .taken) ⌝ }
 {
     let payload = record::payload(slice);
-    match kind {
-        Kind::Bad => Told { at: 0, taken: 0 },
-        Kind::Tightening => {
+    match record_kind {
+        RecordKind::Bad => Told { at: 0, taken: 0 },
+        RecordKind::Tightening => {
             let place = result(table, payload);
             table::happens(table, output, 0, model::TIGHTENINGS, &place)
         }
-        Kind::Scanned => table::happens(table, output, 0, model::IDENTIFIERS, payload),
+        RecordKind::Scanned => table::happens(table, output, 0, model::IDENTIFIERS, payload),
     }
 }
 
@@ -172,11 +172,11 @@ pub fn tool_record(table: &mut [u8], output: &mut [u8], slice: &[u8]) -> Answer
     ensures { λ r. ⌜ Outcome (tool (now (slice .entry))) (now (table .entry)) (now (output .entry)) r (now (table .exit))
         (now (output .exit)) ⌝ }
 {
-    let kind = record::tool_kind(slice);
-    let n = refusal::tool_record(table, output.len(), kind);
+    let record_kind = record::tool_kind(slice);
+    let n = refusal::tool_record(table, output.len(), record_kind);
     if n != 0 {
         return refused(n);
     }
-    let told = report(table, output, slice, kind);
+    let told = report(table, output, slice, record_kind);
     done(0, told.at as u64, told.taken)
 }

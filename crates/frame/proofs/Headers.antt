@@ -43,13 +43,13 @@ byte-12 : (bs : List ℕ) → flag-at < length bs → flag-part bs ≡ getD bs f
 byte-12 bs h = ap (take 1) (drop-cons bs flag-at 0 h)
 
 -- what a message's header has
-pub record Sound (bs : List ℕ) (count : ℕ) : Type 0 where
+pub record SoundHeader (bs : List ℕ) (count : ℕ) : Type 0 where
   pub whole : header-length ≤ length bs
   pub mid : all is-digit (number-part bs) ≡ true
   pub revision : good-revision bs ≡ true
 
-pub sound : (bs : List ℕ) (count : ℕ) → is-message (record { kept = bs; count = count }) ≡ true → Sound bs count
-sound bs count e =
+pub header-sound : (bs : List ℕ) (count : ℕ) → is-message (record { kept = bs; count = count }) ≡ true → SoundHeader bs count
+header-sound bs count e =
     let g = and-eq-true-iff _ (all is-flag (flag-part bs)) .0 e in
     let f = and-eq-true-iff _ (good-revision bs) .0 (g .0) in
     let d = and-eq-true-iff _ (all is-digit (number-part bs)) .0 (f .0) in
@@ -104,4 +104,4 @@ module _ (bs : List ℕ) (count : ℕ) where
   heard e m r f = rw (e, byte-12 bs whole, and-true (eqb (getD bs flag-at 0) digit-1)) (λ i. Message count (m i) (r i) (f i))
     where
       whole : flag-at < length bs
-      whole = let w = sound bs count e .whole in omega arith
+      whole = let w = header-sound bs count e .whole in omega arith

@@ -156,18 +156,18 @@ pub fn data_field(run: &[u8]) -> &[u8]
 }
 
 // A run that was read: what it is, and its data field.
-pub struct Reading<'a> {
+pub struct RunRead<'a> {
     pub header: Header,
     pub field: &'a [u8],
 }
 
 // Reads a run of count bytes, whose first are these.
-pub fn read_header<'a>(run: &'a [u8], count: usize) -> Reading<'a>
+pub fn read_header<'a>(run: &'a [u8], count: usize) -> RunRead<'a>
     ensures { λ r. ⌜ (r .header ≡ header-of (now (run .entry)) «count») × (now (r .field) ≡ drop header-length (now (run .entry))) ⌝ }
 {
     let header = header_in(run, count);
     let field = data_field(run);
-    Reading { header, field }
+    RunRead { header, field }
 }
 
 // ---- layouts: the rows of each form of frame, and where the value of each stands in the bytes that the frame is made of

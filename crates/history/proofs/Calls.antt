@@ -23,25 +23,25 @@ use Rattle.model.specs.World.{World, session-at}
 use Rattle.model.specs.Sights.{reports}
 use Rattle.model.proofs.RowLaws.{pick-append}
 use Rattle.watch.specs.Marks.{Seen}
-use Rattle.watch.specs.Course.{Queue, Eff, Rises}
+use Rattle.watch.specs.Course.{PendingSeen, Eff, Rises}
 use Rattle.history.specs.Turns.{Turn, hangs-up, ticks}
-use Rattle.history.specs.Reading.{run, message, started as is-started, Wish, wish, is-some, asks-acknowledge, subscribed, closes}
-use Rattle.history.specs.Reading.{event, frame-for, of-kind, takes-it, takes}
+use Rattle.history.specs.Past.{run, message, started as is-started, Wish, wish, is-some, asks-acknowledge, subscribed, closes}
+use Rattle.history.specs.Past.{event, frame-for, of-kind, takes-it, takes}
 use Rattle.history.specs.Demand.{copies-in, seen, seen-in}
 use Rattle.history.proofs.Subscriptions.{wish-in, is-some-wish, view}
 use Rattle.history.proofs.Signals.{Signals, signals, silent-after}
-use Rattle.history.proofs.Sessions.{Reading, next, closing, Like, sub-at, Stepped, newest, Steps, event-silent, event-like}
-use Rattle.history.proofs.Sessions.{event-does}
+use Rattle.history.proofs.Sessions.{SessionRead, next, closing, Like, sub-at, StepOfKind, newest, StepAsRead, event-silent}
+use Rattle.history.proofs.Sessions.{event-like, event-does}
 
 -- ==== what is read of a session
 
-abbrev pub reading-of : ℕ → List Turn → Reading
-reading-of s past = record { run = run s past; started = is-started s past; wish = λ kind. wish s kind past }
+abbrev pub session-read : ℕ → List Turn → SessionRead
+session-read s past = record { run = run s past; started = is-started s past; wish = λ kind. wish s kind past }
 
 abbrev pub sub-of : ℕ → ℕ → World → Subscription
 sub-of s kind w = sub-at kind (session-at w s)
 
-module _ (R : Reading) where
+module _ (R : SessionRead) where
   pub like-wish : (x : Session) → Like R x → (kind : ℕ) → kind < length kinds → R .wish kind ≡ wish-in (sub-at kind x)
   like-wish closed l kind h = l .1 kind
   like-wish (opened i run) l kind h = l .2 kind
@@ -73,7 +73,7 @@ seen-append kind xs ys =
 pub record Moves (st : Settings) (g : Shared) (w : World) (past : List Turn) (x : Turn) (w′ : World) : Type 0 where
   pub sharing : w′ .shared ≡ shared-with g (event g past x)
   pub size : length (w′ .sessions) ≡ session-count
-  pub like : (s : ℕ) → s < session-count → Like (reading-of s (x ∷ past)) (session-at w′ s)
+  pub like : (s : ℕ) → s < session-count → Like (session-read s (x ∷ past)) (session-at w′ s)
   pub rises : (kind : ℕ) (o : Option Wish) → Rises (w .shared .events) (w′ .shared .events) (frame-for st kind o (event g past x))
   pub does : (s : ℕ) → s < session-count → (kind : ℕ) → kind < length kinds
       → Eff (newest kind) (w .shared .events) (w′ .shared .events) (frame-for st kind (wish s kind past) (event g past x))
@@ -86,7 +86,8 @@ frame-none st kind none = refl
 frame-none st kind (some w) = refl
 
 -- the same thing done, in other words
-recast : {z : Bool} {k k′ j′ : ℕ} {e e′ : Option (List ℕ)} {o o′ a a′ cl cl′ t t′ p p′ u u′ : Bool} {q r r′ : Queue} {es es′ : List Seen}
+recast : {z : Bool} {k k′ j′ : ℕ} {e e′ : Option (List ℕ)} {o o′ a a′ cl cl′ t t′ p p′ u u′ : Bool} {q r r′ : PendingSeen}
+    {es es′ : List Seen}
     → j′ ≡ k′ → e′ ≡ e → o′ ≡ o → a′ ≡ a → cl′ ≡ cl → t′ ≡ t → p′ ≡ p → u′ ≡ u → r′ ≡ r → es′ ≡ es
     → Eff z k k′ e o a cl t p u q r es → Eff z k j′ e′ o′ a′ cl′ t′ p′ u′ q r′ es′
 recast a b c d f g h i j k x = rw (a, b, c, d, f, g, h, i, j, k) x
@@ -101,10 +102,10 @@ pub record Beside (w : World) (past : List Turn) (x : Turn) (e : Event) (s : ℕ
   pub taken : (kind : ℕ) → kind < length kinds → takes s kind (w .shared) past x ≡ (eqb kind (kind-of e) && takes-in kind (y .0))
 
 -- the turn x leaves the world w′. First each session steps, session s to y s; then comes the event, if there is one
-module _ (w : World) (past : List Turn) (like : (s : ℕ) → s < session-count → Like (reading-of s past) (session-at w s))
+module _ (w : World) (past : List Turn) (like : (s : ℕ) → s < session-count → Like (session-read s past) (session-at w s))
     (x : Turn) (w′ : World) (size : length (w′ .sessions) ≡ session-count) (y : ℕ → Session × List Emission) (b : ℕ → Bool)
     (steps : (s : ℕ) → s < session-count
-    → Steps (w .shared) (run s (x ∷ past)) (message s past x) (hangs-up s x) (ticks s x) (b s) (reading-of s past) (session-at w s)
+    → StepAsRead (w .shared) (run s (x ∷ past)) (message s past x) (hangs-up s x) (ticks s x) (b s) (session-read s past) (session-at w s)
     (y s)) where
   abbrev g : Shared
   g = w .shared
@@ -113,15 +114,15 @@ module _ (w : World) (past : List Turn) (like : (s : ℕ) → s < session-count 
   st = g .settings
 
   -- what is read once it shows that
-  abbrev read-by : ℕ → List Emission → Reading
-  read-by s es = next (run s (x ∷ past)) (message s past x) (hangs-up s x) (signals es) (reading-of s past)
+  abbrev read-by : ℕ → List Emission → SessionRead
+  read-by s es = next (run s (x ∷ past)) (message s past x) (hangs-up s x) (signals es) (session-read s past)
 
   -- ---- no event
 
   module _ (quiet : event g past x ≡ none) (same : w′ .shared ≡ g)
       (becomes : (s : ℕ) → s < session-count → session-at w′ s ≡ (y s) .0)
       (out : (s : ℕ) → s < session-count → pick s (x .out) ≡ (y s) .1) where
-    quiet-like : (s : ℕ) → s < session-count → Like (reading-of s (x ∷ past)) (session-at w′ s)
+    quiet-like : (s : ℕ) → s < session-count → Like (session-read s (x ∷ past)) (session-at w′ s)
     quiet-like s h =
         subst (λ (es : List Emission). Like (read-by s es) (session-at w′ s)) (sym (out s h))
         (subst (Like (read-by s ((y s) .1))) (sym (becomes s h)) ((steps s h) .like))
@@ -133,7 +134,7 @@ module _ (w : World) (past : List Turn) (like : (s : ℕ) → s < session-count 
       like = quiet-like;
       rises = λ kind o. rw (quiet, frame-none st kind o, ap (λ (v : Shared). v .events) same) (le-refl (g .events));
       does = λ s h kind u.
-          let R = reading-of s past in
+          let R = session-read s past in
           let z = becomes s h in
           recast (ap (λ (v : Shared). v .events) same)
           (ap (frame-for st kind (wish s kind past)) quiet ∙ frame-none st kind (wish s kind past))
@@ -141,7 +142,7 @@ module _ (w : World) (past : List Turn) (like : (s : ℕ) → s < session-count 
           (ap asks-acknowledge (like-wish R (session-at w s) (like s h) kind u))
           (ap (λ (es : List Emission). closing kind (message s past x) (hangs-up s x) (signals es)) (out s h)) refl
           (like-started R (session-at w s) (like s h) kind u)
-          (like-started (reading-of s (x ∷ past)) (session-at w′ s) (quiet-like s h) kind u
+          (like-started (session-read s (x ∷ past)) (session-at w′ s) (quiet-like s h) kind u
           ∙ ap (λ (v : Session). is-subscribed (sub-at kind v)) z)
           (ap (λ (v : Session). view st (sub-at kind v)) z) (ap (seen-in kind) (out s h)) ((steps s h) .does kind u);
     }
@@ -158,9 +159,10 @@ module _ (w : World) (past : List Turn) (like : (s : ℕ) → s < session-count 
     event-signals : (s : ℕ) → s < session-count → signals (pick s (x .out)) ≡ signals ((y s) .1)
     event-signals s h = ap signals (out s h) ∙ silent-after ((y s) .1) ((result s) .1) (event-silent g e ((y s) .0))
 
-    event-reads : (s : ℕ) → s < session-count → Like (reading-of s (x ∷ past)) (session-at w′ s)
+    event-reads : (s : ℕ) → s < session-count → Like (session-read s (x ∷ past)) (session-at w′ s)
     event-reads s h =
-        subst (λ (sg : Signals). Like (next (run s (x ∷ past)) (message s past x) (hangs-up s x) sg (reading-of s past)) (session-at w′ s))
+        subst
+        (λ (sg : Signals). Like (next (run s (x ∷ past)) (message s past x) (hangs-up s x) sg (session-read s past)) (session-at w′ s))
         (sym (event-signals s h))
         (subst (Like (read-by s ((y s) .1))) (sym (becomes s h)) (event-like g e (read-by s ((y s) .1)) ((y s) .0) ((steps s h) .like)))
 
@@ -182,7 +184,7 @@ module _ (w : World) (past : List Turn) (like : (s : ℕ) → s < session-count 
       like = event-reads;
       rises = λ kind o. rw (is, counted) (event-rises kind o);
       does = λ s h kind u.
-          let R = reading-of s past in
+          let R = session-read s past in
           let m = (beside s h) .mild kind u in
           let z = becomes s h in
           let es = (result s) .1 in
@@ -192,12 +194,12 @@ module _ (w : World) (past : List Turn) (like : (s : ℕ) → s < session-count 
           ((beside s h) .taken kind u) (ap asks-acknowledge (like-wish R (session-at w s) (like s h) kind u))
           (ap (λ (sg : Signals). closing kind (message s past x) (hangs-up s x) sg) (event-signals s h) ∙ m .0) ((beside s h) .no-tick)
           (like-started R (session-at w s) (like s h) kind u)
-          (like-started (reading-of s (x ∷ past)) (session-at w′ s) (event-reads s h) kind u
+          (like-started (session-read s (x ∷ past)) (session-at w′ s) (event-reads s h) kind u
           ∙ ap (λ (v : Session). is-subscribed (sub-at kind v)) z)
           (ap (λ (v : Session). view st (sub-at kind v)) z)
           (ap (seen-in kind) (out s h) ∙ seen-append kind ((y s) .1) es ∙ ap (_++ seen-in kind es) (m .2))
           (subst
-          (λ (v : Subscription). Stepped g (suc (g .events)) (frame-for st kind (wish-in v) (some e))
+          (λ (v : Subscription). StepOfKind g (suc (g .events)) (frame-for st kind (wish-in v) (some e))
           (eqb kind (kind-of e) && takes-in kind ((y s) .0)) false false kind v (result s))
           (m .1) (event-does g e (read-by s ((y s) .1)) ((y s) .0) ((steps s h) .like) kind u));
     }

@@ -35,7 +35,7 @@ use Rattle.controller.specs.Trace.{Made, History, shown, lendings}
 use Rattle.controller.proofs.Outputs.{stands}
 use Rattle.controller.proofs.Traces.{number-is}
 use Rattle.controller.proofs.Modelled.{lending, history-modelled}
-use Rattle.history.specs.Output.{Read, read-output}
+use Rattle.history.specs.Output.{RecordRead, read-output}
 
 -- ==== the calls of a case
 
@@ -54,14 +54,14 @@ played cs = observed (run (zeros .world) (map (λ c. (long-enough, c)) cs))
 -- ==== what a row wants, read off answers and bytes
 
 -- the line of a record that was read
-abbrev line-read : Read → List ℕ
+abbrev line-read : RecordRead → List ℕ
 line-read r =
-    cond (within (frame-kind 0) (frame-kind (session-count - 1)) (r .kind))
-    (digits 1 (r .kind - frame-kind 0) ++ (space ∷ 0x53 ∷ space ∷ []) ++ underlined (take (length (r .payload) - 1) (r .payload)))
-    (digits 1 (r .kind - close-kind 0) ++ (space ∷ 0x43 ∷ []))
+    cond (within (frame-kind 0) (frame-kind (session-count - 1)) (r .record-kind))
+    (digits 1 (r .record-kind - frame-kind 0) ++ (space ∷ 0x53 ∷ space ∷ []) ++ underlined (take (length (r .payload) - 1) (r .payload)))
+    (digits 1 (r .record-kind - close-kind 0) ++ (space ∷ 0x43 ∷ []))
 
 -- bytes that are cut are a line that no row has
-abbrev lines-read : Option (List Read) → List (List ℕ)
+abbrev lines-read : Option (List RecordRead) → List (List ℕ)
 lines-read none = [] ∷ []
 lines-read (some rs) = map line-read rs
 

@@ -180,7 +180,7 @@ pub the-records :
     map read-output
     ([] ∷ (2 ∷ 0 ∷ 0 ∷ 1 ∷ 65 ∷ 0 ∷ 0 ∷ 0 ∷ 3 ∷ 2 ∷ []) ∷ (2 ∷ 0 ∷ 0 ∷ 1 ∷ 65 ∷ []) ∷ (0 ∷ 0 ∷ 3 ∷ 2 ∷ 0 ∷ []) ∷ [])
     ≡ some []
-    ∷ some (record { kind = 256; payload = 65 ∷ 0 ∷ [] } ∷ record { kind = 515; payload = [] } ∷ [])
+    ∷ some (record { record-kind = 256; payload = 65 ∷ 0 ∷ [] } ∷ record { record-kind = 515; payload = [] } ∷ [])
     ∷ none
     ∷ none
     ∷ []

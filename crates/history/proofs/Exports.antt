@@ -2,18 +2,17 @@
 -- demand 3 holds. The calls that were lent too little of the table or of the answer leave table and output as they were. Assumes nothing.
 use Prim.Native.Nat.{ℕ, suc, _≤_, _<_, min}
 use mathlib.Core.Path.{_≡_, refl, sym, _∙_, ap, ap₂, subst}
-use mathlib.Core.Bool.{Bool, true, false, cond, _&&_}
+use mathlib.Core.Bool.{Bool, true, false, _&&_}
 use mathlib.Core.List.{List, [], _∷_, _++_}
 use native.Mathlib.Omega.{arith}
 use lib.Dec.{ltb, eqb}
 use lib.ListN.{length, take, drop, take-append-drop, length-take, length-drop, length-append}
 use lib.Seq.{sets, drop-append-le}
 use borrow.Author.Tests.{ltb-true, ltb-false, lt-ltb, le-ltb}
-use Rattle.model.specs.Limits.{table-least, output-least, answer-least, answer-too-short}
+use Rattle.model.specs.Limits.{table-least, answer-least, answer-too-short}
 use Rattle.model.specs.Records.{payload, settings-of}
 use Rattle.model.specs.World.{World, uncounted, begun}
-use Rattle.model.specs.Calls.{Call, Lent, Returned, answer-bytes, output}
-use Rattle.model.specs.Calls.{refusal, step, returned}
+use Rattle.model.specs.Calls.{Call, Lent, Returned, answer-bytes, output, refusal, step, returned}
 use Rattle.model.specs.Calls as model
 use Rattle.model.specs.Sights.{starts}
 use Rattle.model.specs.Erased.{erase-world}
@@ -27,7 +26,7 @@ use Rattle.controller.specs.Trace.{Made, Trace, none as no-call, and as and-cal
 use Rattle.controller.proofs.Outputs.{written-is, stands}
 use Rattle.controller.proofs.Traces.{table-left, table-begun, never-not-well-formed}
 use Rattle.controller.proofs.Modelled.{one-call, begun-meaning}
-use Rattle.serifladder.specs.Export.{told, Exported}
+use Rattle.serifladder.specs.Export.{Exported}
 use Rattle.history.specs.Product.{Once, Meets}
 use Rattle.history.specs.Exports.{Export, Leaves, Exports, none, and, ExportHistory, OnceTold, NeverTold, lent-of, Returns}
 use Rattle.history.specs.Exports.{AsModelled, Is, refused-1, short-answer, short-table, CallsOf, none as no-more, made}
@@ -37,43 +36,30 @@ use Rattle.history.proofs.Product.{demand-3-of-the-product}
 abbrev lending : ℕ → Bool → ℕ → Lent
 lending size formed room = record { table = size; well-formed = formed; output = room }
 
--- ==== what C is told, by the length of the answer
+-- ==== an answer that is long enough: the call was made, and C is told its numbers
 
-abbrev told-nothing : World → Returned
-told-nothing w = record { number = answer-too-short; world = w; to-answer = []; to-output = [] }
+module _ {c : Call} {t o a : List ℕ} {r : ℕ} {t′ o′ a′ : List ℕ} (x : Exported c t o a r t′ o′ a′) (h : answer-least ≤ length a) where
+  told-number : r ≡ ((said c t o) .1) .number
+  told-number = rw le-ltb at (x .number)
 
-abbrev as-made : Said → Returned
-as-made q = record { number = (q .1) .number; world = q .0; to-answer = answer-bytes (q .1); to-output = output (q .2) }
-
-module _ (c : Call) (t o a : List ℕ) where
-  told-10 : length a < answer-least → told c t o a ≡ told-nothing (decode t)
-  told-10 h = ap (λ (b : Bool). cond b (told-nothing (decode t)) (as-made (said c t o))) (lt-ltb (length a) answer-least h)
-
-  told-made : answer-least ≤ length a → told c t o a ≡ as-made (said c t o)
-  told-made h = ap (λ (b : Bool). cond b (told-nothing (decode t)) (as-made (said c t o))) (le-ltb (length a) answer-least h)
+  told-answer : a′ ≡ sets a 0 (answer-bytes ((said c t o) .1))
+  told-answer = rw le-ltb at (x .answer)
 
   said-written : ((said c t o) .1) .written ≡ length (output ((said c t o) .2))
   unfolding step
   said-written = written-is (decode t) c (refusal (lent t (length o)) (decode t) c)
 
-  module _ {r : ℕ} {t′ o′ a′ : List ℕ} (x : Exported c t o a r t′ o′ a′) (h : answer-least ≤ length a) where
-    told-number : r ≡ ((said c t o) .1) .number
-    told-number = x .number ∙ ap (λ (y : Returned). y .number) (told-made h)
-
-    told-answer : a′ ≡ sets a 0 (answer-bytes ((said c t o) .1))
-    told-answer = x .answer ∙ ap (λ (y : Returned). sets a 0 (y .to-answer)) (told-made h)
-
-    outcome-of : Outcome c t o (numbers ((said c t o) .1)) t′ o′
-    outcome-of = record {
-      answer = refl;
-      meaning = x .meaning ∙ ap (λ (y : Returned). uncounted (y .world)) (told-made h);
-      output = x .output ∙ ap (λ (y : Returned). sets o 0 (y .to-output)) (told-made h);
-      fits = subst (λ (n : ℕ). n ≤ output-least) (ap (λ (y : Returned). length (y .to-output)) (told-made h) ∙ sym said-written) (x .fits);
-      size = x .size;
-      past = x .past;
-      formed = λ z. x .formed (told-number ∙ z);
-      kept = λ z. x .kept (λ e. z (sym told-number ∙ e));
-    }
+  outcome-of : Outcome c t o (numbers ((said c t o) .1)) t′ o′
+  outcome-of = record {
+    answer = refl;
+    meaning = rw le-ltb at (x .meaning);
+    output = rw le-ltb at (x .output);
+    fits = rw said-written (rw le-ltb at (x .fits));
+    size = x .size;
+    past = x .past;
+    formed = λ z. x .formed (told-number ∙ z);
+    kept = λ z. x .kept (λ e. z (sym told-number ∙ e));
+  }
 
 -- ==== what a call does to the bytes that it was lent it does to the table
 
@@ -124,27 +110,23 @@ module _ (p : Export) (t t₁ : List ℕ) (x : Leaves p t t₁) where
 
   by-lengths : (a b : Bool) → ltb (length (p .answer)) answer-least ≡ a → ltb (length s) table-least ≡ b → Did p t t₁
   by-lengths true b e f =
-      let h = ltb-true (length (p .answer)) answer-least e in
-      let q = told-10 (p .call) s (p .output) (p .answer) h in
-      let z = x .outcome .number ∙ ap (λ (y : Returned). y .number) q in
-      not-called h z (x .outcome .answer ∙ ap (λ (y : Returned). sets (p .answer) 0 (y .to-answer)) q)
-      (x .outcome .output ∙ ap (λ (y : Returned). sets (p .output) 0 (y .to-output)) q) (kept z)
+      let z : p .told ≡ answer-too-short = rw e at (x .outcome .number) in
+      not-called (ltb-true (length (p .answer)) answer-least e) z (rw e at (x .outcome .answer)) (rw e at (x .outcome .output)) (kept z)
   by-lengths false true e f =
       let h = ltb-false (length (p .answer)) answer-least e in
-      let o = outcome-of (p .call) s (p .output) (p .answer) (x .outcome) h in
       let q = step-1 (lent s (length (p .output))) (decode s) f (p .call) in
-      let z = told-number (p .call) s (p .output) (p .answer) (x .outcome) h ∙ ap (λ (y : Said). (y .1) .number) q in
+      let z = told-number (x .outcome) h ∙ ap (λ (y : Said). (y .1) .number) q in
       refused h (ltb-true (length s) table-least f) z
-      (told-answer (p .call) s (p .output) (p .answer) (x .outcome) h ∙ ap (λ (y : Said). sets (p .answer) 0 (answer-bytes (y .1))) q)
-      (o .output ∙ ap (λ (y : Said). sets (p .output) 0 (output (y .2))) q) (kept z)
+      (told-answer (x .outcome) h ∙ ap (λ (y : Said). sets (p .answer) 0 (answer-bytes (y .1))) q)
+      (outcome-of (x .outcome) h .output ∙ ap (λ (y : Said). sets (p .output) 0 (output (y .2))) q) (kept z)
   by-lengths false false e f =
       let h = ltb-false (length (p .answer)) answer-least e in
       let l = ltb-false (length s) table-least f in
       let y = numbers ((said (p .call) s (p .output)) .1) in
       called y h l
       (subst (λ (u : List ℕ). Outcome (p .call) t (p .output) y u (p .output-left)) (sym (x .whole))
-      (wider (p .call) (p .bytes) t (p .output) l (outcome-of (p .call) s (p .output) (p .answer) (x .outcome) h)))
-      (told-number (p .call) s (p .output) (p .answer) (x .outcome) h) (told-answer (p .call) s (p .output) (p .answer) (x .outcome) h)
+      (wider (p .call) (p .bytes) t (p .output) l (outcome-of (x .outcome) h)))
+      (told-number (x .outcome) h) (told-answer (x .outcome) h)
 
   did : Did p t t₁
   did = by-lengths (ltb (length (p .answer)) answer-least) (ltb (length s) table-least) refl refl
@@ -225,16 +207,6 @@ never-2-of-the-exports {ps = ps} h = let k = called-so h in never-made ps (k .ca
 
 -- ==== what C is told is what the model has it told
 
-module _ (p : Export) (size : ℕ) (w : World) where
-  abbrev q : Said
-  q = step (lent-of size p) w (p .call)
-
-  returned-10 : length (p .answer) < answer-least → returned (length (p .answer)) (lent-of size p) w (p .call) ≡ told-nothing w
-  returned-10 h = ap (λ (b : Bool). cond b (told-nothing w) (as-made q)) (lt-ltb (length (p .answer)) answer-least h)
-
-  returned-made : answer-least ≤ length (p .answer) → returned (length (p .answer)) (lent-of size p) w (p .call) ≡ as-made q
-  returned-made h = ap (λ (b : Bool). cond b (told-nothing w) (as-made q)) (le-ltb (length (p .answer)) answer-least h)
-
 -- one call: C is told what the model says, and the table means what the model leaves
 pub record Modelled (p : Export) (r : Returned) (t₁ : List ℕ) : Type 0 where
   pub returns : Returns p r
@@ -243,13 +215,12 @@ pub record Modelled (p : Export) (r : Returned) (t₁ : List ℕ) : Type 0 where
 module _ {p : Export} {t t₁ : List ℕ} (w : World) (h : Table t) (e : decode t ≡ erase-world w) where
   one-export : Did p t t₁ → Modelled p (returned (length (p .answer)) (lent-of (length t) p) w (p .call)) t₁
   one-export (not-called a z u v k) =
-      subst (λ (y : Returned). Modelled p y t₁) (sym (returned-10 p (length t) w a))
+      rw (lt-ltb (length (p .answer)) answer-least a)
       (record { returns = record { number = z; answer = u; output = v }; world = ap decode k ∙ e })
   one-export (refused a b z u v k) =
       let l : ltb (min (p .bytes) (length t)) table-least ≡ true =
       lt-ltb (min (p .bytes) (length t)) table-least (omega (arith, length-take (p .bytes) t)) in
-      subst (λ (y : Returned). Modelled p y t₁)
-      (sym (returned-made p (length t) w a ∙ ap as-made (step-1 (lent-of (length t) p) w l (p .call))))
+      rw (le-ltb (length (p .answer)) answer-least a, step-1 (lent-of (length t) p) w l (p .call))
       (record { returns = record { number = z; answer = u; output = v }; world = ap decode k ∙ e })
   one-export (called y a b out z u) =
       let g = h .size in
@@ -257,7 +228,7 @@ module _ {p : Export} {t t₁ : List ℕ} (w : World) (h : Table t) (e : decode 
       let d = one-call w h e out in
       let s = same-step (lent-of (length t) p) (lending (length t) true (length (p .output))) w
       (le-ltb (min (p .bytes) (length t)) table-least l ∙ sym (le-ltb (length t) table-least g)) refl refl (p .call) in
-      subst (λ (x : Returned). Modelled p x t₁) (sym (returned-made p (length t) w a ∙ ap as-made s))
+      rw (le-ltb (length (p .answer)) answer-least a, s)
       (record {
         returns = record {
           number = z ∙ ap (λ (x : model.Answer). x .number) (d .answer);

@@ -27,7 +27,7 @@ use Rattle.watch.specs.Course.{empty as none-waits, Course}
 use Rattle.watch.proofs.Histories.{course-before}
 use Rattle.watch.proofs.Theorem.{few}
 use Rattle.history.specs.Turns.{Turn, turn, turns, is-start, opens, frames-in, frames-to}
-use Rattle.history.specs.Reading.{run, message, is-some}
+use Rattle.history.specs.Past.{run, message, is-some}
 use Rattle.history.specs.Demand.{copies-in, seen, seen-in, mark, marks, frames, messages, over-kinds, events-taken, past-after}
 use Rattle.history.specs.Demand.{FewFrames, NoStart}
 use Rattle.history.proofs.Subscriptions.{view}

@@ -20,19 +20,20 @@ use Rattle.model.specs.Calls.{output-record, output}
 use Rattle.watch.specs.Marks.{Every}
 use Rattle.controller.proofs.Outputs.{Below}
 use Rattle.history.specs.Turns.{frames-in, orders-close}
-use Rattle.history.specs.Output.{Read, first-size, first-read, and-more, read-within, read-output, frames-read, close-read, as-read}
+use Rattle.history.specs.Output.{RecordRead, first-size, first-read, and-more, read-within, read-output, frames-read, close-read}
+use Rattle.history.specs.Output.{as-read}
 use Rattle.history.specs.Output.{record-of}
 
 -- ==== one record, and more behind it
 
 -- its kind and its length fit two bytes each
-abbrev pub Fits : Read → Type 0
-Fits r = (r .kind < 65_536) × (length (r .payload) < 65_536)
+abbrev pub Fits : RecordRead → Type 0
+Fits r = (r .record-kind < 65_536) × (length (r .payload) < 65_536)
 
-abbrev bytes-of : Read → List ℕ
-bytes-of r = house-record (r .kind) (r .payload)
+abbrev bytes-of : RecordRead → List ℕ
+bytes-of r = house-record (r .record-kind) (r .payload)
 
-record-length : (r : Read) → length (bytes-of r) ≡ record-head + length (r .payload)
+record-length : (r : RecordRead) → length (bytes-of r) ≡ record-head + length (r .payload)
 unfolding in-bytes
 record-length r = omega arith
 
@@ -40,7 +41,7 @@ two-bytes : (n : ℕ) → n < 65_536 → n % 256 + 256 * (n / 256 % 256 + 256 * 
 two-bytes n h = omega arith
 
 -- the first is read, and then what is left
-read-next : (more b : ℕ) (bs rest : List ℕ) (r : Read) → first-size (b ∷ bs) ≤ length (b ∷ bs) → first-read (b ∷ bs) ≡ r
+read-next : (more b : ℕ) (bs rest : List ℕ) (r : RecordRead) → first-size (b ∷ bs) ≤ length (b ∷ bs) → first-read (b ∷ bs) ≡ r
     → drop (first-size (b ∷ bs)) (b ∷ bs) ≡ rest → read-within (suc more) (b ∷ bs) ≡ and-more r (read-within more rest)
 read-next more b bs rest r h e d =
     go (leb (first-size (b ∷ bs)) (length (b ∷ bs))) (le-leb (first-size (b ∷ bs)) (length (b ∷ bs)) h)
@@ -51,30 +52,32 @@ read-next more b bs rest r h e d =
     go true q = ap₂ and-more e (ap (read-within more) d)
     go false q = absurd (let z : _≡_ {A = ℕ} 0 1 = cc in omega arith)
 
-record-next : (more : ℕ) (r : Read) (rest : List ℕ) → Fits r
+record-next : (more : ℕ) (r : RecordRead) (rest : List ℕ) → Fits r
     → read-within (suc more) (bytes-of r ++ rest) ≡ and-more r (read-within more rest)
 unfolding in-bytes
 record-next more r rest f =
     let n = length (r .payload) in
     let size = two-bytes n (f .1) in
     let a = length-append (r .payload) rest in
-    read-next more (n % 256) ((n / 256 % 256) ∷ (r .kind % 256) ∷ (r .kind / 256 % 256) ∷ (r .payload ++ rest)) rest r (omega arith)
-    (ap₂ (λ (k : ℕ) (bs : List ℕ). record { kind = k; payload = bs }) (two-bytes (r .kind) (f .0)) (take-at (r .payload) rest _ (sym size)))
+    read-next more (n % 256) ((n / 256 % 256) ∷ (r .record-kind % 256) ∷ (r .record-kind / 256 % 256) ∷ (r .payload ++ rest)) rest r
+    (omega arith)
+    (ap₂ (λ (k : ℕ) (bs : List ℕ). record { record-kind = k; payload = bs }) (two-bytes (r .record-kind) (f .0))
+    (take-at (r .payload) rest _ (sym size)))
     (drop-at (bytes-of r) rest (first-size (bytes-of r ++ rest)) (omega arith))
 
 -- ==== all of them
 
-abbrev joined : List Read → List ℕ
+abbrev joined : List RecordRead → List ℕ
 joined [] = []
 joined (r ∷ rs) = bytes-of r ++ joined rs
 
-read-all : (rs : List Read) → Every Fits rs → (more : ℕ) → length rs ≤ more → read-within more (joined rs) ≡ some rs
+read-all : (rs : List RecordRead) → Every Fits rs → (more : ℕ) → length rs ≤ more → read-within more (joined rs) ≡ some rs
 read-all [] f zero h = refl
 read-all [] f (suc more) h = refl
 read-all (r ∷ rs) f zero h = absurd (omega arith)
 read-all (r ∷ rs) f (suc more) h = record-next more r (joined rs) (f .0) ∙ ap (and-more r) (read-all rs (f .1) more (omega arith))
 
-few-records : (rs : List Read) → length rs ≤ length (joined rs)
+few-records : (rs : List RecordRead) → length rs ≤ length (joined rs)
 few-records [] = omega arith
 few-records (r ∷ rs) = let h = few-records rs in let n = record-length r in omega (arith, length-append (bytes-of r) (joined rs))
 
@@ -126,10 +129,11 @@ without-NUL frame = let n = length-append frame (NUL ∷ []) in take-at frame (N
 
 module _ (s : ℕ) (h : s < session-count) where
   -- one record more
-  module _ (rs : List Read) (picked : List Emission) where
+  module _ (rs : List RecordRead) (picked : List Emission) where
     a-frame : (t : ℕ) (frame : List ℕ) (e : Emission) → frames-in (e ∷ picked) ≡ frame ∷ frames-in picked
         → frames-read s rs ≡ frames-in picked
-        → frames-read s (record { kind = frame-kind t; payload = frame ++ NUL ∷ [] } ∷ rs) ≡ frames-in (cond (eqb t s) (e ∷ picked) picked)
+        → frames-read s (record { record-kind = frame-kind t; payload = frame ++ NUL ∷ [] } ∷ rs)
+        ≡ frames-in (cond (eqb t s) (e ∷ picked) picked)
     a-frame t frame e q ih = rw (same-test t s (frame-kind 0), without-NUL frame) (go (eqb t s))
       where
         go : (b : Bool) → cond b (frame ∷ frames-read s rs) (frames-read s rs) ≡ frames-in (cond b (e ∷ picked) picked)
@@ -148,7 +152,7 @@ module _ (s : ℕ) (h : s < session-count) where
 
     no-close : (t : ℕ) (e : Emission) → t < session-count → orders-close (e ∷ picked) ≡ orders-close picked
         → close-read s rs ≡ orders-close picked → (bs : List ℕ)
-        → close-read s (record { kind = frame-kind t; payload = bs } ∷ rs) ≡ orders-close (cond (eqb t s) (e ∷ picked) picked)
+        → close-read s (record { record-kind = frame-kind t; payload = bs } ∷ rs) ≡ orders-close (cond (eqb t s) (e ∷ picked) picked)
     no-close t e u q ih bs = rw (ne-eqb (frame-kind t) (close-kind s) (λ z. omega arith)) (go (eqb t s))
       where
         go : (b : Bool) → close-read s rs ≡ orders-close (cond b (e ∷ picked) picked)

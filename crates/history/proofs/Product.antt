@@ -22,7 +22,7 @@ use Rattle.controller.proofs.Traces.{number-is, table-left, table-begun}
 use Rattle.controller.proofs.Modelled.{lending, one-call, begun-meaning}
 use Rattle.watch.specs.Marks.{copies, Demand3}
 use Rattle.history.specs.Turns.{Turn, turns, stops, subscribes, unsubscribes}
-use Rattle.history.specs.Reading.{message, parts, started, wish-of, wish, is-some, subscribed, shared}
+use Rattle.history.specs.Past.{message, parts, started, wish-of, wish, is-some, subscribed, shared}
 use Rattle.history.specs.Output.{read-output, record-of}
 use Rattle.history.specs.Demand.{mark, marks, past-after, NoStart}
 use Rattle.history.specs.Product.{Tells, Once, Meets}

@@ -20,8 +20,8 @@ use Rattle.model.specs.Wire.{Every, NoNUL, Framed}
 use Rattle.model.proofs.Text.{frame-text}
 use Rattle.model.proofs.Framed.{every-append, framed-0005}
 use Rattle.controller.specs.Trace.{Made, History}
-use Rattle.history.specs.Reading.{run}
-use Rattle.history.specs.Output.{Read, frames-read}
+use Rattle.history.specs.Past.{run}
+use Rattle.history.specs.Output.{RecordRead, frames-read}
 use Rattle.history.specs.Wire.{Whole, a-frame, an-order, asked, OnTheWire, InTurn, cut-at-NUL, by-NUL, count-off, by-length}
 use Rattle.history.specs.Wire.{records-read, records-of, payloads-to, bytes-to, frames-sent}
 use Rattle.history.proofs.Output.{without-NUL}
@@ -95,7 +95,7 @@ module _ (s : ℕ) (low : s < session-count) where
   abbrev Holds : List ℕ → List (List ℕ) → Type 0
   Holds bs fs = (bs ≡ joined fs) × Every Framed fs
 
-  holds-one : (r : Read) (rs : List Read) → Whole r → Holds (payloads-to s rs) (frames-read s rs)
+  holds-one : (r : RecordRead) (rs : List RecordRead) → Whole r → Holds (payloads-to s rs) (frames-read s rs)
       → Holds (payloads-to s (r ∷ rs)) (frames-read s (r ∷ rs))
   holds-one r rs (a-frame t frame u f) ih =
       rw (without-NUL frame) (go (eqb (frame-kind t) (frame-kind s)))
@@ -106,7 +106,7 @@ module _ (s : ℕ) (low : s < session-count) where
       go false = ih
   holds-one r rs (an-order t u) ih = rw (ne-eqb (close-kind t) (frame-kind s) (λ e. omega arith)) ih
 
-  holds-records : (rs : List Read) → Every Whole rs → Holds (payloads-to s rs) (frames-read s rs)
+  holds-records : (rs : List RecordRead) → Every Whole rs → Holds (payloads-to s rs) (frames-read s rs)
   holds-records [] h = (refl, tt)
   holds-records (r ∷ rs) h = holds-one r rs (h .0) (holds-records rs (h .1))
 

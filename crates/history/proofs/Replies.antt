@@ -21,7 +21,7 @@ use Rattle.model.specs.Calls.{Call, Lent, step as call-step}
 use Rattle.model.proofs.KindLaws.{no-notice, notices-differ}
 use Rattle.watch.specs.Marks.{Seen, Mark, all-sent, or-later, frame-of, Every}
 use Rattle.history.specs.Turns.{Turn, turn, turns, mid-of, frames-in}
-use Rattle.history.specs.Reading.{message, is-some, Wish, wish, event as event-of, shared, frame-for}
+use Rattle.history.specs.Past.{message, is-some, Wish, wish, event as event-of, shared, frame-for}
 use Rattle.history.specs.Demand.{NoNotice, of-number, ToldApart, copies-in, seen, seen-in, mark, marks, NoStart}
 use Rattle.history.proofs.Turns.{Agrees, moves, agrees-on, agrees-begun, demand-3-of-runs}
 use Rattle.history.proofs.Sendings.{Sent, sent-turn}

@@ -33,10 +33,10 @@ use Rattle.model.proofs.EntryLaws.{entry-sound}
 use Rattle.model.proofs.Sights.{its-part, Sees, nothing, a-start, its-opening, its-hang-up, a-tick, its-bytes, told, coherent}
 use Rattle.watch.specs.Marks.{Every}
 use Rattle.history.specs.Turns.{Turn, turn, is-start}
-use Rattle.history.specs.Reading.{run, ended, message, is-some}
+use Rattle.history.specs.Past.{run, ended, message, is-some}
 use Rattle.history.proofs.Signals.{signals}
-use Rattle.history.proofs.Sessions.{Reading, next, Like, Steps, Real, RealEnd, real-end, longer-read}
-use Rattle.history.proofs.Calls.{reading-of}
+use Rattle.history.proofs.Sessions.{SessionRead, next, Like, StepAsRead, Real, RealEnd, real-end, longer-read}
+use Rattle.history.proofs.Calls.{session-read}
 use Rattle.history.proofs.Turns.{call-steps, goes, Agrees}
 
 -- b: a reply may be among them
@@ -103,13 +103,13 @@ Full closed = Unit {0}
 Full (opened idle run) = Unit {0}
 Full (started idle run subs) = length subs ≡ length kinds
 
-like-full : (R : Reading) (x : Session) → Like R x → Full x
+like-full : (R : SessionRead) (x : Session) → Like R x → Full x
 like-full R closed l = tt
 like-full R (opened i run) l = tt
 like-full R (started i run subs) l = l .3
 
-steps-full : {g : Shared} {bs : List ℕ} {o : Option Message} {hung t b : Bool} {R : Reading} {x : Session}
-    {r : Session × List Emission} → Steps g bs o hung t b R x r → Full (r .0)
+steps-full : {g : Shared} {bs : List ℕ} {o : Option Message} {hung t b : Bool} {R : SessionRead} {x : Session}
+    {r : Session × List Emission} → StepAsRead g bs o hung t b R x r → Full (r .0)
 steps-full {bs = bs} {o = o} {hung = hung} {R = R} {r = r} q = like-full (next bs o hung (signals (r .1)) R) (r .0) (q .like)
 
 module _ (g : Shared) where
@@ -155,7 +155,7 @@ module _ (g : Shared) where
       go false x = tt
 
   -- b: a NUL ends the run
-  sent-receives : (R : Reading) (bs : List ℕ) (b : Bool) (x : Session) → Like R x → let p : Piece = record { bytes = bs; ends = b } in
+  sent-receives : (R : SessionRead) (bs : List ℕ) (b : Bool) (x : Session) → Like R x → let p : Piece = record { bytes = bs; ends = b } in
       Sent (is-some (ended (R .run) (some p))) ((step g (receives p) x) .1)
   sent-receives R bs b closed l = tt
   sent-receives R bs false (opened i run) l = tt
@@ -180,7 +180,7 @@ module _ (g : Shared) where
   sent-tick (started i run subs) h =
       sent-tick-at (suc i) (dealt (g .settings) (suc i) run (λ kind. beats) subs) (sent-dealt false (λ kind. beats) subs h)
 
-  sent-seen : {z : Sight} {l : Local} → Sees z l → (R : Reading) (x : Session) → Like R x
+  sent-seen : {z : Sight} {l : Local} → Sees z l → (R : SessionRead) (x : Session) → Like R x
       → Sent (is-some (ended (R .run) (z .given))) ((step g l x) .1)
   sent-seen nothing R x k = tt
   sent-seen a-start R x k = tt
@@ -213,5 +213,5 @@ sent-turn w past a s h l c ns = go (refusal l w c) refl ns
         let b = is-some (ended (run s past) ((sight s c) .given)) in
         subst (Sent b) (sym (goes w past (a .size) (a .like) l c e f s h .1))
         (sent-append b (y .1) ((told g o (y .0)) .1)
-        (sent-seen g (coherent l w c e .sees s) (reading-of s past) (session-at w s) (a .like s h))
+        (sent-seen g (coherent l w c e .sees s) (session-read s past) (session-at w s) (a .like s h))
         (sent-told g o (y .0) (steps-full (call-steps w past (a .size) (a .like) l c e f s h))))

@@ -38,13 +38,13 @@ use Rattle.model.proofs.Cuts.{longer-longer}
 use Rattle.model.proofs.Framed.{either}
 use Rattle.model.proofs.Clean.{there, both, passed}
 use Rattle.model.proofs.KindLaws.{neither, rooms-small}
-use Rattle.model.proofs.EntryLaws.{has-length-only, is-not-read, Sound, entry-sound}
+use Rattle.model.proofs.EntryLaws.{has-length-only, is-not-read, SoundEntry, entry-sound}
 use Rattle.model.proofs.Sights.{Sees, nothing, a-start, its-opening, its-hang-up, a-tick, its-bytes}
 use Rattle.text.proofs.Lists.{drop-take}
 use Rattle.watch.specs.Course.{Eff, rest}
 use Rattle.history.specs.Turns.{mid-of}
-use Rattle.history.specs.Reading.{run-with, ended, Wish, wish-of, is-some, asks-acknowledge, well-made, acknowledges}
-use Rattle.history.specs.Reading.{identifier-event, frame-for}
+use Rattle.history.specs.Past.{run-with, ended, Wish, wish-of, is-some, asks-acknowledge, well-made, acknowledges}
+use Rattle.history.specs.Past.{identifier-event, frame-for}
 use Rattle.history.specs.Demand.{copies-in, seen, seen-in}
 use Rattle.history.proofs.Subscriptions.{wish-in, as-seen, view, is-newest, Done, unchanged, wiped, beats-does, news-does, asks-does}
 use Rattle.history.proofs.Subscriptions.{drops-does, acks-does, beats-wish, news-wish, acks-wish, asks-wish}
@@ -53,13 +53,13 @@ use Rattle.history.proofs.Signals.{accepting, accepting-0005}
 
 -- ==== what is read of a session
 
-pub record Reading : Type 0 where
+pub record SessionRead : Type 0 where
   pub run : List ℕ
   pub started : Bool
   pub wish : ℕ → Option Wish
 
 -- after a call that leaves that run, ends that message, is a hang-up, and shows that in the output
-abbrev pub next : List ℕ → Option Message → Bool → Signals → Reading → Reading
+abbrev pub next : List ℕ → Option Message → Bool → Signals → SessionRead → SessionRead
 next bs o hung sg r = record {
   run = bs;
   started = cond ((hung || sg .closes) || sg .accepts (λ m. m .stops)) false (cond (sg .welcomes) true (r .started));
@@ -73,7 +73,7 @@ closing kind o hung sg =
     (hung || sg .closes) || sg .accepts (λ m. m .stops) || sg .accepts (λ m. m .unsubscribes kind) || acknowledges kind o
 
 -- the session is as it is read
-abbrev pub Like : Reading → Session → Type 0
+abbrev pub Like : SessionRead → Session → Type 0
 Like r closed = (r .started ≡ false) × ((kind : ℕ) → r .wish kind ≡ none)
 Like r (opened idle run) = (longer empty-run (r .run) ≡ run) × (r .started ≡ false) × ((kind : ℕ) → r .wish kind ≡ none)
 Like r (started idle run subs) =
@@ -91,38 +91,38 @@ abbrev pub newest : ℕ → Bool
 newest kind = is-newest (room-of kind)
 
 -- what is done to the notices of one kind; y is the subscription before
-abbrev pub Stepped : Shared → ℕ → Option (List ℕ) → Bool → Bool → Bool → ℕ → Subscription → Session × List Emission → Type 0
-Stepped g k′ e o cl t kind y r =
+abbrev pub StepOfKind : Shared → ℕ → Option (List ℕ) → Bool → Bool → Bool → ℕ → Subscription → Session × List Emission → Type 0
+StepOfKind g k′ e o cl t kind y r =
     Eff (newest kind) (g .events) k′ e o (asks-acknowledge (wish-in y)) cl t (is-subscribed y) (is-subscribed (sub-at kind (r .0)))
     (view (g .settings) y) (view (g .settings) (sub-at kind (r .0))) (seen-in kind (r .1))
 
 -- the session x becomes r .0 and is sent r .1, by a call that is no event (b: an identifier is accepted, which is one afterwards)
-pub record Steps (g : Shared) (bs : List ℕ) (o : Option Message) (hung t b : Bool) (R : Reading) (x : Session) (r : Session × List Emission)
-    : Type 0 where
+pub record StepAsRead (g : Shared) (bs : List ℕ) (o : Option Message) (hung t b : Bool) (R : SessionRead) (x : Session)
+    (r : Session × List Emission) : Type 0 where
   pub tells : (signals (r .1)) .accepts (λ m. m .identifies) ≡ b
   pub like : Like (next bs o hung (signals (r .1)) R) (r .0)
   pub does : (kind : ℕ) → kind < length kinds
-      → Stepped g (g .events) none false (closing kind o hung (signals (r .1))) t kind (sub-at kind x) r
+      → StepOfKind g (g .events) none false (closing kind o hung (signals (r .1))) t kind (sub-at kind x) r
   -- an identifier is accepted: nothing else happens
   pub mild : b ≡ true → (kind : ℕ) → kind < length kinds
       → (closing kind o hung (signals (r .1)) ≡ false) × (sub-at kind (r .0) ≡ sub-at kind x) × (seen-in kind (r .1) ≡ [])
 
 -- with the signals as they come out
-module _ {g : Shared} {bs : List ℕ} {o : Option Message} {hung t b : Bool} {R : Reading} {x : Session} (r : Session × List Emission)
+module _ {g : Shared} {bs : List ℕ} {o : Option Message} {hung t b : Bool} {R : SessionRead} {x : Session} (r : Session × List Emission)
     (sg : Signals) (e : signals (r .1) ≡ sg) (n : sg .accepts (λ m. m .identifies) ≡ b) (l : Like (next bs o hung sg R) (r .0))
-    (d : (kind : ℕ) → kind < length kinds → Stepped g (g .events) none false (closing kind o hung sg) t kind (sub-at kind x) r) where
+    (d : (kind : ℕ) → kind < length kinds → StepOfKind g (g .events) none false (closing kind o hung sg) t kind (sub-at kind x) r) where
   steps-with : (b ≡ true → (kind : ℕ) → kind < length kinds
       → (closing kind o hung sg ≡ false) × (sub-at kind (r .0) ≡ sub-at kind x) × (seen-in kind (r .1) ≡ []))
-      → Steps g bs o hung t b R x r
+      → StepAsRead g bs o hung t b R x r
   steps-with f = record {
     tells = ap (λ (s : Signals). s .accepts (λ m. m .identifies)) e ∙ n;
     like = subst (λ (s : Signals). Like (next bs o hung s R) (r .0)) (sym e) l;
     does = λ kind h.
-        subst (λ (s : Signals). Stepped g (g .events) none false (closing kind o hung s) t kind (sub-at kind x) r) (sym e) (d kind h);
+        subst (λ (s : Signals). StepOfKind g (g .events) none false (closing kind o hung s) t kind (sub-at kind x) r) (sym e) (d kind h);
     mild = λ u kind h. let v = f u kind h in (ap (closing kind o hung) e ∙ v .0, v .1, v .2);
   }
 
-  steps-by : b ≡ false → Steps g bs o hung t b R x r
+  steps-by : b ≡ false → StepAsRead g bs o hung t b R x r
   steps-by f = steps-with (λ u. absurd (true≢false (sym u ∙ f)))
 
 -- nothing is done to its notices
@@ -150,7 +150,7 @@ module _ (g : Shared) (D : ℕ → Deed) (subs : List Subscription) (all-of : le
 
   pub dealt-does : (k′ : ℕ) (i : ℕ) (run : Run) {e : Option (List ℕ)} {o cl t : Bool}
       → Done (newest kind) (g .settings) (g .events) k′ e o cl t (getD subs kind unsubscribed) acted
-      → Stepped g k′ e o cl t kind (getD subs kind unsubscribed) (dealt (g .settings) i run D subs)
+      → StepOfKind g k′ e o cl t kind (getD subs kind unsubscribed) (dealt (g .settings) i run D subs)
   dealt-does k′ i run x =
       rw (
         copies-copied (said (deal (g .settings) D) 0 subs),
@@ -199,9 +199,10 @@ free false false false false false n e = refl
 
 -- ==== a message to a started session
 
-module _ (g : Shared) (R : Reading) (i : ℕ) (run : Run) (subs : List Subscription) (like : Like R (started i run subs)) (m : Message) where
+module _ (g : Shared) (R : SessionRead) (i : ℕ) (run : Run) (subs : List Subscription) (like : Like R (started i run subs))
+    (m : Message) where
   abbrev Goal : Bool → Session × List Emission → Type 0
-  Goal b r = Steps g [] (some m) false false b R (started i run subs) r
+  Goal b r = StepAsRead g [] (some m) false false b R (started i run subs) r
 
   abbrev sub : ℕ → Subscription
   sub kind = getD subs kind unsubscribed
@@ -245,7 +246,7 @@ module _ (g : Shared) (R : Reading) (i : ℕ) (run : Run) (subs : List Subscript
       (λ kind h. rw (s kind) (dealt-does g D subs (like .3) kind h (g .events) 0 empty-run (d kind))) refl
 
   module _ (real : Real m) (e : Entry) (known : entry-of (m .mid) ≡ some e) (f : Effect) (does : e .effect ≡ f) where
-    law : Sound (m .mid) e
+    law : SoundEntry (m .mid) e
     law = entry-sound (m .mid) e known
 
     -- what its acceptance shows
@@ -371,9 +372,9 @@ module _ (g : Shared) (R : Reading) (i : ℕ) (run : Run) (subs : List Subscript
 
 -- ==== a message to one that is not started
 
-module _ (g : Shared) (R : Reading) (i : ℕ) (run : Run) (like : Like R (opened i run)) where
+module _ (g : Shared) (R : SessionRead) (i : ℕ) (run : Run) (like : Like R (opened i run)) where
   abbrev GoalOpened : Option Message → Session × List Emission → Type 0
-  GoalOpened o r = Steps g [] o false false false R (opened i run) r
+  GoalOpened o r = StepAsRead g [] o false false false R (opened i run) r
 
   unsubscribed-at : (kind : ℕ) → kind < length kinds → getD no-subscriptions kind unsubscribed ≡ unsubscribed
   unsubscribed-at kind h = getD-replicate (length kinds) kind unsubscribed unsubscribed h
@@ -424,17 +425,17 @@ longer-read bs more run e = sym (longer-longer empty-run bs more) ∙ ap (λ (r 
 
 -- ==== what a session sees
 
-module _ (g : Shared) (R : Reading) where
+module _ (g : Shared) (R : SessionRead) where
   -- nothing concerns it
-  pub elsewhere-steps : (x : Session) → Like R x → Steps g (R .run) none false false false R x (step g elsewhere x)
+  pub elsewhere-steps : (x : Session) → Like R x → StepAsRead g (R .run) none false false false R x (step g elsewhere x)
   elsewhere-steps x l = steps-by (x, []) silence refl refl l (λ kind h. still g kind (sub-at kind x)) refl
 
-  opening-steps : (x : Session) → is-closed x ≡ true → Like R x → Steps g [] none false false false R x (step g opening x)
+  opening-steps : (x : Session) → is-closed x ≡ true → Like R x → StepAsRead g [] none false false false R x (step g opening x)
   opening-steps closed c l = steps-by (fresh, []) silence refl refl (refl, l .0, l .1) (λ kind h. rest (le-refl (g .events))) refl
   opening-steps (opened i run) c l = absurd (true≢false (sym c))
   opening-steps (started i run subs) c l = absurd (true≢false (sym c))
 
-  hang-up-steps : (x : Session) → Like R x → Steps g (R .run) none true false false R x (step g hang-up x)
+  hang-up-steps : (x : Session) → Like R x → StepAsRead g (R .run) none true false false R x (step g hang-up x)
   hang-up-steps x l =
       steps-by (closed, []) silence refl refl (refl, λ kind. refl)
       (λ kind h. wiped (newest kind) (g .settings) (g .events) false (sub-at kind x)) refl
@@ -443,7 +444,7 @@ module _ (g : Shared) (R : Reading) where
   shut = record { closes = true; welcomes = false; accepts = λ so. false }
 
   abbrev Ticked : Session → Session × List Emission → Type 0
-  Ticked x r = Steps g (R .run) none false true false R x r
+  Ticked x r = StepAsRead g (R .run) none false true false R x r
 
   tick-steps : (x : Session) → Like R x → Ticked x (step g tick x)
   tick-steps closed l = steps-by (closed, []) silence refl refl l (λ kind h. rest (le-refl (g .events))) refl
@@ -475,11 +476,11 @@ module _ (g : Shared) (R : Reading) where
 
   abbrev Received : Piece → Session → Type 0
   Received p x =
-      Steps g (run-with (some p) false (R .run)) (ended (R .run) (some p)) false false (is-some (announces g p x)) R x
+      StepAsRead g (run-with (some p) false (R .run)) (ended (R .run) (some p)) false false (is-some (announces g p x)) R x
       (step g (receives p) x)
 
   end-steps : (i : ℕ) (run : Run) (subs : List Subscription) → Like R (started i run subs) → (o : Option Message) → RealEnd o
-      → Steps g [] o false false (is-some (identifier-run g subs o)) R (started i run subs) (end-run g i subs o)
+      → StepAsRead g [] o false false (is-some (identifier-run g subs o)) R (started i run subs) (end-run g i subs o)
   end-steps i run subs l none real =
       steps-by (started i empty-run subs, []) silence refl refl (refl, l .1, l .2, l .3)
       (λ kind h. still g kind (getD subs kind unsubscribed)) refl
@@ -508,7 +509,8 @@ module _ (g : Shared) (R : Reading) where
 
   pub sees-steps : {z : Sight} {l : Local} → Sees z l → z .starts ≡ false → (x : Session) → (z .opens ≡ true → is-closed x ≡ true)
       → Like R x
-      → Steps g (run-with (z .given) (z .opens) (R .run)) (ended (R .run) (z .given)) (z .hangs-up) (z .ticks) (tells-of (z .given) x) R x
+      → StepAsRead g (run-with (z .given) (z .opens) (R .run)) (ended (R .run) (z .given)) (z .hangs-up) (z .ticks)
+      (tells-of (z .given) x) R x
       (step g l x)
   sees-steps nothing s x c l = elsewhere-steps x l
   sees-steps a-start s x c l = absurd (true≢false s)
@@ -565,7 +567,7 @@ module _ (g : Shared) (e : Event) where
   event-silent (opened i run) = refl
   event-silent (started i run subs) = copies-silent (g .settings) news-of subs
 
-  pub event-like : (R : Reading) (x : Session) → Like R x → Like R ((step g (event e) x) .0)
+  pub event-like : (R : SessionRead) (x : Session) → Like R x → Like R ((step g (event e) x) .0)
   event-like R closed l = l
   event-like R (opened i run) l = l
   event-like R (started i run subs) l = (
@@ -578,9 +580,9 @@ module _ (g : Shared) (e : Event) where
     length-row (deal (g .settings) news-of) 0 subs ∙ l .3,
   )
 
-  pub event-does : (R : Reading) (x : Session) → Like R x → (kind : ℕ) → kind < length kinds
-      → Stepped g (suc (g .events)) (frame-for (g .settings) kind (wish-in (sub-at kind x)) (some e)) (eqb kind (kind-of e) && takes kind x)
-      false false kind (sub-at kind x) (step g (event e) x)
+  pub event-does : (R : SessionRead) (x : Session) → Like R x → (kind : ℕ) → kind < length kinds
+      → StepOfKind g (suc (g .events)) (frame-for (g .settings) kind (wish-in (sub-at kind x)) (some e))
+      (eqb kind (kind-of e) && takes kind x) false false kind (sub-at kind x) (step g (event e) x)
   event-does R closed l kind h = rw (and-false (eqb kind (kind-of e))) (rest (omega arith))
   event-does R (opened i run) l kind h = rw (and-false (eqb kind (kind-of e))) (rest (omega arith))
   event-does R (started i run subs) l kind h =

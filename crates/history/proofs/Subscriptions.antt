@@ -20,9 +20,9 @@ use Rattle.model.specs.Notices.{asks, drops, acks, next-one, waits, act}
 use Rattle.model.specs.Session.{frame-to}
 use Rattle.model.proofs.KindLaws.{small}
 use Rattle.watch.specs.Marks.{Seen}
-use Rattle.watch.specs.Course.{Queue, empty as none-waits, busy as waiting, Eff, rest, lone, first, keep, wait, swap, wipe, over, pass}
-use Rattle.watch.specs.Course.{beat, again, quit, quit-pass}
-use Rattle.history.specs.Reading.{Wish, asks-acknowledge, is-some, frame-for}
+use Rattle.watch.specs.Course.{PendingSeen, empty as none-waits, busy as waiting, Eff, rest, lone, first, keep, wait, swap, wipe, over}
+use Rattle.watch.specs.Course.{pass, beat, again, quit, quit-pass}
+use Rattle.history.specs.Past.{Wish, asks-acknowledge, is-some, frame-for}
 
 -- ==== a subscription as it is read
 
@@ -41,7 +41,7 @@ is-some-wish (acked r q) = refl
 abbrev pub as-seen : Settings → Subscription → Notice → Seen
 as-seen st x n = record { id = n .id; frame = frame-to st x n }
 
-abbrev pub view : Settings → Subscription → Queue
+abbrev pub view : Settings → Subscription → PendingSeen
 view st unsubscribed = none-waits
 view st (plain revision) = none-waits
 view st (acked revision empty) = none-waits

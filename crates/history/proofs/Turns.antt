@@ -27,16 +27,16 @@ use Rattle.model.proofs.Takers.{in-takers}
 use Rattle.model.proofs.Sights.{its-part, Sees, nothing, its-bytes, coherent}
 use Rattle.model.proofs.Sights.{Source, no-event, a-report, from-session, told, goes-to, after-length, after-shared}
 use Rattle.watch.specs.Marks.{Demand3, InTime}
-use Rattle.watch.specs.Course.{Queue, empty as none-waits, Course, end, call}
+use Rattle.watch.specs.Course.{PendingSeen, empty as none-waits, Course, end, call}
 use Rattle.watch.proofs.Theorem.{demand-3, goes-out-in-time}
 use Rattle.history.specs.Turns.{Turn, turn, turns, is-start}
-use Rattle.history.specs.Reading.{run-with, run, ended, wish, is-some, identifier-event, spoken, event, shared, of-kind, takes-it}
+use Rattle.history.specs.Past.{run-with, run, ended, wish, is-some, identifier-event, spoken, event, shared, of-kind, takes-it}
 use Rattle.history.specs.Demand.{seen-in, marks, NoStart}
 use Rattle.history.proofs.Subscriptions.{wish-in, view}
 use Rattle.history.proofs.Signals.{Signals, signals, silence, silent-after}
-use Rattle.history.proofs.Sessions.{closing, Like, sub-at, newest, Steps, elsewhere-steps, tells-of, sees-steps, told-steps}
+use Rattle.history.proofs.Sessions.{closing, Like, sub-at, newest, StepAsRead, elsewhere-steps, tells-of, sees-steps, told-steps}
 use Rattle.history.proofs.Sessions.{event-silent}
-use Rattle.history.proofs.Calls.{reading-of, sub-of, like-wish, Moves, Beside, quiet-moves, event-moves}
+use Rattle.history.proofs.Calls.{session-read, sub-of, like-wish, Moves, Beside, quiet-moves, event-moves}
 
 -- ==== what a session does not see, and what it hears
 
@@ -80,7 +80,7 @@ told-silent g (some e) x = event-silent g e x
 -- ==== a call that is done, and no start
 
 module _ (w : World) (past : List Turn) (size : length (w .sessions) ≡ session-count)
-    (like : (s : ℕ) → s < session-count → Like (reading-of s past) (session-at w s))
+    (like : (s : ℕ) → s < session-count → Like (session-read s past) (session-at w s))
     (l : Lent) (c : Call) (done : refusal l w c ≡ 0) (no-start : starts c ≡ false) where
   abbrev g : Shared
   g = w .shared
@@ -96,13 +96,13 @@ module _ (w : World) (past : List Turn) (size : length (w .sessions) ≡ session
   y s = session-step g (its-part s moment) (session-at w s)
 
   abbrev tells : ℕ → Bool
-  tells s = tells-of g (reading-of s past) ((sight s c) .given) (session-at w s)
+  tells s = tells-of g (session-read s past) ((sight s c) .given) (session-at w s)
 
   pub call-steps : (s : ℕ) → s < session-count
-      → Steps g (run-with ((sight s c) .given) ((sight s c) .opens) (run s past)) (ended (run s past) ((sight s c) .given))
-      ((sight s c) .hangs-up) ((sight s c) .ticks) (tells s) (reading-of s past) (session-at w s) (y s)
+      → StepAsRead g (run-with ((sight s c) .given) ((sight s c) .opens) (run s past)) (ended (run s past) ((sight s c) .given))
+      ((sight s c) .hangs-up) ((sight s c) .ticks) (tells s) (session-read s past) (session-at w s) (y s)
   call-steps s h =
-      sees-steps g (reading-of s past) (coherent l w c done .sees s) (coherent l w c done .alike s ∙ no-start) (session-at w s)
+      sees-steps g (session-read s past) (coherent l w c done .sees s) (coherent l w c done .alike s ∙ no-start) (session-at w s)
       (coherent l w c done .opens s)
       (like s h)
 
@@ -137,8 +137,8 @@ module _ (w : World) (past : List Turn) (size : length (w .sessions) ≡ session
       ap signals (goes t inside .1) ∙ silent-after ((y t) .1) ((told g o ((y t) .0)) .1) (told-silent g o ((y t) .0)) in
       ap₂ (λ (b : Bool) (q : Option Piece). cond b (identifier-event (ended (run t past) q)) none)
       (ap (λ (sg : Signals). sg .accepts (λ m. m .identifies)) shows ∙ (call-steps t inside) .tells
-      ∙ ap (λ (q : Option Piece). tells-of g (reading-of t past) q (session-at w t)) given) given
-      ∙ sym (told-steps g (reading-of t past) p (session-at w t) (like t inside)) ∙ sym ev
+      ∙ ap (λ (q : Option Piece). tells-of g (session-read t past) q (session-at w t)) given) given
+      ∙ sym (told-steps g (session-read t past) p (session-at w t) (like t inside)) ∙ sym ev
 
   event-is : event g past x ≡ (does w c) .event
   event-is = go (coherent l w c done .event)
@@ -192,7 +192,7 @@ module _ (w : World) (past : List Turn) (size : length (w .sessions) ≡ session
             let k = heard z in (
               k .1,
               (call-steps s h) .mild
-                  (ap (λ (o : Option Piece). tells-of g (reading-of s past) o (session-at w s)) (k .0)
+                  (ap (λ (o : Option Piece). tells-of g (session-read s past) o (session-at w s)) (k .0)
                   ∙ ap (λ (n : ℕ). is-some (announces g p (session-at w n))) (eqb-true s t q) ∙ told-as .0),
             )
         by false q z = let k = unseen g (run s past) (session-at w s) z in (k .0, λ kind u. rw (mom, q) (k .1 kind))
@@ -203,7 +203,7 @@ module _ (w : World) (past : List Turn) (size : length (w .sessions) ≡ session
 
         taken-so : is-some (wish s identifiers past) ≡ takes-in identifiers ((y s) .0)
         taken-so =
-            ap is-some (like-wish (reading-of s past) (session-at w s) (like s h) identifiers (omega arith))
+            ap is-some (like-wish (session-read s past) (session-at w s) (like s h) identifiers (omega arith))
             ∙ sym (takes-sub identifiers ((y s) .0) ∙ ap (takes-event (room-of identifiers)) (known .1 identifiers (omega arith) .1)
             ∙ takes-identifier (sub-of s identifiers w))
 
@@ -242,7 +242,7 @@ module _ (w : World) (past : List Turn) (size : length (w .sessions) ≡ session
 pub record Agrees (st : Settings) (w : World) (past : List Turn) : Type 0 where
   pub sharing : w .shared ≡ shared st past
   pub size : length (w .sessions) ≡ session-count
-  pub like : (s : ℕ) → s < session-count → Like (reading-of s past) (session-at w s)
+  pub like : (s : ℕ) → s < session-count → Like (session-read s past) (session-at w s)
 
 settings-stay : (st : Settings) (past : List Turn) → (shared st past) .settings ≡ st
 settings-stay st [] = refl
@@ -259,7 +259,7 @@ module _ (st : Settings) (w : World) (past : List Turn) (l : Lent) (c : Call) (a
   refused-moves : (n : ℕ) → Moves (here .settings) here w past (turn c (answered w c (suc n))) w
   refused-moves n =
       quiet-moves w past (a .like) (turn c (answered w c (suc n))) w (a .size) (λ s. (session-at w s, [])) (λ s. false)
-      (λ s h. rw (eqb·suc-zero n) (elsewhere-steps here (reading-of s past) (session-at w s) (a .like s h))) (rw (eqb·suc-zero n)) refl
+      (λ s h. rw (eqb·suc-zero n) (elsewhere-steps here (session-read s past) (session-at w s) (a .like s h))) (rw (eqb·suc-zero n)) refl
       (λ s h. refl) (λ s h. refl)
 
   call-moves : is-start (turn c (step l w c)) ≡ false → Moves (here .settings) here w past (turn c (step l w c)) ((step l w c) .0)
@@ -286,7 +286,7 @@ module _ (st : Settings) where
   agrees-begun = record {
     sharing = refl;
     size = refl;
-    like = λ s h. subst (Like (reading-of s [])) (sym (getD-replicate session-count s closed closed h)) (refl, λ kind. refl);
+    like = λ s h. subst (Like (session-read s [])) (sym (getD-replicate session-count s closed closed h)) (refl, λ kind. refl);
   }
 
   pub course-of : (w : World) (past : List Turn) (cs : List (Lent × Call)) → Agrees st w past → NoStart (turns w cs)
@@ -305,7 +305,7 @@ module _ (st : Settings) where
   module _ (cs : List (Lent × Call)) (ns : NoStart (turns (begun st 0) cs)) (s : ℕ) (h : s < session-count) where
     begun-course : (kind : ℕ) → kind < length kinds → Course (newest kind) 0 none-waits (marks st s kind [] (turns (begun st 0) cs))
     begun-course kind u =
-        subst (λ (q : Queue). Course (newest kind) 0 q (marks st s kind [] (turns (begun st 0) cs))) (view-begun s h kind)
+        subst (λ (q : PendingSeen). Course (newest kind) 0 q (marks st s kind [] (turns (begun st 0) cs))) (view-begun s h kind)
         (course-of (begun st 0) [] cs agrees-begun ns s h kind u)
 
     pub demand-3-of-runs : (kind : ℕ) → kind < length kinds → Demand3 (marks st s kind [] (turns (begun st 0) cs))

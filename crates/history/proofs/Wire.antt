@@ -42,7 +42,7 @@ use Rattle.controller.proofs.Outputs.{Below, step-below, step-many}
 use Rattle.controller.proofs.Traces.{number-is, table-left, table-begun}
 use Rattle.controller.proofs.Modelled.{lending, one-call, begun-meaning}
 use Rattle.history.specs.Turns.{Turn}
-use Rattle.history.specs.Reading.{run-with, run}
+use Rattle.history.specs.Past.{run-with, run}
 use Rattle.history.specs.Output.{read-output, as-read, record-of}
 use Rattle.history.specs.Exports.{Export, ExportHistory, CallsOf}
 use Rattle.history.specs.Wire.{Whole, a-frame, an-order, asked, Completes, NoReply, a-notice, to-close, Replies, none-replies}
@@ -62,19 +62,19 @@ Kept bs (started idle run subs) = longer empty-run bs ≡ run
 
 module _ (g : Shared) where
   -- a run that has ended leaves an empty one
-  carried-out : (subs : List Subscription) (m : Message) (f : Effect) → Kept [] ((carry-out g subs m f) .0)
-  carried-out subs m starts = refl
-  carried-out subs m stops = refl
-  carried-out subs m (identifies n) = refl
-  carried-out subs m (subscribes kind n) = refl
-  carried-out subs m (unsubscribes kind n) = refl
-  carried-out subs m (acknowledges kind) = refl
-  carried-out subs m mirrors = refl
+  carry-out-kept : (subs : List Subscription) (m : Message) (f : Effect) → Kept [] ((carry-out g subs m f) .0)
+  carry-out-kept subs m starts = refl
+  carry-out-kept subs m stops = refl
+  carry-out-kept subs m (identifies n) = refl
+  carry-out-kept subs m (subscribes kind n) = refl
+  carry-out-kept subs m (unsubscribes kind n) = refl
+  carry-out-kept subs m (acknowledges kind) = refl
+  carry-out-kept subs m mirrors = refl
 
   judged-kept : (subs : List Subscription) (m : Message) (o : Option Entry) (x : Option Error) → Kept [] ((judged g subs m o x) .0)
   judged-kept subs m o (some x) = refl
   judged-kept subs m none none = refl
-  judged-kept subs m (some e) none = carried-out subs m (e .effect)
+  judged-kept subs m (some e) none = carry-out-kept subs m (e .effect)
 
   end-kept : (idle : ℕ) (subs : List Subscription) (o : Option Message) → Kept [] ((end-run g idle subs o) .0)
   end-kept idle subs none = refl

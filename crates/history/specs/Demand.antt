@@ -13,7 +13,7 @@ use Rattle.model.specs.Row.{Tagged, pick}
 use Rattle.model.specs.Wire.{is-notice}
 use Rattle.watch.specs.Marks.{Seen, Mark, all-sent, taken, Every}
 use Rattle.history.specs.Turns.{Turn, is-start, opens, ticks, frames-to, mid-of}
-use Rattle.history.specs.Reading.{message, wish, is-some, asks-acknowledge, subscribed, closes, event, shared, frame-for, takes}
+use Rattle.history.specs.Past.{message, wish, is-some, asks-acknowledge, subscribed, closes, event, shared, frame-for, takes}
 
 -- ==== copies of notices
 

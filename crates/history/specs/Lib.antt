@@ -1,5 +1,5 @@
 pub mod Turns
-pub mod Reading
+pub mod Past
 pub mod Output
 pub mod Demand
 pub mod Product

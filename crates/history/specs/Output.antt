@@ -12,8 +12,8 @@ use Rattle.model.specs.Session.{Emission, reply, copy, close}
 use Rattle.model.specs.Row.{Tagged}
 
 -- a record that was read
-pub record Read : Type 0 where
-  pub kind : ℕ
+pub record RecordRead : Type 0 where
+  pub record-kind : ℕ
   pub payload : List ℕ
 
 -- ==== the records of an output: length, kind and payload, one after another, to its end
@@ -22,15 +22,15 @@ pub record Read : Type 0 where
 abbrev pub first-size : List ℕ → ℕ
 first-size bs = record-head + little (places 1 2 bs)
 
-abbrev pub first-read : List ℕ → Read
-first-read bs = record { kind = little (places 3 4 bs); payload = take (little (places 1 2 bs)) (drop record-head bs) }
+abbrev pub first-read : List ℕ → RecordRead
+first-read bs = record { record-kind = little (places 3 4 bs); payload = take (little (places 1 2 bs)) (drop record-head bs) }
 
-abbrev pub and-more : Read → Option (List Read) → Option (List Read)
+abbrev pub and-more : RecordRead → Option (List RecordRead) → Option (List RecordRead)
 and-more r none = none
 and-more r (some rs) = some (r ∷ rs)
 
 -- none where a record is cut. `more` bounds the records: there are no more than bytes
-abbrev pub read-within : ℕ → List ℕ → Option (List Read)
+abbrev pub read-within : ℕ → List ℕ → Option (List RecordRead)
 read-within zero [] = some []
 read-within zero (b ∷ bs) = none
 read-within (suc more) [] = some []
@@ -40,26 +40,26 @@ read-within (suc more) (b ∷ bs) =
       | false ↦ none
     ]
 
-abbrev pub read-output : List ℕ → Option (List Read)
+abbrev pub read-output : List ℕ → Option (List RecordRead)
 read-output bs = read-within (length bs) bs
 
 -- ==== output records: a frame to session s, with its NUL, and the order to close it
 
-abbrev pub frames-read : ℕ → List Read → List (List ℕ)
+abbrev pub frames-read : ℕ → List RecordRead → List (List ℕ)
 frames-read s [] = []
 frames-read s (r ∷ rs) =
     let more = frames-read s rs in
-    cond (eqb (r .kind) (frame-kind s)) (take (length (r .payload) - 1) (r .payload) ∷ more) more
+    cond (eqb (r .record-kind) (frame-kind s)) (take (length (r .payload) - 1) (r .payload) ∷ more) more
 
-abbrev pub close-read : ℕ → List Read → Bool
+abbrev pub close-read : ℕ → List RecordRead → Bool
 close-read s [] = false
-close-read s (r ∷ rs) = let more = close-read s rs in cond (eqb (r .kind) (close-kind s)) true more
+close-read s (r ∷ rs) = let more = close-read s rs in cond (eqb (r .record-kind) (close-kind s)) true more
 
 -- the record of an emission
-abbrev pub as-read : ℕ → Emission → Read
-as-read s (reply frame) = record { kind = frame-kind s; payload = frame ++ NUL ∷ [] }
-as-read s (copy c) = record { kind = frame-kind s; payload = c .what .frame ++ NUL ∷ [] }
-as-read s close = record { kind = close-kind s; payload = [] }
+abbrev pub as-read : ℕ → Emission → RecordRead
+as-read s (reply frame) = record { record-kind = frame-kind s; payload = frame ++ NUL ∷ [] }
+as-read s (copy c) = record { record-kind = frame-kind s; payload = c .what .frame ++ NUL ∷ [] }
+as-read s close = record { record-kind = close-kind s; payload = [] }
 
-abbrev pub record-of : Tagged Emission → Read
+abbrev pub record-of : Tagged Emission → RecordRead
 record-of x = as-read (x .who) (x .what)

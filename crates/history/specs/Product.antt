@@ -16,7 +16,7 @@ use Rattle.watch.specs.Marks.{Every, Demand3, InTime}
 use Rattle.controller.specs.Contract.{model-answer}
 use Rattle.controller.specs.Trace.{Made, lendings}
 use Rattle.history.specs.Turns.{Turn, turns, frames-to, times-out}
-use Rattle.history.specs.Output.{Read, read-output, frames-read, close-read}
+use Rattle.history.specs.Output.{RecordRead, read-output, frames-read, close-read}
 use Rattle.history.specs.Demand.{marks, FewFrames, ToldApart}
 
 -- ==== the turns of a history are its calls, their answers and the bytes that they wrote
@@ -26,7 +26,7 @@ pub record Shows (m : Made) (x : Turn) : Type 0 where
   pub answer : x .answer ≡ model-answer (m .answer)
   pub bytes : output (x .out) ≡ take (m .answer .written) (m .output-left)
   -- these bytes, read as house records to their end; and what is counted of the turn is what is read
-  pub records : List Read
+  pub records : List RecordRead
   pub read : read-output (take (m .answer .written) (m .output-left)) ≡ some records
   pub frames : (s : ℕ) → s < session-count → frames-to s x ≡ frames-read s records
   pub closes : (s : ℕ) → s < session-count → times-out s x ≡ close-read s records

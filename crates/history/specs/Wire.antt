@@ -16,21 +16,21 @@ use Rattle.model.specs.Wire.{Every, NoNUL, Framed, Answers, is-notice}
 use Rattle.controller.specs.Contract.{model-answer}
 use Rattle.controller.specs.Trace.{Made}
 use Rattle.history.specs.Turns.{Turn}
-use Rattle.history.specs.Reading.{run}
-use Rattle.history.specs.Output.{Read, read-output, frames-read}
+use Rattle.history.specs.Past.{run}
+use Rattle.history.specs.Output.{RecordRead, read-output, frames-read}
 
 -- ==== 01, "House records", output records
 
 -- a frame to session s, with its NUL, and the order to close it
-abbrev pub frame-read : ℕ → List ℕ → Read
-frame-read s frame = record { kind = frame-kind s; payload = frame ++ NUL ∷ [] }
+abbrev pub frame-read : ℕ → List ℕ → RecordRead
+frame-read s frame = record { record-kind = frame-kind s; payload = frame ++ NUL ∷ [] }
 
-abbrev pub order-read : ℕ → Read
-order-read s = record { kind = close-kind s; payload = [] }
+abbrev pub order-read : ℕ → RecordRead
+order-read s = record { record-kind = close-kind s; payload = [] }
 
 -- ==== 01, "Frames we write": each frame is read alike by its NUL and by its length
 
-pub data Whole : Read → Type 0 where
+pub data Whole : RecordRead → Type 0 where
   a-frame : (s : ℕ) (frame : List ℕ) → s < session-count → Framed frame → Whole (frame-read s frame)
   an-order : (s : ℕ) → s < session-count → Whole (order-read s)
 
@@ -55,20 +55,20 @@ pub record Completes (past : List Made) (m : Made) (s : ℕ) (x : Message) : Typ
   pub read : read-run (longer empty-run (run s (map asked past) ++ piece)) ≡ some x
 
 -- what is no reply: the frame of a notice, or the order to close a session
-pub data NoReply : Read → Type 0 where
+pub data NoReply : RecordRead → Type 0 where
   a-notice : (s : ℕ) (frame : List ℕ) → is-notice frame ≡ true → NoReply (frame-read s frame)
   to-close : (s : ℕ) → NoReply (order-read s)
 
-pub data Replies (past : List Made) (m : Made) : List Read → Type 0 where
-  none-replies : {rs : List Read} → Every NoReply rs → Replies past m rs
-  replies : {s : ℕ} {x : Message} {frame : List ℕ} {rs : List Read}
+pub data Replies (past : List Made) (m : Made) : List RecordRead → Type 0 where
+  none-replies : {rs : List RecordRead} → Every NoReply rs → Replies past m rs
+  replies : {s : ℕ} {x : Message} {frame : List ℕ} {rs : List RecordRead}
       → Completes past m s x → Answers x frame → Every NoReply rs → Replies past m (frame-read s frame ∷ rs)
 
 -- ==== a call, and a history
 
 -- the bytes that a call wrote, read as house records to their end
 pub record OnTheWire (past : List Made) (m : Made) : Type 0 where
-  pub records : List Read
+  pub records : List RecordRead
   pub read : read-output (take (m .answer .written) (m .output-left)) ≡ some records
   pub whole : Every Whole records
   pub replies : Replies past m records
@@ -99,17 +99,17 @@ abbrev pub by-length : List ℕ → List (List ℕ)
 by-length bs = count-off (length bs) bs
 
 -- the records that a call wrote, as they are read
-abbrev pub records-read : Option (List Read) → List Read
+abbrev pub records-read : Option (List RecordRead) → List RecordRead
 records-read none = []
 records-read (some rs) = rs
 
-abbrev pub records-of : Made → List Read
+abbrev pub records-of : Made → List RecordRead
 records-of m = records-read (read-output (take (m .answer .written) (m .output-left)))
 
 -- the bytes that a history sends to session s, and its frames
-abbrev pub payloads-to : ℕ → List Read → List ℕ
+abbrev pub payloads-to : ℕ → List RecordRead → List ℕ
 payloads-to s [] = []
-payloads-to s (r ∷ rs) = let more = payloads-to s rs in cond (eqb (r .kind) (frame-kind s)) (r .payload ++ more) more
+payloads-to s (r ∷ rs) = let more = payloads-to s rs in cond (eqb (r .record-kind) (frame-kind s)) (r .payload ++ more) more
 
 abbrev pub bytes-to : ℕ → List Made → List ℕ
 bytes-to s [] = []

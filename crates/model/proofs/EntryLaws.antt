@@ -39,13 +39,13 @@ the-table-is-sound = refl
 
 -- ==== its law
 
-pub record Sound (mid : ℕ) (e : Entry) : Type 0 where
+pub record SoundEntry (mid : ℕ) (e : Entry) : Type 0 where
   pub number : e .mid ≡ mid
   pub four-digits : decimal (digits 4 mid) ≡ mid
   pub not-ours : is-ours mid ≡ false
   pub by-length : (gets-reply (e .effect) || has-length-only e) ≡ true
 
-sound-so : (mid : ℕ) (e : Entry) → e .mid ≡ mid → sound e ≡ true → Sound mid e
+sound-so : (mid : ℕ) (e : Entry) → e .mid ≡ mid → sound e ≡ true → SoundEntry mid e
 sound-so mid e n h =
     let four = eqb (decimal (digits 4 (e .mid))) (e .mid) in
     let more = gets-reply (e .effect) || has-length-only e in
@@ -59,5 +59,5 @@ sound-so mid e n h =
       by-length = a .1;
     }
 
-pub entry-sound : (mid : ℕ) (e : Entry) → entry-of mid ≡ some e → Sound mid e
+pub entry-sound : (mid : ℕ) (e : Entry) → entry-of mid ≡ some e → SoundEntry mid e
 entry-sound mid e q = let s = entry-at sound the-table-is-sound mid e q in sound-so mid e (s .0) (s .1)

@@ -383,12 +383,12 @@ does-erased w (tool slice) =
     rw (reported-erased (w .shared) t, taken-erased (w .sessions) (option-map (reported (w .shared)) t))
 
 -- two outcomes of a call: the same world but for the numbers, the same answer, the same bytes
-pub record Same (q r : World × Answer × List (Tagged Emission)) : Type 0 where
+pub record SameButNumbers (q r : World × Answer × List (Tagged Emission)) : Type 0 where
   pub world : uncounted (q .0) ≡ erase-world (r .0)
   pub answer : q .1 ≡ r .1
   pub bytes : output (q .2) ≡ output (r .2)
 
-answered-erased : (w : World) (c : Call) (n : ℕ) → Same (answered (erase-world w) c n) (answered w c n)
+answered-erased : (w : World) (c : Call) (n : ℕ) → SameButNumbers (answered (erase-world w) c n) (answered w c n)
 answered-erased w c zero =
     let a = alike w c in
     record {
@@ -399,7 +399,7 @@ answered-erased w c zero =
 answered-erased w c (suc n) = record { world = refl; answer = refl; bytes = refl }
 
 -- A CALL, with the numbers of events and without
-pub step-without-numbers : (l : Lent) (w : World) (c : Call) → Same (step l (erase-world w) c) (step l w c)
+pub step-without-numbers : (l : Lent) (w : World) (c : Call) → SameButNumbers (step l (erase-world w) c) (step l w c)
 unfolding step refusal
 step-without-numbers l w c = rw (does-erased w c) (answered-erased w c (refusal l w c))
 

@@ -70,6 +70,10 @@ is-tightening none = false
 is-tightening (some (scanned x)) = false
 is-tightening (some (tightening x t)) = true
 
+-- what was read of a tool record's slice, and the last number
+abbrev pub tool-tests : Option Tool → ℕ → List (Test ℕ)
+tool-tests t last = is-none t gives 7 ∷ cond (is-tightening t) (eqb last number-greatest) false gives 8 ∷ []
+
 -- ==== who takes an event
 
 -- 2^s for each session that takes an event of that kind, added up; s is the number of the first in the list
@@ -117,7 +121,7 @@ does w (tool slice) =
     let t = read-tool slice in
     let e = option-map (reported (w .shared)) t in
     record {
-      asks = asks-both (is-none t gives 7 ∷ cond (is-tightening t) (eqb (w .shared .last) number-greatest) false gives 8 ∷ []);
+      asks = asks-both (tool-tests t (w .shared .last));
       moment = none;
       event = e;
       consumed = 0;

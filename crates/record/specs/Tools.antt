@@ -4,15 +4,15 @@ use mathlib.Core.Bool.{Bool, cond}
 use mathlib.Core.List.{List}
 use mathlib.Core.Option.{Option, none, some}
 use Rattle.model.specs.Records.{payload, Settings, settings-of, identifier-in, tightening-of, Tool, scanned, tightening}
-use Rattle.record.specs.declared.Kind.{Kind}
-use Rattle.record.specs.declared.Kind.the-variants.{Bad, Tightening, Scanned}
+use Rattle.record.specs.declared.RecordKind.{RecordKind}
+use Rattle.record.specs.declared.RecordKind.the-variants.{Bad, Tightening, Scanned}
 
 -- the settings in a slice that is a good settings record
 abbrev pub settings-in : Bool → List ℕ → Option Settings
 settings-in good slice = cond good (some (settings-of (payload slice))) none
 
 -- the tool record in a slice of that kind
-abbrev pub tool-in : Kind → List ℕ → Option Tool
+abbrev pub tool-in : RecordKind → List ℕ → Option Tool
 tool-in Bad slice = none
 tool-in Tightening slice = some (tightening (identifier-in (payload slice)) (tightening-of (payload slice)))
 tool-in Scanned slice = some (scanned (payload slice))

@@ -183,22 +183,22 @@ pub fn is_settings(slice: &[u8]) -> bool
 }
 
 // What a slice is to the call that takes tool records.
-pub enum Kind {
+pub enum RecordKind {
     Bad,
     Tightening,
     Scanned,
 }
 
-pub fn tool_kind(slice: &[u8]) -> Kind
+pub fn tool_kind(slice: &[u8]) -> RecordKind
     ensures { λ r. ⌜ tool-in r (now (slice .entry)) ≡ read-tool (now (slice .entry)) ⌝ }
 {
     if good_record(slice, TIGHTENING_KIND, TIGHTENING_LENGTH, &TIGHTENING) {
-        return Kind::Tightening;
+        return RecordKind::Tightening;
     }
     if good_record(slice, SCANNED_KIND, IDENTIFIER_LENGTH, &SCANNED) {
-        return Kind::Scanned;
+        return RecordKind::Scanned;
     }
-    Kind::Bad
+    RecordKind::Bad
 }
 
 // ---- which identifier is meant: the tool's own, or the one in force where that is all spaces; one of the two, as it stands

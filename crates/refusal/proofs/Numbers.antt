@@ -15,13 +15,13 @@ use Rattle.model.specs.Records.{payload, Item, is-record, payload-length, parts
 use Rattle.model.specs.Records.{settings-kind, settings-items, settings-length, read-settings, read-tool}
 use Rattle.model.specs.Session.{is-closed}
 use Rattle.model.specs.World.{session-at}
-use Rattle.model.specs.Calls.{start, open-session, hang-up-session, bytes, one-tick, tool, asks-both, refusal, is-none}
+use Rattle.model.specs.Calls.{start, open-session, hang-up-session, bytes, one-tick, tool, asks-both, refusal, is-none, tool-tests}
 use Rattle.model.specs.Calls as model
 use Rattle.table.specs.Table.{decode, table-formed, Table}
-use Rattle.record.specs.declared.Kind.{Kind}
-use Rattle.record.specs.declared.Kind.the-variants.{Bad, Tightening, Scanned}
+use Rattle.record.specs.declared.RecordKind.{RecordKind}
+use Rattle.record.specs.declared.RecordKind.the-variants.{Bad, Tightening, Scanned}
 use Rattle.record.specs.Tools.{settings-in, tool-in}
-use Rattle.refusal.specs.Numbers.{lent, number, is-bad, is-tightening, tool-number}
+use Rattle.refusal.specs.Numbers.{lent, number, tool-number}
 
 -- the tests of what is lent, and the number of the others
 abbrev tests : Bool → Bool → Bool → ℕ → ℕ
@@ -87,17 +87,17 @@ open-own t s = leb session-count s gives 4 ∷ not (is-closed (session-at (decod
 abbrev pub hang-up-own : List ℕ → ℕ → List (Test ℕ)
 hang-up-own t s = leb session-count s gives 4 ∷ is-closed (session-at (decode t) s) gives 5 ∷ []
 
-abbrev pub tool-own : List ℕ → Kind → List (Test ℕ)
-tool-own t kind = is-bad kind gives 7 ∷ cond (is-tightening kind) (eqb (decode t .shared .last) number-greatest) false gives 8 ∷ []
+abbrev pub tool-own : List ℕ → RecordKind → List (Test ℕ)
+tool-own t record-kind = tool-tests (tool-in record-kind []) (decode t .shared .last)
 
 -- ==== records
 
 -- how long the payload of a good record is
-pub good-length : (kind : ℕ) (es : List Item) (slice : List ℕ) → good-record kind es slice ≡ true
+pub good-length : (record-kind : ℕ) (es : List Item) (slice : List ℕ) → good-record record-kind es slice ≡ true
     → length (payload slice) ≡ payload-length es
 unfolding good-record good-payload
-good-length kind es slice e =
-    let p = and-eq-true-iff (is-record kind slice) (good-payload es (payload slice)) .0 e in
+good-length record-kind es slice e =
+    let p = and-eq-true-iff (is-record record-kind slice) (good-payload es (payload slice)) .0 e in
     eqb-true _ _ (and-eq-true-iff (eqb (length (payload slice)) (payload-length es)) (good-parts es (parts es (payload slice))) .0
     (p .1) .0)
 
@@ -107,25 +107,25 @@ bad-settings true slice e = rw (sym e)
 bad-settings false slice e = rw (sym e)
 
 -- a tool record of that kind
-pub tool-refused : (t : List ℕ) (n : ℕ) (kind : Kind) (slice : List ℕ) → tool-in kind slice ≡ read-tool slice
-    → tool-number t n kind ≡ number t n (tool slice)
+pub tool-refused : (t : List ℕ) (n : ℕ) (record-kind : RecordKind) (slice : List ℕ) → tool-in record-kind slice ≡ read-tool slice
+    → tool-number t n record-kind ≡ number t n (tool slice)
 unfolding refusal tool-number
 tool-refused t n Bad slice e = rw (sym e)
 tool-refused t n Tightening slice e = rw (sym e)
 tool-refused t n Scanned slice e = rw (sym e)
 
-module _ (t : List ℕ) {kind : Kind} where
-  pub a-bad-one : kind ≡ Bad → 7 ≡ first 0 (tool-own t kind)
-  a-bad-one e = ap (λ (k : Kind). first 0 (tool-own t k)) (sym e)
+module _ (t : List ℕ) {record-kind : RecordKind} where
+  pub a-bad-one : record-kind ≡ Bad → 7 ≡ first 0 (tool-own t record-kind)
+  a-bad-one e = ap (λ (k : RecordKind). first 0 (tool-own t k)) (sym e)
 
-  pub a-scan : kind ≡ Scanned → 0 ≡ first 0 (tool-own t kind)
-  a-scan e = ap (λ (k : Kind). first 0 (tool-own t k)) (sym e)
+  pub a-scan : record-kind ≡ Scanned → 0 ≡ first 0 (tool-own t record-kind)
+  a-scan e = ap (λ (k : RecordKind). first 0 (tool-own t k)) (sym e)
 
-  pub last-one : kind ≡ Tightening → decode t .shared .last ≡ number-greatest → 8 ≡ first 0 (tool-own t kind)
-  last-one e h = ap (λ (b : Bool). cond b 8 0) (sym (eq-eqb _ _ h)) ∙ ap (λ (k : Kind). first 0 (tool-own t k)) (sym e)
+  pub last-one : record-kind ≡ Tightening → decode t .shared .last ≡ number-greatest → 8 ≡ first 0 (tool-own t record-kind)
+  last-one e h = ap (λ (b : Bool). cond b 8 0) (sym (eq-eqb _ _ h)) ∙ ap (λ (k : RecordKind). first 0 (tool-own t k)) (sym e)
 
-  pub one-more : kind ≡ Tightening → (decode t .shared .last ≡ number-greatest → ⊥) → 0 ≡ first 0 (tool-own t kind)
-  one-more e h = ap (λ (b : Bool). cond b 8 0) (sym (ne-eqb _ _ h)) ∙ ap (λ (k : Kind). first 0 (tool-own t k)) (sym e)
+  pub one-more : record-kind ≡ Tightening → (decode t .shared .last ≡ number-greatest → ⊥) → 0 ≡ first 0 (tool-own t record-kind)
+  one-more e h = ap (λ (b : Bool). cond b 8 0) (sym (ne-eqb _ _ h)) ∙ ap (λ (k : RecordKind). first 0 (tool-own t k)) (sym e)
 
 -- received bytes are refused as a hang-up is
 pub bytes-refused : (t : List ℕ) (n s : ℕ) (bs : List ℕ) → number t n (hang-up-session s) ≡ number t n (bytes s bs)
@@ -159,11 +159,11 @@ module _ (t : List ℕ) (n s : ℕ) where
       (is-ready t n (p .0), q .0, q .1)
 
 -- a tool record that is not bad, and a number for a tightening
-pub tool-passes : (t : List ℕ) (n : ℕ) (kind : Kind) → tool-number t n kind ≡ 0
-    → Ready t n × (kind ≡ Bad → ⊥) × (kind ≡ Tightening → decode t .shared .last ≡ number-greatest → ⊥)
+pub tool-passes : (t : List ℕ) (n : ℕ) (record-kind : RecordKind) → tool-number t n record-kind ≡ 0
+    → Ready t n × (record-kind ≡ Bad → ⊥) × (record-kind ≡ Tightening → decode t .shared .last ≡ number-greatest → ⊥)
 unfolding tool-number
-tool-passes t n kind e =
-    let p = none-applies t n (tool-own t kind) e in
+tool-passes t n record-kind e =
+    let p = none-applies t n (tool-own t record-kind) e in
     (is-ready t n (p .0), λ b. nonzero 6 (a-bad-one t b ∙ p .1), λ k h. nonzero 7 (last-one t k h ∙ p .1))
   where
     nonzero : (k : ℕ) → suc k ≡ 0 → ⊥
@@ -173,8 +173,7 @@ tool-passes t n kind e =
 pub tool-ready : (t : List ℕ) (n : ℕ) (slice : List ℕ) → number t n (tool slice) ≡ 0 → Ready t n
 unfolding refusal
 tool-ready t n slice e =
-    is-ready t n (none-applies t n (is-none (read-tool slice) gives 7 ∷ cond (model.is-tightening (read-tool slice))
-    (eqb (decode t .shared .last) number-greatest) false gives 8 ∷ []) e .0)
+    is-ready t n (none-applies t n (tool-tests (read-tool slice) (decode t .shared .last)) e .0)
 
 -- good settings, and a table that is long enough
 pub start-passes : (t slice : List ℕ) → number t 0 (start slice) ≡ 0

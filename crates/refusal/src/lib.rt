@@ -11,7 +11,7 @@ use model::NUMBER_GREATEST;
 use model::OUTPUT_LEAST;
 use model::SESSION_COUNT;
 use model::TABLE_LEAST;
-use record::Kind;
+use record::RecordKind;
 
 // A start asks nothing of the table but its length, and for no output.
 pub fn start(table: &[u8], settings: &[u8]) -> u64
@@ -76,21 +76,21 @@ pub fn hang_up(table: &[u8], output: usize, session: u64) -> u64
 }
 
 // A tool record of that kind.
-pub fn tool_record(table: &[u8], output: usize, kind: Kind) -> u64
-    ensures { λ r. ⌜ r ≡ tool-number (now (table .entry)) «output» kind ⌝ }
+pub fn tool_record(table: &[u8], output: usize, record_kind: RecordKind) -> u64
+    ensures { λ r. ⌜ r ≡ tool-number (now (table .entry)) «output» «record_kind» ⌝ }
 {
     let n = tick(table, output);
     if n != 0 {
         return n;
     }
-    match kind {
-        Kind::Bad => 7,
-        Kind::Tightening => {
+    match record_kind {
+        RecordKind::Bad => 7,
+        RecordKind::Tightening => {
             if table::last(table) == NUMBER_GREATEST {
                 return 8;
             }
             0
         }
-        Kind::Scanned => 0,
+        RecordKind::Scanned => 0,
     }
 }

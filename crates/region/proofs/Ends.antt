@@ -30,7 +30,7 @@ use Rattle.message.specs.declared.Standing.{Standing}
 use Rattle.frame.specs.Header.{header-of}
 use Rattle.session.specs.Meaning.{deed-of, session-as}
 use Rattle.session.specs.Control.{cleared}
-use Rattle.session.specs.Effects.{standing-in, decision-on, carried, carried-out, replies, announced}
+use Rattle.session.specs.Effects.{standing-in, decision-on, dealt-by, carried-out, replies, announced}
 use Rattle.session.specs.declared.Phase.{Phase}
 use Rattle.session.specs.declared.Phase.the-variants.{Closed, Opened, Started}
 use Rattle.session.specs.declared.Session.{Session}

@@ -16,25 +16,25 @@ use Rattle.model.specs.Row.{Tagged, tag, row, said}
 use Rattle.model.proofs.RowLaws.{row-alone}
 use Rattle.lane.specs.Lane.{open-one, any}
 use Rattle.lane.proofs.Sayings.{Quiet, after, told}
-use Rattle.region.specs.Said.{copies, due-copy, due-copies, Ready, AllReady, acting, dues}
+use Rattle.region.specs.Said.{copies-out, due-copy, due-copies, Ready, AllReady, acting, dues}
 
 -- ==== one subscription: lane's laws, of what goes out
 
 tagged : (st : Settings) (kind : ℕ) (b : Bool) (x : Subscription) (ns : List Notice)
-    → map copy (tag kind (cond b (copies-to st x ns) [])) ≡ cond b (copies st kind x ns) []
+    → map copy (tag kind (cond b (copies-to st x ns) [])) ≡ cond b (copies-out st kind x ns) []
 tagged st kind true x ns = refl
 tagged st kind false x ns = refl
 
 -- whatever the deed, save for an event, what is sent is a copy of the one that is open afterwards
 pub sent : (room : Room) (deed : Deed) (x : Subscription) → Quiet deed → (st : Settings) (kind : ℕ)
-    → let y = act room deed x in copies st kind x (y .1) ≡ due-copy st kind (any (y .1)) (y .0)
+    → let y = act room deed x in copies-out st kind x (y .1) ≡ due-copy st kind (any (y .1)) (y .0)
 sent room deed x q st kind =
     let y = act room deed x in
     ap (λ (cs : List Copy). map copy (tag kind cs)) (after room deed x q .copies st) ∙ tagged st kind (any (y .1)) (y .0) (open-one (y .0))
 
 -- an event is sent itself, to one that is subscribed as it is afterwards
 pub sent-itself : (room : Room) (n : Notice) (x : Subscription) (st : Settings) (kind : ℕ)
-    → let y = act room (news n) x in copies st kind x (y .1) ≡ cond (any (y .1)) (copies st kind (y .0) (n ∷ [])) []
+    → let y = act room (news n) x in copies-out st kind x (y .1) ≡ cond (any (y .1)) (copies-out st kind (y .0) (n ∷ [])) []
 sent-itself room n x st kind =
     let y = act room (news n) x in
     ap (λ (cs : List Copy). map copy (tag kind cs)) (told room n x .copies st) ∙ tagged st kind (any (y .1)) (y .0) (n ∷ [])
@@ -89,7 +89,7 @@ module _ (kind : ℕ) (deed : Deed) (xs : List Subscription) (few : kind < lengt
       row-alone (deal st (only kind deed)) kind passed xs unsubscribed few .0
       ∙ ap (λ (q : Subscription × List Copy). set xs kind (q .0)) here
 
-  pub said-one : map copy (said (deal st (only kind deed)) 0 xs) ≡ copies st kind x (y .1)
+  pub said-one : map copy (said (deal st (only kind deed)) 0 xs) ≡ copies-out st kind x (y .1)
   said-one =
       ap (map copy) (row-alone (deal st (only kind deed)) kind passed xs unsubscribed few .1
       ∙ ap (λ (q : Subscription × List Copy). tag kind (q .1)) here)

@@ -37,7 +37,7 @@ use Rattle.lane.specs.Lane.{any}
 use Rattle.lane.specs.declared.Told.{Told}
 use Rattle.lane.proofs.Sayings.{told}
 use Rattle.region.specs.Region.{head-area, run-area, subscriptions-in, subscription-in, session-of, meaning, Good, Becomes, Changes}
-use Rattle.region.specs.Said.{copies, due-copies, acting, dues, AllReady, DealtTo, DealtToAll, TickStays, tick-said, Ticks}
+use Rattle.region.specs.Said.{copies-out, due-copies, acting, dues, AllReady, DealtTo, DealtToAll, TickStays, tick-said, Ticks}
 use Rattle.region.specs.Said.{event-said, Takes}
 use Rattle.region.specs.declared.Ticked.{Ticked}
 use Rattle.region.proofs.Areas.{length-subscriptions, subscription-at, there, means}
@@ -201,5 +201,5 @@ module _ (kind : ℕ) (p r : List ℕ) (few : kind < length kinds) (x : Session)
             ∙ ap₂ (λ (m : model.Session) (es : List Emission). (m, es))
             (ap (started (x .idle) (run-of (run-area r))) (row-one kind (news n) xs fits st) ∙ sym after)
             (said-one kind (news n) xs fits st ∙ sent-itself (room-of kind) n s st kind
-            ∙ ap₂ (λ (b : Bool) (z : Subscription). cond b (copies st kind z (n ∷ [])) []) (sym tell) (sym now-is));
+            ∙ ap₂ (λ (b : Bool) (z : Subscription). cond b (copies-out st kind z (n ∷ [])) []) (sym tell) (sym now-is));
       }

@@ -22,7 +22,7 @@ use Rattle.frame.specs.Header.{header-of}
 use Rattle.frame.specs.Places.{event-in, notice-in}
 use Rattle.message.specs.declared.Standing.{Standing}
 use Rattle.session.specs.Decisions.{is-started, decision}
-use Rattle.session.specs.Effects.{ticked-so, carried, replies, announced}
+use Rattle.session.specs.Effects.{ticked-so, dealt-by, replies, announced}
 use Rattle.session.specs.declared.Idling.the-variants.{Stays}
 use Rattle.session.specs.declared.Session.{Session}
 use Rattle.session.specs.declared.Decision.{Decision}
@@ -39,12 +39,12 @@ use Rattle.lane.specs.declared.Told.{Told}
 -- ==== copies
 
 -- of these notices, to one that is subscribed to the kind so
-abbrev pub copies : Settings → ℕ → Subscription → List Notice → List Emission
-copies st kind x ns = map copy (tag kind (copies-to st x ns))
+abbrev pub copies-out : Settings → ℕ → Subscription → List Notice → List Emission
+copies-out st kind x ns = map copy (tag kind (copies-to st x ns))
 
 -- of the open notice, where one is due
 abbrev pub due-copy : Settings → ℕ → Bool → Subscription → List Emission
-due-copy st kind due x = cond due (copies st kind x (open-one x)) []
+due-copy st kind due x = cond due (copies-out st kind x (open-one x)) []
 
 -- of each kind from that one on, in order
 abbrev pub due-copies : Settings → ℕ → List Bool → List Subscription → List Emission
@@ -103,7 +103,7 @@ pub record Ticks (r : List ℕ) (t : Ticked) (r′ : List ℕ) : Type 0 where
 -- ==== an event of that kind, whose notice is in the place p
 
 abbrev pub event-said : Settings → ℕ → List ℕ → Told → List ℕ → List Emission
-event-said st kind p told r = cond (told .tell) (copies st kind (subscription-in kind r) (notice-in kind p ∷ [])) []
+event-said st kind p told r = cond (told .tell) (copies-out st kind (subscription-in kind r) (notice-in kind p ∷ [])) []
 
 pub record Takes (kind : ℕ) (p r : List ℕ) (told : Told) (r′ : List ℕ) : Type 0 where
   pub good : Good r′
@@ -149,7 +149,7 @@ pub record CarriesOut (d : Decision) (r : List ℕ) (sends : Bool) (r′ : List 
   pub bytes : run-bytes r′ ≡ run-bytes r
   pub ready : Ready sends (subscription-in (d .kind) r′)
   pub carries : (st : Settings)
-      → carried st d (subscriptions-in r) ≡ (session-of r′, due-copy st (d .kind) sends (subscription-in (d .kind) r′))
+      → dealt-by st d (subscriptions-in r) ≡ (session-of r′, due-copy st (d .kind) sends (subscription-in (d .kind) r′))
 
 -- what is left to say
 abbrev pub ended-by : Decision → Bool → Bool → Ended

@@ -7,4 +7,4 @@ pub mod Called
 pub mod Fed
 pub mod Uncut
 pub mod Records
-pub mod Reading
+pub mod Input

@@ -9,7 +9,7 @@ use Rattle.model.specs.Calls.{Call}
 use Rattle.table.specs.Table.{table-used, decode}
 use Rattle.serifladder.specs.Export.{Exported}
 
-pub record Same (r : ℕ) (t o a : List ℕ) (r₂ : ℕ) (t₂ o₂ a₂ : List ℕ) : Type 0 where
+pub record SameExport (r : ℕ) (t o a : List ℕ) (r₂ : ℕ) (t₂ o₂ a₂ : List ℕ) : Type 0 where
   pub number : r ≡ r₂
   pub meaning : decode t ≡ decode t₂
   pub answer : a ≡ a₂
@@ -19,7 +19,7 @@ pub record Same (r : ℕ) (t o a : List ℕ) (r₂ : ℕ) (t₂ o₂ a₂ : List
   pub kept : (r ≡ 0 → ⊥) → t ≡ t₂
 
 pub determined : {c : Call} {t o a : List ℕ} {r r₂ : ℕ} {t′ o′ a′ t₂ o₂ a₂ : List ℕ}
-    → Exported c t o a r t′ o′ a′ → Exported c t o a r₂ t₂ o₂ a₂ → Same r t′ o′ a′ r₂ t₂ o₂ a₂
+    → Exported c t o a r t′ o′ a′ → Exported c t o a r₂ t₂ o₂ a₂ → SameExport r t′ o′ a′ r₂ t₂ o₂ a₂
 determined {r = r} {r₂ = r₂} x y =
     let e : r ≡ r₂ = x .number ∙ sym (y .number) in
     record {

@@ -21,7 +21,7 @@ use Rattle.message.specs.declared.Standing.{Standing}
 use Rattle.frame.specs.Header.{shown, header-of}
 use Rattle.frame.specs.declared.Header.{Header}
 use Rattle.frame.specs.declared.Header.the-variants.{Dropped, Message}
-use Rattle.frame.proofs.Headers.{sound}
+use Rattle.frame.proofs.Headers.{header-sound}
 use Rattle.session.specs.Decisions.{replied, start, no-error, accepted, decided, decision}
 use Rattle.session.specs.Effects.{decision-on}
 use Rattle.session.specs.declared.Phase.{Phase}
@@ -119,7 +119,7 @@ module _ (x : Session) (standing : Standing) (r : Run) where
       → header-length ≤ length (r .kept)
   unfolding decision
   whole-if false e q = absurd (let z : _≡_ {A = ℕ} 0 1 = cc in omega arith)
-  whole-if true e q = sound (r .kept) (r .count) e .whole
+  whole-if true e q = header-sound (r .kept) (r .count) e .whole
 
   pub mirrored-whole : decision-on x standing r .reply ≡ Mirrored → header-length ≤ length (r .kept)
   unfolding header-of read-run

@@ -87,16 +87,14 @@ holding x clock held = subscription (x .form) (x .revision) clock held
 abbrev pub next-goes-out : Subscription → Step
 next-goes-out x = cond (eqb (x .held) 0) (still x) (step (holding x 0 (x .held - 1)) true (ltb 1 (x .held)))
 
-abbrev pub by-beat : Subscription → Beat → Step
-by-beat x (Runs clock) = step (holding x clock (x .held)) false false
-by-beat x (Copy clock) = step (holding x clock (x .held)) false true
-by-beat x GivenUp = next-goes-out x
-
--- the same, over what a clock that is lent leaves
+-- by where its clock has come, and what it is time for
 abbrev pub step-at : Subscription → ℕ → Due → Step
 step-at x clock due.Nothing = step (holding x clock (x .held)) false false
 step-at x clock due.Copy = step (holding x clock (x .held)) false true
 step-at x clock due.GivenUp = next-goes-out x
+
+abbrev pub by-beat : Subscription → Beat → Step
+by-beat x b = step-at x (clock-after b .ticks) (due-by b)
 
 abbrev pub ticked-from : Form → Subscription → Step
 ticked-from form.Not x = still x

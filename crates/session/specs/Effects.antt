@@ -57,8 +57,8 @@ abbrev pub decision-on : Session → Standing → Run → Decision
 decision-on x standing r = decision x standing (header-of (r .kept) (r .count)) (drop header-length (r .kept))
 
 -- the session after it, and the copies that it sends: one that begins is subscribed to nothing, and the deed is done to one kind
-abbrev pub carried : Settings → Decision → List Subscription → model.Session × List Emission
-carried st d subs =
+abbrev pub dealt-by : Settings → Decision → List Subscription → model.Session × List Emission
+dealt-by st d subs =
     let held = cond (d .begins) no-subscriptions subs in
     let deeds = only (d .kind) (deed-of (d .deed)) in
     (session-as (d .next .phase) (d .next .idle) empty-run (row (deal st deeds) 0 held), map copy (said (deal st deeds) 0 held))
@@ -73,7 +73,7 @@ replies st header by-value.Mirrored = reply header ∷ []
 
 -- the reply comes first
 abbrev pub carried-out : Settings → List ℕ → Decision → List Subscription → model.Session × List Emission
-carried-out st header d subs = let c = carried st d subs in (c .0, replies st header (d .reply) ++ c .1)
+carried-out st header d subs = let c = dealt-by st d subs in (c .0, replies st header (d .reply) ++ c .1)
 
 -- the identifier that is made known, if the decision does that
 abbrev pub announced : Bool → List ℕ → Option (List ℕ)

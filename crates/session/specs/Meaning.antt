@@ -28,14 +28,14 @@ use Rattle.session.specs.declared.Taken.{Taken}
 -- ==== 01, "Notices and the clock": a subscription, and what it holds
 
 -- the first notice is open, and the clock is its
-abbrev pub queue-in : ℕ → List Notice → Pending
-queue-in clock [] = empty
-queue-in clock (n ∷ ns) = busy n clock ns
+abbrev pub pending-in : ℕ → List Notice → Pending
+pending-in clock [] = empty
+pending-in clock (n ∷ ns) = busy n clock ns
 
 abbrev pub subscription-as : Form → ℕ → ℕ → List Notice → model.Subscription
 subscription-as form.Not revision clock ns = unsubscribed
 subscription-as form.Plain revision clock ns = plain revision
-subscription-as form.Acknowledged revision clock ns = acked revision (queue-in clock ns)
+subscription-as form.Acknowledged revision clock ns = acked revision (pending-in clock ns)
 
 abbrev pub subscription-in : Subscription → List Notice → model.Subscription
 subscription-in x ns = subscription-as (x .form) (x .revision) (x .clock) ns

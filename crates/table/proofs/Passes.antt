@@ -21,7 +21,7 @@ use Rattle.frame.specs.declared.To.{To}
 use Rattle.session.specs.Effects.{out-bytes}
 use Rattle.lane.specs.declared.Told as lane
 use Rattle.region.specs.Region.{subscriptions-in, subscription-in, session-of, Good}
-use Rattle.region.specs.Said.{copies, due-copies, AllReady, Ticks, tick-said, Takes, event-said}
+use Rattle.region.specs.Said.{copies-out, due-copies, AllReady, Ticks, tick-said, Takes, event-said}
 use Rattle.region.specs.declared.Ticked.{Ticked}
 use Rattle.table.specs.Table.{region-in, decode, settings-in, Table, Went}
 use Rattle.table.specs.Says.{Lent, Wrote, CopyLent, DueLent}
@@ -104,7 +104,7 @@ module _ (t o : List ℕ) (to : To) (kind : ℕ) (p : List ℕ) (e : EventLent t
   }
 
   pub told-one-sent : told .tell ≡ true → (next : ℕ) (o′ : List ℕ)
-      → Wrote most (copies (settings-in (put t (to .session) r)) kind (subscription-in kind
+      → Wrote most (copies-out (settings-in (put t (to .session) r)) kind (subscription-in kind
       (region-in (to .session) (put t (to .session) r)))
       (notice-in kind p ∷ [])) to o next o′
       → TellsOne t o to kind p (record { at = next; taken = told .taken }) (put t (to .session) r) o′
@@ -115,10 +115,11 @@ module _ (t o : List ℕ) (to : To) (kind : ℕ) (p : List ℕ) (e : EventLent t
         (event-said (settings-in t) kind p told r)
         (w .good) event-steps
         (put-as
-        (ap (out-bytes (to .session)) (ap₂ (λ (st : Settings) (z : List ℕ). copies st kind (subscription-in kind z) (notice-in kind p ∷ []))
+        (ap (out-bytes (to .session))
+        (ap₂ (λ (st : Settings) (z : List ℕ). copies-out st kind (subscription-in kind z) (notice-in kind p ∷ []))
         (same-settings t o to most (e .lent) r (w .good)) (there t o to most (e .lent) r (w .good)))
-        ∙ ap (λ (c : Bool). out-bytes (to .session) (cond c (copies (settings-in t) kind (subscription-in kind r) (notice-in kind p ∷ []))
-        []))
+        ∙ ap (λ (c : Bool). out-bytes (to .session)
+        (cond c (copies-out (settings-in t) kind (subscription-in kind r) (notice-in kind p ∷ [])) []))
         (sym b)) (v .bytes));
   }
 
@@ -130,7 +131,7 @@ module _ (t o : List ℕ) (to : To) (kind : ℕ) (p : List ℕ) (e : EventLent t
     went = went-alone t (to .session) (event (event-in kind p)) (e .lent .table) (e .lent .session)
         (event-said (settings-in t) kind p told r)
         (w .good) event-steps
-        (put-as (ap (λ (c : Bool). out-bytes (to .session) (cond c (copies (settings-in t) kind (subscription-in kind r)
+        (put-as (ap (λ (c : Bool). out-bytes (to .session) (cond c (copies-out (settings-in t) kind (subscription-in kind r)
         (notice-in kind p ∷ [])) []))
         (sym b)) (put-nothing o (to .at)));
   }

@@ -27,7 +27,7 @@ use Rattle.lane.specs.Lane.{is-plain, control-of, first-in, lane-of, open-one, 
 use Rattle.lane.proofs.KindLaws.{kind-fits}
 use Rattle.lane.proofs.Lanes.{first-fits}
 use Rattle.lane.proofs.Sayings.{tell-said, open-there, open-first}
-use Rattle.region.specs.Said.{copies, due-copy, due-copies, Ready, AllReady}
+use Rattle.region.specs.Said.{copies-out, due-copy, due-copies, Ready, AllReady}
 
 -- ==== a copy
 
@@ -41,7 +41,7 @@ module _ (st : Settings) (s kind : ℕ) (l : List ℕ) where
   pub copy-said : (x : control.Subscription) (b : Bool) (p : List ℕ) → x ≡ control-of l → b ≡ is-plain (x .form)
       → is-subscribed (lane-of kind l) ≡ true
       → frame-record s (event-frame st (x .revision) b (event-in kind p))
-      ≡ out-bytes s (copies st kind (lane-of kind l) (notice-in kind p ∷ []))
+      ≡ out-bytes s (copies-out st kind (lane-of kind l) (notice-in kind p ∷ []))
   copy-said x b p ex eb h =
       ap (λ (c : Bool). frame-record s (event-frame st (x .revision) c (event-in kind p))) eb
       ∙ ap (λ (z : control.Subscription). frame-record s (event-frame st (z .revision) (is-plain (z .form)) (event-in kind p))) ex
@@ -53,8 +53,8 @@ module _ (st : Settings) (s kind : ℕ) (l : List ℕ) where
     open-subscribed = ap is-subscribed (open-there (notice-in kind) kind l ready)
 
     -- the open notice is in the first place
-    pub open-copied : copies st kind (lane-of kind l) (notice-in kind (first-in kind l) ∷ []) ≡ due-copy st kind true (lane-of kind l)
-    open-copied = ap (copies st kind (lane-of kind l)) (sym (open-first (notice-in kind) kind l ready))
+    pub open-copied : copies-out st kind (lane-of kind l) (notice-in kind (first-in kind l) ∷ []) ≡ due-copy st kind true (lane-of kind l)
+    open-copied = ap (copies-out st kind (lane-of kind l)) (sym (open-first (notice-in kind) kind l ready))
 
 -- ==== a copy of each kind that is due
 

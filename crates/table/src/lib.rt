@@ -14,7 +14,7 @@ ghost use Rattle.model.specs.World.{session-at, begun, uncounted, to as to-one,
 ghost use Rattle.frame.specs.Places.{place-size, event-in, notice-in};
 ghost use Rattle.run.specs.Area.{Ends};
 ghost use Rattle.lane.specs.Lane.{is-plain as is-plain-so};
-ghost use Rattle.region.specs.Said.{copies, due-copy, due-copies, ending, end-said};
+ghost use Rattle.region.specs.Said.{copies-out, due-copy, due-copies, ending, end-said};
 ghost use Rattle.shared.specs.Shared.{settings-part};
 ghost use Rattle.table.specs.Table.{shared-area, region-in, decode, settings-in, table-formed, Table, Becomes, noted, Went};
 ghost use Rattle.table.specs.Says.{Lent, Wrote, CopyLent, OpenLent, DueLent, EndLent, subscription-to, subscriptions-to};
@@ -147,7 +147,7 @@ fn is_plain(form: Form) -> bool
 // A copy of the notice in a place, to a session that is subscribed to its kind.
 fn put_copy(table: &[u8], out: &mut [u8], to: To, kind: usize, place: &[u8]) -> usize
     requires { ⌜ CopyLent (now table) (now out) to kind (now place) ⌝ }
-    ensures { λ r. ⌜ Wrote (copy-most (kind-at kind)) (copies (settings-in (now (table .entry))) kind
+    ensures { λ r. ⌜ Wrote (copy-most (kind-at kind)) (copies-out (settings-in (now (table .entry))) kind
         (subscription-to to kind (now (table .entry))) (notice-in kind (now (place .entry)) ∷ [])) to (now (out .entry)) r
         (now (out .exit)) ⌝ }
 {

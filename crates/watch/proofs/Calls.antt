@@ -11,10 +11,10 @@ use lib.ListN.{length, length-append}
 use borrow.Author.Tests.{eqb-true, eqb-false, eq-eqb, ne-eqb}
 use Rattle.model.specs.Limits.{copy-every, given-up-at, most-repeats, most-copies, longest-wait}
 use Rattle.watch.specs.Marks.{Seen, copies-among, Every}
-use Rattle.watch.specs.Course.{Queue, empty, busy, Eff, rest, lone, first, keep, wait, swap, wipe, over, pass, beat, again, quit}
-use Rattle.watch.specs.Course.{quit-pass}
+use Rattle.watch.specs.Course.{PendingSeen, empty, busy, Eff, rest, lone, first, keep, wait, swap, wipe, over, pass, beat, again}
+use Rattle.watch.specs.Course.{quit, quit-pass}
 
--- ==== the numbers in a queue
+-- ==== the numbers of what is pending
 
 -- from lo on, each more than the one before, and below hi
 abbrev pub Above : ℕ → List Seen → ℕ → Type 0
@@ -22,21 +22,21 @@ Above lo [] hi = lo ≤ hi
 Above lo (x ∷ q) hi = (lo ≤ x .id) × Above (suc (x .id)) q hi
 
 -- the clock runs, and those that wait are later than the open one
-abbrev pub Good : Queue → ℕ → Type 0
+abbrev pub Good : PendingSeen → ℕ → Type 0
 Good empty k = Unit {0}
 Good (busy x c q) k = (c < given-up-at) × Above (suc (x .id)) q k
 
 -- n is open, and its clock is c
-abbrev pub OpenAt : ℕ → ℕ → Queue → ℕ → Type 0
+abbrev pub OpenAt : ℕ → ℕ → PendingSeen → ℕ → Type 0
 OpenAt n c empty k = ⊥
 OpenAt n c (busy x d q) k = (x .id ≡ n) × (d ≡ c) × (d < given-up-at) × Above (suc (x .id)) q k
 
 -- n is gone for good: all that there is, and all that will come, is later
-abbrev pub Gone : ℕ → Queue → ℕ → Type 0
+abbrev pub Gone : ℕ → PendingSeen → ℕ → Type 0
 Gone n empty k = suc n ≤ k
 Gone n (busy x c q) k = (suc n ≤ x .id) × Above (suc (x .id)) q k
 
-abbrev pub NotOpen : ℕ → Queue → Type 0
+abbrev pub NotOpen : ℕ → PendingSeen → Type 0
 NotOpen n empty = Unit {0}
 NotOpen n (busy x c q) = x .id ≡ n → ⊥
 
@@ -60,7 +60,7 @@ none-of n i h = rw (ne-eqb i n h)
 
 module _ {z : Bool} {k k′ : ℕ} where
   -- the numbers stay in order
-  pub good-step : {e : Option (List ℕ)} {o a s t p p′ : Bool} {q q′ : Queue} {es : List Seen}
+  pub good-step : {e : Option (List ℕ)} {o a s t p p′ : Bool} {q q′ : PendingSeen} {es : List Seen}
       → Eff z k k′ e o a s t p p′ q q′ es → Good q k → Good q′ k′
   good-step (rest h) g = tt
   good-step (lone h) g = tt
@@ -77,7 +77,7 @@ module _ {z : Bool} {k k′ : ℕ} where
   good-step (quit-pass {y = y} {q = r} h u) g = (omega arith, above-up (suc (y .id)) r h (g .1 .1))
 
   -- once gone, never again
-  pub gone-step : (n : ℕ) {e : Option (List ℕ)} {o a s t p p′ : Bool} {q q′ : Queue} {es : List Seen}
+  pub gone-step : (n : ℕ) {e : Option (List ℕ)} {o a s t p p′ : Bool} {q q′ : PendingSeen} {es : List Seen}
       → Eff z k k′ e o a s t p p′ q q′ es → Gone n q k → (copies-among n es ≡ 0) × Gone n q′ k′
   gone-step n (rest h) g = (refl, omega arith)
   gone-step n (lone h) g = (none-of n k (omega arith), omega arith)
@@ -96,14 +96,14 @@ module _ {z : Bool} {k k′ : ℕ} where
 
 -- ==== a notice that is open with clock c: what becomes of it, by whether the call closes and whether it is a tick
 
-pub data Fate (n c : ℕ) (q′ : Queue) (k′ : ℕ) (es : List Seen) : Bool → Bool → Type 0 where
+pub data Fate (n c : ℕ) (q′ : PendingSeen) (k′ : ℕ) (es : List Seen) : Bool → Bool → Type 0 where
   shut : {t : Bool} → copies-among n es ≡ 0 → Gone n q′ k′ → Fate n c q′ k′ es true t
   same : copies-among n es ≡ 0 → OpenAt n c q′ k′ → Fate n c q′ k′ es false false
   runs : copies-among n es + c / copy-every ≡ suc c / copy-every → OpenAt n (suc c) q′ k′ → Fate n c q′ k′ es false true
   ends : suc c ≡ given-up-at → copies-among n es + c / copy-every ≡ most-repeats → Gone n q′ k′ → Fate n c q′ k′ es false true
 
 module _ {z : Bool} {k k′ : ℕ} where
-  pub open-step : (n c : ℕ) {e : Option (List ℕ)} {o a s t p p′ : Bool} {q q′ : Queue} {es : List Seen}
+  pub open-step : (n c : ℕ) {e : Option (List ℕ)} {o a s t p p′ : Bool} {q q′ : PendingSeen} {es : List Seen}
       → Eff z k k′ e o a s t p p′ q q′ es → OpenAt n c q k → Fate n c q′ k′ es s t
   open-step n c (rest h) g = absurd g
   open-step n c (lone h) g = absurd g
@@ -129,7 +129,7 @@ module _ {z : Bool} {k k′ : ℕ} where
 
 -- ==== a notice that is not open
 
-pub data Start (n : ℕ) (q′ : Queue) (k′ : ℕ) (es : List Seen) : Bool → Type 0 where
+pub data Start (n : ℕ) (q′ : PendingSeen) (k′ : ℕ) (es : List Seen) : Bool → Type 0 where
   not-yet : {a : Bool} → copies-among n es ≡ 0 → NotOpen n q′ → Start n q′ k′ es a
   opens : copies-among n es ≡ 1 → OpenAt n 0 q′ k′ → Start n q′ k′ es true
   single : copies-among n es ≡ 1 → Gone n q′ k′ → Start n q′ k′ es false
@@ -146,7 +146,7 @@ goes-out : (n : ℕ) (y : Seen) {c : ℕ} (q : List Seen) {k : ℕ} → c ≡ 0 
 goes-out n y q e a = by-test (y .id) n (λ z. opens (one n _ z) (z, e, omega arith, a)) (λ z. not-yet (none-of n _ z) z)
 
 module _ {z : Bool} {k k′ : ℕ} where
-  pub start-step : (n : ℕ) {e : Option (List ℕ)} {o a s t p p′ : Bool} {q q′ : Queue} {es : List Seen}
+  pub start-step : (n : ℕ) {e : Option (List ℕ)} {o a s t p p′ : Bool} {q q′ : PendingSeen} {es : List Seen}
       → Eff z k k′ e o a s t p p′ q q′ es → Good q k → NotOpen n q → Start n q′ k′ es a
   start-step n (rest h) g u = not-yet refl tt
   start-step n (lone {f = f} h) g u =
@@ -164,9 +164,9 @@ module _ {z : Bool} {k k′ : ℕ} where
   start-step n (quit h v) g u = not-yet refl tt
   start-step n (quit-pass {y = y} {q = r} h v) g u = goes-out n y r (omega arith) (above-up (suc (y .id)) r h (g .1 .1))
 
--- ==== what holds of all that is queued, and so of all that is sent: P before the call, Q after it
+-- ==== what holds of all that is pending, and so of all that is sent: P before the call, Q after it
 
-abbrev pub all : Queue → List Seen
+abbrev pub all : PendingSeen → List Seen
 all empty = []
 all (busy x c q) = x ∷ q
 
@@ -183,8 +183,8 @@ abbrev pub Gets : (Seen → Type 0) → ℕ → Option (List ℕ) → Bool → B
 Gets Q k e o p′ = (f : List ℕ) → e ≡ some f → o ≡ true → p′ ≡ true → Q (record { id = k; frame = f })
 
 module _ {z : Bool} {k k′ : ℕ} where
-  -- what was queued is queued on, or sent, only where the session stays subscribed
-  pub held-step : (P Q : Seen → Type 0) {e : Option (List ℕ)} {o a s t p p′ : Bool} {q q′ : Queue} {es : List Seen}
+  -- what was pending stays so, or is sent, only where the session stays subscribed
+  pub held-step : (P Q : Seen → Type 0) {e : Option (List ℕ)} {o a s t p p′ : Bool} {q q′ : PendingSeen} {es : List Seen}
       → Eff z k k′ e o a s t p p′ q q′ es → Gets Q k e o p′ → (p′ ≡ true → (x : Seen) → P x → Q x) → Every P (all q)
       → Every Q es × Every Q (all q′)
   held-step P Q (rest h) new on g = (tt, tt)
@@ -202,9 +202,9 @@ module _ {z : Bool} {k k′ : ℕ} where
   held-step P Q (quit h y) new on g = (tt, tt)
   held-step P Q (quit-pass {y = y} {q = r} h v) new on g = let u = every-map P Q (on refl) (y ∷ r) (g .1) in ((u .0, tt), u)
 
-  -- ==== a call that leaves it not subscribed sends nothing and leaves nothing queued
+  -- ==== a call that leaves it not subscribed sends nothing and leaves nothing pending
 
-  pub dropped-step : (n : ℕ) {e : Option (List ℕ)} {o a s t p : Bool} {q q′ : Queue} {es : List Seen}
+  pub dropped-step : (n : ℕ) {e : Option (List ℕ)} {o a s t p : Bool} {q q′ : PendingSeen} {es : List Seen}
       → Eff z k k′ e o a s t p false q q′ es → n < k → (copies-among n es ≡ 0) × Gone n q′ k′
   dropped-step n (rest h) l = (refl, omega arith)
   dropped-step n (wipe h) l = (refl, omega arith)
@@ -213,7 +213,7 @@ module _ {z : Bool} {k k′ : ℕ} where
 
   -- ==== a copy goes to a session that is subscribed before and after the call
 
-  pub subscribed-step : {e : Option (List ℕ)} {o a s t p p′ : Bool} {q q′ : Queue} {es : List Seen}
+  pub subscribed-step : {e : Option (List ℕ)} {o a s t p p′ : Bool} {q q′ : PendingSeen} {es : List Seen}
       → Eff z k k′ e o a s t p p′ q q′ es → 0 < length es → (p ≡ true) × (p′ ≡ true)
   subscribed-step (rest h) z = absurd (omega arith)
   subscribed-step (lone h) z = (refl, refl)
@@ -229,9 +229,9 @@ module _ {z : Bool} {k k′ : ℕ} where
   subscribed-step (quit h u) z = absurd (omega arith)
   subscribed-step (quit-pass h u) z = (refl, refl)
 
--- ==== how many copies may still come of what is queued
+-- ==== how many copies may still come of what is pending
 
-abbrev pub credit : Queue → ℕ
+abbrev pub credit : PendingSeen → ℕ
 credit empty = 0
 credit (busy x c q) = (given-up-at - suc c) / copy-every + most-copies * length q
 
@@ -241,7 +241,7 @@ new-credit true = most-copies
 new-credit false = 0
 
 module _ {z : Bool} {k k′ : ℕ} where
-  pub credit-step : {e : Option (List ℕ)} {o a s t p p′ : Bool} {q q′ : Queue} {es : List Seen}
+  pub credit-step : {e : Option (List ℕ)} {o a s t p p′ : Bool} {q q′ : PendingSeen} {es : List Seen}
       → Eff z k k′ e o a s t p p′ q q′ es → Good q k → length es + credit q′ ≤ credit q + new-credit o
   credit-step (rest h) g = omega arith
   credit-step (lone h) g = omega arith
@@ -266,7 +266,7 @@ Ahead n zero (x ∷ q) = x .id ≡ n
 Ahead n (suc i) (x ∷ q) = Ahead n i q
 
 -- n waits, and is to go out within d ticks
-abbrev pub Due : ℕ → ℕ → Queue → Type 0
+abbrev pub Due : ℕ → ℕ → PendingSeen → Type 0
 Due n d empty = ⊥
 Due n d (busy x c q) = (i : ℕ) × Ahead n i q × (given-up-at + given-up-at * i ≤ d + c) × (c < given-up-at)
 
@@ -294,7 +294,7 @@ promoted n d zero y q h l = let e = one n (y .id) h in inl (omega arith)
 promoted n d (suc i) y q h l = inr (i, h, omega arith, omega arith)
 
 module _ {k k′ : ℕ} where
-  pub due-step : (n d : ℕ) {e : Option (List ℕ)} {o a s t p : Bool} {q q′ : Queue} {es : List Seen}
+  pub due-step : (n d : ℕ) {e : Option (List ℕ)} {o a s t p : Bool} {q q′ : PendingSeen} {es : List Seen}
       → Eff false k k′ e o a s t p true q q′ es → Due n d q → (0 < copies-among n es) ⊎ Due n (less t d) q′
   due-step n d (rest h) g = absurd g
   due-step n d (lone h) g = absurd g
@@ -310,7 +310,7 @@ module _ {k k′ : ℕ} where
   due-step n d (quit-pass {y = y} {q = r} h u) g = promoted n (d - 1) (g .0) y r (g .1) (omega arith)
 
   -- an event that is taken is sent at once or waits
-  pub due-taken : {e : Option (List ℕ)} {a s t p p′ : Bool} {q q′ : Queue} {es : List Seen}
+  pub due-taken : {e : Option (List ℕ)} {a s t p p′ : Bool} {q q′ : PendingSeen} {es : List Seen}
       → Eff false k k′ e true a s t p p′ q q′ es → Good q k → (0 < copies-among k es) ⊎ Due k longest-wait q′
   due-taken (lone h) g = let e = one k k refl in inl (omega arith)
   due-taken (first h) g = let e = one k k refl in inl (omega arith)

@@ -12,7 +12,7 @@ use borrow.Author.Tests.{eq-eqb, ne-eqb}
 use Rattle.model.specs.Limits.{copy-every, given-up-at, most-repeats, most-copies, longest-wait}
 use Rattle.watch.specs.Marks.{Seen, Mark, copies-among, all-sent, copies, tick-count, ticks-open, or-later, frame-of, Every, Origin}
 use Rattle.watch.specs.Marks.{Stays, Held, taken}
-use Rattle.watch.specs.Course.{Queue, empty, busy, Eff, Rises, Course, end, call}
+use Rattle.watch.specs.Course.{PendingSeen, empty, busy, Eff, Rises, Course, end, call}
 use Rattle.watch.proofs.Calls.{Good, OpenAt, Gone, NotOpen, good-step, gone-step, Fate, shut, same, runs, ends, open-step, Start}
 use Rattle.watch.proofs.Calls.{not-yet, opens, single, start-step, all, every-append, held-step, dropped-step, subscribed-step}
 use Rattle.watch.proofs.Calls.{credit, new-credit, credit-step, Due, less, due-step, due-taken}
@@ -34,17 +34,17 @@ copies-join n (m ∷ xs) ys =
     omega (arith, copies-append n (m .sent) (all-sent (xs ++ ys)), copies-append n (m .sent) (all-sent xs))
 
 -- the first calls of a history are one
-pub course-before : {z : Bool} {k : ℕ} {q : Queue} (xs ys : List Mark) → Course z k q (xs ++ ys) → Course z k q xs
+pub course-before : {z : Bool} {k : ℕ} {q : PendingSeen} (xs ys : List Mark) → Course z k q (xs ++ ys) → Course z k q xs
 course-before [] ys c = end
 course-before (m ∷ xs) ys (call e r f c) = call e r f (course-before xs ys c)
 
 -- ==== the arithmetic of one more call; `later` is what is sent after it, and t the ticks after it
 
-open-lt : (n c : ℕ) (q : Queue) (k : ℕ) → OpenAt n c q k → c < given-up-at
+open-lt : (n c : ℕ) (q : PendingSeen) (k : ℕ) → OpenAt n c q k → c < given-up-at
 open-lt n c empty k g = absurd g
 open-lt n c (busy x d q) k g = omega arith
 
-open-more : (n d : ℕ) (q′ : Queue) (k′ : ℕ) (es : List Seen) {s b : Bool} (later t : ℕ) → d < given-up-at → Fate n d q′ k′ es s b
+open-more : (n d : ℕ) (q′ : PendingSeen) (k′ : ℕ) (es : List Seen) {s b : Bool} (later t : ℕ) → d < given-up-at → Fate n d q′ k′ es s b
     → ((d′ : ℕ) → OpenAt n d′ q′ k′ → later + d′ / copy-every ≡ min most-repeats ((d′ + t) / copy-every)) → (Gone n q′ k′ → later ≡ 0)
     → copies-among n es + later + d / copy-every ≡ min most-repeats ((d + cond s 0 (cond b (suc t) t)) / copy-every)
 open-more n d q′ k′ es later t h (shut z g) ih lost = let y = lost g in omega arith
@@ -53,7 +53,7 @@ open-more n d q′ k′ es later t h (runs z g) ih lost = let y = ih (suc d) g i
 open-more n d q′ k′ es later t h (ends e z g) ih lost = let y = lost g in omega arith
 
 -- the call sends the first copy
-start-more : (n : ℕ) (q′ : Queue) (k′ : ℕ) (es : List Seen) {a : Bool} (later t : ℕ) → Start n q′ k′ es a → 0 < copies-among n es
+start-more : (n : ℕ) (q′ : PendingSeen) (k′ : ℕ) (es : List Seen) {a : Bool} (later t : ℕ) → Start n q′ k′ es a → 0 < copies-among n es
     → (OpenAt n 0 q′ k′ → later + 0 / copy-every ≡ min most-repeats ((0 + t) / copy-every)) → (Gone n q′ k′ → later ≡ 0)
     → copies-among n es + later ≡ cond a (1 + min most-repeats (t / copy-every)) 1
 start-more n q′ k′ es later t (not-yet z g) h up lost = absurd (omega arith)
@@ -61,14 +61,14 @@ start-more n q′ k′ es later t (opens z g) h up lost = let y = up g in omega 
 start-more n q′ k′ es later t (single z g) h up lost = let y = lost g in omega arith
 
 -- the call does not
-still-not : (n : ℕ) (q′ : Queue) (k′ : ℕ) (es : List Seen) {a : Bool} → Start n q′ k′ es a → copies-among n es ≡ 0 → NotOpen n q′
+still-not : (n : ℕ) (q′ : PendingSeen) (k′ : ℕ) (es : List Seen) {a : Bool} → Start n q′ k′ es a → copies-among n es ≡ 0 → NotOpen n q′
 still-not n q′ k′ es (not-yet z g) h = g
 still-not n q′ k′ es (opens z g) h = absurd (omega arith)
 still-not n q′ k′ es (single z g) h = absurd (omega arith)
 
 -- ==== the count
 
-pub gone : (n : ℕ) {z : Bool} {k : ℕ} {q : Queue} {ms : List Mark} → Course z k q ms → Gone n q k → copies n ms ≡ 0
+pub gone : (n : ℕ) {z : Bool} {k : ℕ} {q : PendingSeen} {ms : List Mark} → Course z k q ms → Gone n q k → copies n ms ≡ 0
 gone n end g = refl
 gone n (call {m = m} {ms = ms} e r f c) g =
     let y = gone-step n f g in
@@ -76,7 +76,7 @@ gone n (call {m = m} {ms = ms} e r f c) g =
     omega (arith, copies-append n (m .sent) (all-sent ms))
 
 -- n is open and its clock is d: what is still to come of it
-pub opened : (n d : ℕ) {z : Bool} {k : ℕ} {q : Queue} {ms : List Mark} → Course z k q ms → OpenAt n d q k
+pub opened : (n d : ℕ) {z : Bool} {k : ℕ} {q : PendingSeen} {ms : List Mark} → Course z k q ms → OpenAt n d q k
     → copies n ms + d / copy-every ≡ min most-repeats ((d + ticks-open ms) / copy-every)
 opened n d {k = k} {q = q} end g = let h = open-lt n d q k g in omega arith
 opened n d {k = k} {q = q} (call {k′ = k′} {q′ = q′} {m = m} {ms = ms} e r f c) g =
@@ -85,7 +85,7 @@ opened n d {k = k} {q = q} (call {k′ = k′} {q′ = q′} {m = m} {ms = ms} e
     (λ d′. opened n d′ c) (gone n c))
 
 -- by the call that sends the first copy
-pub counted : (n : ℕ) {z : Bool} {k : ℕ} {q : Queue} (before : List Mark) (m : Mark) (later : List Mark)
+pub counted : (n : ℕ) {z : Bool} {k : ℕ} {q : PendingSeen} (before : List Mark) (m : Mark) (later : List Mark)
     → Course z k q (before ++ m ∷ later) → Good q k → NotOpen n q → copies n before ≡ 0 → 0 < copies-among n (m .sent)
     → copies n (before ++ m ∷ later) ≡ cond (m .asked) (1 + min most-repeats (ticks-open later / copy-every)) 1
 counted n [] m later (call {k′ = k′} {q′ = q′} e r f c) g u z h =
@@ -108,7 +108,7 @@ is-event none = false
 is-event (some f) = true
 
 -- the events of the history have the frames that F says
-pub framed : (F : ℕ → Option (List ℕ)) {z : Bool} {k : ℕ} {q : Queue} {ms : List Mark} → Course z k q ms
+pub framed : (F : ℕ → Option (List ℕ)) {z : Bool} {k : ℕ} {q : PendingSeen} {ms : List Mark} → Course z k q ms
     → ((n : ℕ) → k ≤ n → frame-of n ms ≡ F n) → Every (Framed F) (all q) → Every (Framed F) (all-sent ms)
 framed F end u g = tt
 framed F (call {k = k} {k′ = k′} {m = m} {ms = ms} e r f c) u g =
@@ -139,14 +139,15 @@ held-new : (past : List Mark) (m : Mark) → m .still ≡ true → (x : Seen) �
 held-new [] m e x o = inl (o, (e, tt))
 held-new (y ∷ past) m e x o = inr (held-new past m e x o)
 
-held-call : {z : Bool} {k k′ : ℕ} {q q′ : Queue} (past : List Mark) (m : Mark) → m .number ≡ k
+held-call : {z : Bool} {k k′ : ℕ} {q q′ : PendingSeen} (past : List Mark) (m : Mark) → m .number ≡ k
     → Eff z k k′ (m .event) (m .took) (m .asked) (m .closes) (m .tick) (m .subscribed) (m .still) q q′ (m .sent)
     → Every (λ x. Held x past) (all q) → Every (λ x. Held x (past ++ m ∷ [])) (m .sent) × Every (λ x. Held x (past ++ m ∷ [])) (all q′)
 held-call past m e f g =
     held-step (λ x. Held x past) (λ x. Held x (past ++ m ∷ [])) f
     (λ b u v w. held-new past m w _ (record { number = e; frame = u; took = v })) (held-on past m) g
 
-pub held : {z : Bool} {k : ℕ} {q : Queue} (past before : List Mark) (m : Mark) (later : List Mark) → Course z k q (before ++ m ∷ later)
+pub held : {z : Bool} {k : ℕ} {q : PendingSeen} (past before : List Mark) (m : Mark) (later : List Mark)
+    → Course z k q (before ++ m ∷ later)
     → Every (λ x. Held x past) (all q) → Every (λ x. Held x ((past ++ before) ++ m ∷ [])) (m .sent)
 held past [] m later (call e r f c) g = rw (append-nil past) ((held-call past m e f g) .0)
 held past (b ∷ before) m later (call e r f c) g =
@@ -155,7 +156,7 @@ held past (b ∷ before) m later (call e r f c) g =
 
 -- ==== what came before a call that leaves the session not subscribed
 
-pub dropped : (n : ℕ) {z : Bool} {k : ℕ} {q : Queue} (before : List Mark) (c : Mark) (later : List Mark)
+pub dropped : (n : ℕ) {z : Bool} {k : ℕ} {q : PendingSeen} (before : List Mark) (c : Mark) (later : List Mark)
     → Course z k q (before ++ c ∷ later) → c .still ≡ false → n < c .number → copies n (c ∷ later) ≡ 0
 dropped n [] c later (call {k = k} e r f h) w l =
     let y = dropped-step n (rw w at f) (omega arith) in
@@ -165,14 +166,14 @@ dropped n (b ∷ before) c later (call e r f h) w l = dropped n before c later h
 
 -- ==== only to subscribers
 
-pub subscribers : {z : Bool} {k : ℕ} {q : Queue} {ms : List Mark} → Course z k q ms
+pub subscribers : {z : Bool} {k : ℕ} {q : PendingSeen} {ms : List Mark} → Course z k q ms
     → Every (λ (m : Mark). 0 < length (m .sent) → (m .subscribed ≡ true) × (m .still ≡ true)) ms
 subscribers end = tt
 subscribers (call e r f c) = (λ h. subscribed-step f h, subscribers c)
 
--- ==== most-copies (six) at most for each event that was taken, and what is still to come of those that were queued
+-- ==== most-copies (six) at most for each event that was taken, and what is still to come of those that were pending
 
-pub bounded : {z : Bool} {k : ℕ} {q : Queue} {ms : List Mark} → Course z k q ms → Good q k
+pub bounded : {z : Bool} {k : ℕ} {q : PendingSeen} {ms : List Mark} → Course z k q ms → Good q k
     → length (all-sent ms) ≤ credit q + most-copies * taken ms
 bounded end g = omega arith
 bounded {q = q} (call {k′ = k′} {q′ = q′} {m = m} {ms = ms} e r f c) g =
@@ -187,11 +188,11 @@ bounded {q = q} (call {k′ = k′} {q′ = q′} {m = m} {ms = ms} e r f c) g =
 -- ==== in time, of a kind of which all wait
 
 module _ (n : ℕ) where
-  late : (d : ℕ) (q : Queue) → Due n d q → d ≤ 0 → ⊥
+  late : (d : ℕ) (q : PendingSeen) → Due n d q → d ≤ 0 → ⊥
   late d empty g l = g
   late d (busy x c q) g l = omega arith
 
-  pub in-time : (d : ℕ) {k : ℕ} {q : Queue} {ms : List Mark} → Course false k q ms → Due n d q → Stays ms
+  pub in-time : (d : ℕ) {k : ℕ} {q : PendingSeen} {ms : List Mark} → Course false k q ms → Due n d q → Stays ms
       → d ≤ tick-count ms → 0 < copies n ms
   in-time d {q = q} end g u l = absurd (late d q g l)
   in-time d (call {k = k} {k′ = k′} {q = q} {q′ = q′} {m = m} {ms = ms} e r f c) g u l =
@@ -205,7 +206,7 @@ module _ (n : ℕ) where
       go false (inr h) l ih = let y = ih d h l in omega (arith, copies-append n (m .sent) (all-sent ms))
 
 -- taken by this call, sent within the longest wait
-pub taken-in-time : {k : ℕ} {q : Queue} (before : List Mark) (m : Mark) (later : List Mark) → Course false k q (before ++ m ∷ later)
+pub taken-in-time : {k : ℕ} {q : PendingSeen} (before : List Mark) (m : Mark) (later : List Mark) → Course false k q (before ++ m ∷ later)
     → Good q k
     → m .took ≡ true → Stays (m ∷ later) → longest-wait ≤ tick-count later → 0 < copies (m .number) (m ∷ later)
 taken-in-time [] m later (call {k = k} {q′ = q′} e r f c) g t u l =

@@ -10,16 +10,17 @@ use Rattle.model.specs.Limits.{copy-every, given-up-at, tightenings-held}
 use Rattle.watch.specs.Marks.{Seen, Mark}
 
 -- the notices that wait for an acknowledge: the first is open, with its clock, and the others wait
-pub data Queue : Type 0 where
-  empty : Queue
-  busy : Seen → ℕ → List Seen → Queue
+pub data PendingSeen : Type 0 where
+  empty : PendingSeen
+  busy : Seen → ℕ → List Seen → PendingSeen
 
 -- ==== one call
 
 -- z: only the newest waits. k, k′: the events before and after the call. Then, as in a mark: the event's frame; was it taken; was
--- acknowledge asked; does the call close; is it a tick; was and is the session subscribed. Then the queue before and after, and the
--- copies sent
-pub data Eff (z : Bool) (k k′ : ℕ) : Option (List ℕ) → Bool → Bool → Bool → Bool → Bool → Bool → Queue → Queue → List Seen → Type 0 where
+-- acknowledge asked; does the call close; is it a tick; was and is the session subscribed. Then what is pending before and after,
+-- and the copies sent
+pub data Eff (z : Bool) (k k′ : ℕ) : Option (List ℕ) → Bool → Bool → Bool → Bool → Bool → Bool → PendingSeen → PendingSeen
+    → List Seen → Type 0 where
   -- nothing is open: nothing happens, or a notice goes out once, or one is opened
   rest : {e : Option (List ℕ)} {a s t : Bool} {p p′ : Bool} → k ≤ k′ → Eff z k k′ e false a s t p p′ empty empty []
   lone : {f : List ℕ} {s t : Bool} → k′ ≡ suc k
@@ -59,9 +60,9 @@ abbrev pub Rises : ℕ → ℕ → Option (List ℕ) → Type 0
 Rises k k′ none = k ≤ k′
 Rises k k′ (some f) = k′ ≡ suc k
 
--- the marks of a history that begins with that many events and that queue
-pub data Course (z : Bool) : ℕ → Queue → List Mark → Type 0 where
-  end : {k : ℕ} {q : Queue} → Course z k q []
-  call : {k k′ : ℕ} {q q′ : Queue} {m : Mark} {ms : List Mark} → m .number ≡ k → Rises k k′ (m .event)
+-- the marks of a history that begins with that many events, and with that pending
+pub data Course (z : Bool) : ℕ → PendingSeen → List Mark → Type 0 where
+  end : {k : ℕ} {q : PendingSeen} → Course z k q []
+  call : {k k′ : ℕ} {q q′ : PendingSeen} {m : Mark} {ms : List Mark} → m .number ≡ k → Rises k k′ (m .event)
       → Eff z k k′ (m .event) (m .took) (m .asked) (m .closes) (m .tick) (m .subscribed) (m .still) q q′ (m .sent)
       → Course z k′ q′ ms → Course z k q (m ∷ ms)

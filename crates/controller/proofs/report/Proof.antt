@@ -12,7 +12,7 @@ result-requires c κs =
     let s = p .before .before .before .before in
     let a = s .args in (
       s .pre .0 .0,
-      tightening-size (a .kind) (a .slice .now) (s .pre .0 .2) (p .payload .ensures) (k .enum-told2 .given .1),
+      tightening-size (a .record-kind) (a .slice .now) (s .pre .0 .2) (p .payload .ensures) (k .enum-told2 .given .1),
       s .pre .1 (k .enum-told2 .given .1),
     )
 
@@ -26,7 +26,7 @@ happens-requires-2 c κs =
       s .pre .0 .0,
       omega arith,
       omega arith,
-      scan-size (a .kind) (a .slice .now) (s .pre .0 .2) (p .payload .ensures)
+      scan-size (a .record-kind) (a .slice .now) (s .pre .0 .2) (p .payload .ensures)
           (k .enum-told3 .given .1),
     )
 
@@ -34,7 +34,7 @@ returns : tie.Need-returns
 returns c =
     let s = c .before .before .before .before .before .before in
     let a = s .args in
-    bad-reported (a .kind) (a .slice .now) (s .pre .0 .2) (a .table .now) (a .output .now) (c .enum-told .given .1) (s .pre .0 .0)
+    bad-reported (a .record-kind) (a .slice .now) (s .pre .0 .2) (a .table .now) (a .output .now) (c .enum-told .given .1) (s .pre .0 .0)
 
 returns-2 : tie.Need-returns-2
 returns-2 c =
@@ -44,7 +44,7 @@ returns-2 c =
     let p = k .before .before in
     let s = p .before .before .before .before in
     let a = s .args in
-    tightening-reported (a .kind) (a .slice .now) (s .pre .0 .2) (a .table .now) (a .output .now) (r .result .result)
+    tightening-reported (a .record-kind) (a .slice .now) (s .pre .0 .2) (a .table .now) (a .output .now) (r .result .result)
     (k .enum-told2 .given .1) (p .payload .ensures)
     (r .result .ensures) (h .happens .ensures .within) (h .happens .ensures .went) (h .happens .ensures .taken)
 
@@ -55,7 +55,8 @@ returns-3 c =
     let p = k .before .before in
     let s = p .before .before .before .before in
     let a = s .args in
-    scan-reported (a .kind) (a .slice .now) (s .pre .0 .2) (a .table .now) (a .output .now) (k .enum-told3 .given .1) (p .payload .ensures)
+    scan-reported (a .record-kind) (a .slice .now) (s .pre .0 .2) (a .table .now) (a .output .now) (k .enum-told3 .given .1)
+    (p .payload .ensures)
     (h .happens2 .ensures .within) (h .happens2 .ensures .went) (h .happens2 .ensures .taken)
 
 pub report-spec : {M : Type 1} → statement M

@@ -4,7 +4,7 @@ use borrow.Author.Tests.{not-true, not-false}
 use mathlib.Core.Path.{refl, sym, _∙_}
 use native.Mathlib.Omega.{arith}
 use lib.ListN.{length-take}
-use Rattle.frame.proofs.Headers.{Sound, sound, dropped, heard}
+use Rattle.frame.proofs.Headers.{SoundHeader, header-sound, dropped, heard}
 use Rattle.frame.proofs.header_in.Statement.{statement}
 use Rattle.frame.proofs.header_in.Tie as tie
 
@@ -14,10 +14,10 @@ returns c =
     dropped (a .run .now) (a .count) (sym (c .before .is-message .ensures) ∙ not-true _ (c .if1 .taken))
 
 -- the run is sound, as its tests have shown
-whole : (c : tie.Else1) → let a = c .before .before .before .args in Sound (a .run .now) (a .count)
+whole : (c : tie.Else1) → let a = c .before .before .before .args in SoundHeader (a .run .now) (a .count)
 whole c =
     let a = c .before .before .before .args in
-    sound (a .run .now) (a .count) (sym (c .before .is-message .ensures) ∙ not-false _ (c .if1 .left))
+    header-sound (a .run .now) (a .count) (sym (c .before .is-message .ensures) ∙ not-false _ (c .if1 .left))
 
 decimal-requires : tie.Need-decimal-requires
 decimal-requires c κs = (simp length-take (omega arith), whole (c .before) .mid)

@@ -46,12 +46,12 @@ use denote.Triple.Clauses.{lasts}
 use Rattle.model.specs.Limits.{header-length}
 use Rattle.frame.specs.Header.{header-of}
 use Rattle.frame.specs.declared.Header.{Header}
-use Rattle.frame.specs.declared.Reading.{Reading}
+use Rattle.frame.specs.declared.RunRead.{RunRead}
 use Rattle.frame.proofs.Answers.{Bytes, lowered, owned-bytes, all-given, again, answered}
 use Rattle.frame.proofs.Header as head
 use Rattle.frame.proofs.Header.Laws as head-laws
-use Rattle.frame.proofs.Reading as reading
-use Rattle.frame.proofs.Reading.Laws as reading-laws
+use Rattle.frame.proofs.RunRead as reading
+use Rattle.frame.proofs.RunRead.Laws as reading-laws
 use Rattle.frame.proofs.header_in as header
 use Rattle.frame.proofs.header_in.Symbol as header-def
 use Rattle.frame.proofs.header_in.Symbol.{name as #frame·header-in}
@@ -117,7 +117,7 @@ module _ {M : Type 1} (𝓤 : URA M) (H : Heap 𝓤) (A : Atoms 𝓤) (W : Given
   D = reading.the-type (namedLft 1 0 tt (κ, tt))
 
   module _ (h : Header) (d : RefT (List ℕ)) (u u′ : Val) where
-    abbrev made : Reading
+    abbrev made : RunRead
     made = record { header = h; field = d }
 
     abbrev w : Val

@@ -8,7 +8,7 @@ use native.Mathlib.Omega.{arith}
 use lib.ListN.{length, take}
 use Rattle.replay.specs.States.{Turned}
 use Rattle.replay.proofs.Sizes.{size-cut}
-use Rattle.replay.proofs.Reading.{turned-none, turned-then, turned-cut}
+use Rattle.replay.proofs.Input.{turned-none, turned-then, turned-cut}
 use Rattle.replay.proofs.run.Statement.{statement}
 use Rattle.replay.proofs.run.Tie as tie
 

@@ -4,7 +4,7 @@ use mathlib.Core.Path.{_≡_, sym, _∙_}
 use native.Mathlib.Omega.{arith}
 use lib.ListN.{length, take}
 use lib.Seq.{length-take-le}
-use Rattle.replay.proofs.Reading.{waits-few, waits-moved}
+use Rattle.replay.proofs.Input.{waits-few, waits-moved}
 use Rattle.replay.proofs.serve_and_move.Statement.{statement}
 use Rattle.replay.proofs.serve_and_move.Tie as tie
 

@@ -46,8 +46,6 @@ use denote.Exit.{yes}
 use Rattle.session.specs.Control.{beat-at, clock-after, due-by, by-beat, step-at}
 use Rattle.session.specs.declared.Subscription.{Subscription}
 use Rattle.session.specs.declared.Clock.{Clock}
-use Rattle.session.specs.declared.Beat.{Beat}
-use Rattle.session.specs.declared.Beat.the-variants.{Runs, Copy, GivenUp}
 use Rattle.session.specs.declared.Due.{Due}
 use Rattle.session.specs.declared.Step.{Step}
 use Rattle.session.proofs.Lent.{clock-at, cell, is-clock, lies, back, answered}
@@ -75,12 +73,6 @@ use Rattle.session.proofs.beaten.Code as code
 abbrev stayed : Stays (beaten.ended .signature .params) (beaten.ended .kept)
 stayed = (stay-none (λ _. subscription.the-row) yes, tt)
 
--- the step by where a beat leaves the clock, and what it is time for, is the step by the beat
-by-both : (x : Subscription) (b : Beat) → step-at x (clock-after b .ticks) (due-by b) ≡ by-beat x b
-by-both x (Runs n) = refl
-by-both x (Copy n) = refl
-by-both x GivenUp = refl
-
 -- ==== the callees' contracts
 
 module _ {M : Type 1} (𝓤 : URA M) (H : Heap 𝓤) (A : Atoms 𝓤) (mem : Memory → SProp 𝓤) (run : Routine → Fun 𝓤) where
@@ -104,7 +96,7 @@ module _ {M : Type 1} (𝓤 : URA M) (H : Heap 𝓤) (A : Atoms 𝓤) (W : Given
   Said h d = (h ≡ clock-after (beat-at n)) × (d ≡ due-by (beat-at n))
 
   by-clock : (h : Clock) (d : Due) → Said h d → step-at x (h .ticks) d ≡ by-beat x (beat-at n)
-  by-clock h d said = rw (said .0, said .1) (by-both x (beat-at n))
+  by-clock h d said = rw (said .0, said .1)
 
   abbrev held : Val
   held = struct.val subscription.the-type subscription-laws.the-laws x

@@ -43,12 +43,12 @@ use denote.Triple.Walked.{says, Stays, stay-none, stay-none-slice, walkOf, goes-
 use denote.Exit.{yes}
 use denote.Triple.Clauses.{lasts}
 use Rattle.frame.specs.Header.{header-of}
-use Rattle.frame.specs.declared.Reading.{Reading}
+use Rattle.frame.specs.declared.RunRead.{RunRead}
 use Rattle.frame.proofs.Answers.{Bytes, lowered, owned-bytes, all-given, again, answered}
 use Rattle.frame.proofs.Header as head
 use Rattle.frame.proofs.Header.Laws as head-laws
-use Rattle.frame.proofs.Reading as reading
-use Rattle.frame.proofs.Reading.Laws as reading-laws
+use Rattle.frame.proofs.RunRead as reading
+use Rattle.frame.proofs.RunRead.Laws as reading-laws
 use Rattle.frame.proofs.read_header as read-header
 use Rattle.frame.proofs.read_header.Symbol as read-header-def
 use Rattle.frame.proofs.read_header.Symbol.{name as #frame·read-header}
@@ -118,7 +118,7 @@ module _ {M : Type 1} (𝓤 : URA M) (H : Heap 𝓤) (A : Atoms 𝓤) (W : Given
   abbrev Post : Val → SProp 𝓤
   Post = walkOf 𝓤 H A decide.ended stayed (decide.clauses 𝓤 H A mem run) .post entry
 
-  abbrev Told : Reading → Type 0
+  abbrev Told : RunRead → Type 0
   Told r = (r .header ≡ header-of (now s) n) × (now (r .field) ≡ drop 20 (now s))
 
   -- ==== what each callee is given
@@ -136,7 +136,7 @@ module _ {M : Type 1} (𝓤 : URA M) (H : Heap 𝓤) (A : Atoms 𝓤) (W : Given
       use2 W (raw (ReadHeader 𝓤 H A mem run .pre to-read)) (all-given 𝓤 H A W κ q (owns (Bytes κ ∷ usize ∷ []) (s, (n, tt)) (at .1 .1))) $
       frame ! $ done !
 
-  module _ (r : Reading) where
+  module _ (r : RunRead) where
     abbrev v-header : Val
     v-header = enum.val head.the-type head-laws.the-laws (r .header)
 

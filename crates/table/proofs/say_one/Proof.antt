@@ -14,7 +14,7 @@ use Rattle.frame.specs.Places.{place-size, notice-in}
 use Rattle.session.specs.Effects.{out-bytes}
 use Rattle.lane.specs.Lane.{first-in}
 use Rattle.region.specs.Region.{lane-in}
-use Rattle.region.specs.Said.{copies, due-copy}
+use Rattle.region.specs.Said.{copies-out, due-copy}
 use Rattle.region.proofs.Areas.{lane-length}
 use Rattle.table.specs.Table.{region-in, settings-in}
 use Rattle.table.specs.Says.{subscription-to}
@@ -88,7 +88,7 @@ returns-2 c =
     record {
       within = y .put-copy .ensures .within;
       bytes = put-as
-          (ap (λ (q : List ℕ). out-bytes (a .to .session) (copies (settings-in t) (a .kind) (subscription-to (a .to) (a .kind) t)
+          (ap (λ (q : List ℕ). out-bytes (a .to .session) (copies-out (settings-in t) (a .kind) (subscription-to (a .to) (a .kind) t)
           (notice-in (a .kind) q ∷ []))) (f .first .ensures ∙ ap (first-in (a .kind)) (lane-is l))
           ∙ ap (out-bytes (a .to .session)) (open-copied (settings-in t) (a .to .session) (a .kind) (lane-in (a .kind) r)
           (s .pre .ready due))

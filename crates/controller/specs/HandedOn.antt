@@ -9,8 +9,8 @@ use Rattle.controller.specs.Contract.{Outcome}
 
 -- the bytes bs for session s are handed to a call, what the call left of them to the next, and so on to their end. The table was t and
 -- is t′ then; `out` is what the calls wrote, one after the other. Each is lent an output that is long enough
-pub data Reads (s : ℕ) : (t bs out t′ : List ℕ) → Type 0 where
-  nothing-left : {t : List ℕ} → Reads s t [] [] t
+pub data HandedOn (s : ℕ) : (t bs out t′ : List ℕ) → Type 0 where
+  nothing-left : {t : List ℕ} → HandedOn s t [] [] t
   and-on : {t t₁ t₂ o o′ more bs : List ℕ} {b : ℕ} {r : Answer}
-      → output-least ≤ length o → Outcome (bytes s (b ∷ bs)) t o r t₁ o′ → Reads s t₁ (drop (r .consumed) (b ∷ bs)) more t₂
-      → Reads s t (b ∷ bs) (take (r .written) o′ ++ more) t₂
+      → output-least ≤ length o → Outcome (bytes s (b ∷ bs)) t o r t₁ o′ → HandedOn s t₁ (drop (r .consumed) (b ∷ bs)) more t₂
+      → HandedOn s t (b ∷ bs) (take (r .written) o′ ++ more) t₂
