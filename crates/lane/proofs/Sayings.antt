@@ -52,11 +52,6 @@ module _ (read : List ℕ → Notice) (kind : ℕ) (l : List ℕ) where
   open-first e = ap open-one (open-there e)
 
   module _ (st : Settings) where
-    -- a copy of it
-    pub open-said : any (open-one (lane-by read kind l)) ≡ true
-        → copies-to st (lane-by read kind l) (open-one (lane-by read kind l)) ≡ copy-by st false l (read (first-in kind l)) ∷ []
-    open-said e = ap (λ (x : Subscription). copies-to st x (open-one x)) (open-there e)
-
     -- the frame of any notice to one that is subscribed
     pub frame-said : (n : Notice) → is-subscribed (lane-by read kind l) ≡ true
         → frame-to st (lane-by read kind l) n ≡ event-frame st (control-of l .revision) (is-plain (control-of l .form)) (n .event)

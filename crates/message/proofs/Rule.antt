@@ -2,9 +2,9 @@
 -- Assumes nothing.
 use mathlib.Core.Path.{_≡_, refl, sym, ap, _∙_}
 use mathlib.Core.Bool.{Bool, true, false, _&&_, So, and-eq-true-iff, false≢true}
-use mathlib.Core.List.{List, [], _∷_}
+use mathlib.Core.List.{List, []}
 use mathlib.Core.Option.{some}
-use Prim.Native.Nat.{ℕ, _+_, _<_, _≤_}
+use Prim.Native.Nat.{ℕ, _+_, _<_}
 use native.Mathlib.Numerals.{add-one}
 use native.Mathlib.Omega.{arith}
 use lib.Dec.{eqb}
@@ -13,7 +13,6 @@ use lib.Seq.{drop-cons}
 use borrow.Author.Tests.{eqb-true, eqb-false, eq-eqb, ne-eqb}
 use Rattle.model.specs.Messages.{Entry, entry, Revisions, not-read, revisions, mirrors, table, listed, entry-of}
 use Rattle.message.specs.Inner.{any, messages, Spans, read, is-listed, Lists}
-use Rattle.message.specs.declared.Row.{Row}
 use Rattle.message.proofs.AtEach.{at-each}
 
 -- ==== the test, and what it tells

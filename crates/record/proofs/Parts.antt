@@ -1,14 +1,14 @@
 -- Records and the items of their payloads: an item later. Assumes nothing.
-use mathlib.Core.Path.{_≡_, refl, sym, ap, _∙_}
-use Prim.Native.Nat.{ℕ, suc, _+_, _≤_, _<_}
+use mathlib.Core.Path.{_≡_, sym, ap, _∙_}
+use Prim.Native.Nat.{ℕ, _+_, _≤_, _<_}
 use native.Mathlib.Omega.{arith}
 use mathlib.Core.Bool.{Bool, true, false, cond, _&&_, and-eq-true-iff}
-use mathlib.Core.List.{List, [], _∷_, map}
+use mathlib.Core.List.{List, []}
 use lib.Dec.{leb, eqb}
 use lib.ListN.{length, getD, take, drop, drop-of-length-le}
 use borrow.Author.Tests.{leb-true, eqb-true, eq-eqb, ne-eqb}
 use Rattle.model.specs.Bytes.{little, places}
-use Rattle.model.specs.Records.{Item, number, text, time, item-length, is-record, good-item, payload-length, parts, parts-from, good-parts}
+use Rattle.model.specs.Records.{Item, text, time, item-length, is-record, good-item, payload-length, parts, parts-from, good-parts}
 use Rattle.model.specs.Records.{record-head, good-payload, good-record}
 use Rattle.text.proofs.Lists.{drop-next}
 use Rattle.record.specs.Items.{item-of, items, readable}

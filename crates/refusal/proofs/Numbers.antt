@@ -4,7 +4,7 @@ use mathlib.Core.Path.{_≡_, refl, sym, ap, _∙_}
 use Prim.Native.Nat.{ℕ, suc, _≤_, _<_}
 use native.Mathlib.Omega.{arith}
 use mathlib.Core.Bool.{Bool, true, false, not, cond, and-eq-true-iff}
-use mathlib.Core.List.{List, [], _∷_, _++_}
+use mathlib.Core.List.{List, [], _∷_}
 use mathlib.Core.Option.{none, some}
 use lib.Dec.{leb, ltb, eqb}
 use lib.ListN.{length}
@@ -168,12 +168,6 @@ tool-passes t n record-kind e =
   where
     nonzero : (k : ℕ) → suc k ≡ 0 → ⊥
     nonzero k z = omega arith
-
--- what is lent will do, whatever the record's kind
-pub tool-ready : (t : List ℕ) (n : ℕ) (slice : List ℕ) → number t n (tool slice) ≡ 0 → Ready t n
-unfolding refusal
-tool-ready t n slice e =
-    is-ready t n (none-applies t n (tool-tests (read-tool slice) (decode t .shared .last)) e .0)
 
 -- good settings, and a table that is long enough
 pub start-passes : (t slice : List ℕ) → number t 0 (start slice) ≡ 0

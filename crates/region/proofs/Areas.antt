@@ -6,7 +6,7 @@ use native.Mathlib.Omega.{arith}
 use mathlib.Core.Bool.{Bool, true, _&&_, and-eq-true-iff}
 use mathlib.Core.List.{List}
 use lib.Dec.{leb, lit≤}
-use lib.ListN.{length, getD, set, take, drop}
+use lib.ListN.{length, getD, set}
 use borrow.Author.Tests.{leb-true}
 use borrow.Rule.Slice.PartMut.{putMid, midOf, mid-len, same-len-mid}
 use Rattle.model.specs.Bytes.{all}
@@ -15,7 +15,7 @@ use Rattle.model.specs.Kinds.{kinds}
 use Rattle.model.specs.Notices.{Subscription, unsubscribed}
 use Rattle.text.specs.Areas.{Apart}
 use Rattle.text.proofs.Cells.{area-same, area-before, area-after}
-use Rattle.text.proofs.Areas.{below, each-below, apart, areas-at, areas-put, areas-same, length-areas, all-set, passes}
+use Rattle.text.proofs.Areas.{each-below, apart, areas-at, areas-put, areas-same, length-areas, all-set, passes}
 use Rattle.session.specs.declared.Session.{Session}
 use Rattle.run.specs.Area.{run-size, run-of, run-formed, bytes-of}
 use Rattle.run.specs.Area as run

@@ -2,24 +2,22 @@
 use mathlib.Core.Path.{_≡_, refl, sym, ap, ap₂, subst, _∙_}
 use mathlib.Core.Bool.{Bool, true, false, cond}
 use mathlib.Core.List.{List, [], _∷_, _++_, append-nil}
-use mathlib.Core.Option.{Option, none, some}
-use Prim.Native.Nat.{ℕ, zero, suc, _+_, _-_, _≤_, _<_, min}
-use native.Mathlib.Nat.{add-zero}
+use mathlib.Core.Option.{Option, none}
+use Prim.Native.Nat.{ℕ, zero, suc, _≤_, _<_, min}
 use native.Mathlib.Omega.{arith}
 use lib.Dec.{lit≤}
 use lib.ListN.{length, getD, set, take, drop, length-take, length-drop}
 use lib.Seq.{getD-set-same, take-take, take-all}
-use Rattle.model.specs.Limits.{header-length, run-kept, run-counted, identifier-length, idle-limit}
+use Rattle.model.specs.Limits.{header-length, run-kept, idle-limit}
 use Rattle.model.specs.Bytes.{little}
 use Rattle.model.specs.Records.{Settings}
-use Rattle.model.specs.Runs.{Run, empty-run, longer, Piece}
+use Rattle.model.specs.Runs.{Run, empty-run, longer}
 use Rattle.model.specs.Kinds.{kinds, room-of}
 use Rattle.model.specs.Events.{Notice}
 use Rattle.model.specs.Notices.{Subscription, unsubscribed, act}
 use Rattle.model.specs.Notices as notices
-use Rattle.model.specs.Session.{no-subscriptions, subscribed-to, Emission}
+use Rattle.model.specs.Session.{no-subscriptions, Emission}
 use Rattle.model.specs.Session as model
-use Rattle.model.specs.Messages as messages
 use Rattle.model.specs.Local.{step, receives, announces}
 use Rattle.model.specs.Sharing.{shared-begun}
 use Rattle.model.proofs.Cuts.{longer-longer}
@@ -30,7 +28,7 @@ use Rattle.message.specs.declared.Standing.{Standing}
 use Rattle.frame.specs.Header.{header-of}
 use Rattle.session.specs.Meaning.{deed-of, session-as}
 use Rattle.session.specs.Control.{cleared}
-use Rattle.session.specs.Effects.{standing-in, decision-on, dealt-by, carried-out, replies, announced}
+use Rattle.session.specs.Effects.{standing-in, carried-out, replies, announced}
 use Rattle.session.specs.declared.Phase.{Phase}
 use Rattle.session.specs.declared.Phase.the-variants.{Closed, Opened, Started}
 use Rattle.session.specs.declared.Session.{Session}
@@ -49,7 +47,7 @@ use Rattle.lane.proofs.Sayings.{quiet-of, after}
 use Rattle.region.specs.Region.{region-size, head-area, run-area, subscriptions-in, subscription-in, session-of, meaning, Good}
 use Rattle.region.specs.Region.{run-bytes, Becomes, Changes, LanesCleared}
 use Rattle.region.specs.Said.{due-copy, DealtTo, ending, is-known, known-in, Knows, stood, Ruled, CarriesOut, ended-by, ended-in}
-use Rattle.region.specs.Said.{end-said, RunEnds}
+use Rattle.region.specs.Said.{RunEnds}
 use Rattle.region.specs.declared.Ended.{Ended}
 use Rattle.region.proofs.Areas.{parts, good-of, replaced-size, subscription-at, there, means}
 use Rattle.region.proofs.Says.{sent, row-one, said-one}

@@ -11,8 +11,8 @@ use Rattle.model.specs.Records.{Settings}
 use Rattle.model.specs.Kinds.{Room, room-of}
 use Rattle.model.specs.Events.{Notice}
 use Rattle.model.specs.Notices.{Subscription, unsubscribed, Deed, news, act}
-use Rattle.model.specs.Session.{Copy, Emission, copy, copies-to, deal, only}
-use Rattle.model.specs.Row.{Tagged, tag, row, said}
+use Rattle.model.specs.Session.{Copy, copy, copies-to, deal, only}
+use Rattle.model.specs.Row.{tag, row, said}
 use Rattle.model.proofs.RowLaws.{row-alone}
 use Rattle.lane.specs.Lane.{open-one, any}
 use Rattle.lane.proofs.Sayings.{Quiet, after, told}

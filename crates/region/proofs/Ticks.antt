@@ -1,7 +1,7 @@
 -- A tick and an event, to a session in its region. Assumes nothing.
-use mathlib.Core.Path.{_≡_, refl, sym, ap, ap₂, subst, _∙_}
+use mathlib.Core.Path.{_≡_, refl, sym, ap, ap₂, _∙_}
 use mathlib.Core.Bool.{Bool, true, false, cond, true≢false}
-use mathlib.Core.List.{List, [], _∷_, map}
+use mathlib.Core.List.{List, [], _∷_}
 use Prim.Native.Nat.{ℕ, _<_}
 use native.Mathlib.Omega.{arith}
 use lib.Dec.{eqb}
@@ -9,16 +9,15 @@ use lib.ListN.{length, getD, set, replicate}
 use lib.Seq.{getD-set-same}
 use borrow.Author.Tests.{eqb-true}
 use Rattle.model.specs.Records.{Settings}
-use Rattle.model.specs.Runs.{Run}
 use Rattle.model.specs.Kinds.{kinds, room-of}
 use Rattle.model.specs.Limits.{idle-limit}
 use Rattle.model.specs.Events.{Notice, kind-of}
-use Rattle.model.specs.Notices.{Subscription, unsubscribed, is-subscribed, beats, news, act}
+use Rattle.model.specs.Notices.{Subscription, unsubscribed, beats, news, act}
 use Rattle.model.specs.Notices as notices
-use Rattle.model.specs.Session.{closed, started, Emission, copy, close, deal, dealt, only}
+use Rattle.model.specs.Session.{started, Emission, close, dealt, only}
 use Rattle.model.specs.Session as model
 use Rattle.model.specs.Local.{step, tick, event, takes}
-use Rattle.model.specs.Row.{row, said}
+use Rattle.model.specs.Row.{row}
 use Rattle.model.specs.Sharing.{Shared, shared-begun}
 use Rattle.text.proofs.Areas.{each-below}
 use Rattle.frame.specs.Places.{event-in, notice-in}
@@ -36,10 +35,9 @@ use Rattle.head.specs.Head.{head-of}
 use Rattle.lane.specs.Lane.{any}
 use Rattle.lane.specs.declared.Told.{Told}
 use Rattle.lane.proofs.Sayings.{told}
-use Rattle.region.specs.Region.{head-area, run-area, subscriptions-in, subscription-in, session-of, meaning, Good, Becomes, Changes}
-use Rattle.region.specs.Said.{copies-out, due-copies, acting, dues, AllReady, DealtTo, DealtToAll, TickStays, tick-said, Ticks}
-use Rattle.region.specs.Said.{event-said, Takes}
-use Rattle.region.specs.declared.Ticked.{Ticked}
+use Rattle.region.specs.Region.{head-area, run-area, subscriptions-in, subscription-in, session-of, meaning, Good, Changes}
+use Rattle.region.specs.Said.{copies-out, due-copies, acting, dues, DealtTo, DealtToAll, TickStays, Ticks}
+use Rattle.region.specs.Said.{Takes}
 use Rattle.region.proofs.Areas.{length-subscriptions, subscription-at, there, means}
 use Rattle.region.proofs.Says.{sent-itself, row-acting, said-due, all-ready, row-one, said-one, none-due, none-ready}
 

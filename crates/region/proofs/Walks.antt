@@ -13,7 +13,6 @@ use borrow.Rule.Slice.PartMut.{putMid, midOf}
 use Rattle.model.specs.Bytes.{all}
 use Rattle.model.specs.Kinds.{kinds, room-of}
 use Rattle.model.specs.Notices.{Subscription, unsubscribed, is-subscribed, Deed, act}
-use Rattle.model.specs.Session.{no-subscriptions}
 use Rattle.model.specs.Row.{row}
 use Rattle.text.proofs.Areas.{areas-at, areas-all, length-areas}
 use Rattle.frame.specs.Places.{notice-in}
@@ -26,7 +25,7 @@ use Rattle.lane.specs.Kinds.{lane-size}
 use Rattle.lane.specs.Lane.{lane-of, lane-formed, Deals, any}
 use Rattle.lane.specs.Lane as lane
 use Rattle.region.specs.Region.{region-size, head-area, run-area, lane-at, lanes, lane-in, subscriptions-in, subscription-in}
-use Rattle.region.specs.Region.{Good, run-bytes, Becomes, Changes, LanesCleared}
+use Rattle.region.specs.Region.{Good, Changes, LanesCleared}
 use Rattle.region.specs.Said.{acting, dues, DealtTo, DealtToAll, stood}
 use Rattle.region.proofs.Areas.{length-subscriptions, subscription-at, there, lane-part, lane-replaced, lane-size-kept}
 use Rattle.region.proofs.Areas.{head-kept, run-kept, lanes-put}

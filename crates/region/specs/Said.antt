@@ -14,7 +14,6 @@ use Rattle.model.specs.Events.{Notice}
 use Rattle.model.specs.Notices.{Subscription, unsubscribed, is-subscribed, Deed, act}
 use Rattle.model.specs.Messages as model-messages
 use Rattle.model.specs.Session.{Emission, copy, close, copies-to, subscribed-to}
-use Rattle.model.specs.Session as model
 use Rattle.model.specs.Row.{tag, row}
 use Rattle.model.specs.Local.{step, tick, event, receives, announces, takes}
 use Rattle.model.specs.Sharing.{Shared, shared-begun}
@@ -26,7 +25,6 @@ use Rattle.session.specs.Effects.{ticked-so, dealt-by, replies, announced}
 use Rattle.session.specs.declared.Idling.the-variants.{Stays}
 use Rattle.session.specs.declared.Session.{Session}
 use Rattle.session.specs.declared.Decision.{Decision}
-use Rattle.session.specs.declared.Reply.{Reply}
 use Rattle.session.specs.declared.Reply.the-variants.{Mirrored}
 use Rattle.lane.specs.Lane.{open-one, any}
 use Rattle.run.specs.Area.{run-of}

@@ -1,19 +1,19 @@
 -- One call of the program's: what it leaves of the table means the state that the model's program goes on to, and its lines are that
 -- one's new lines. Assumes nothing.
 use mathlib.Core.Path.{_≡_, refl, sym, ap, ap₂, subst, _∙_}
-use Prim.Native.Nat.{ℕ, zero, suc, _+_, _≤_, _<_}
+use Prim.Native.Nat.{ℕ, zero, suc}
 use native.Mathlib.Omega.{arith}
-use mathlib.Core.Bool.{Bool, true, false, not, cond, _&&_, _||_, and-eq-true-iff}
-use mathlib.Core.List.{List, [], _∷_, _++_, map, append-assoc}
+use mathlib.Core.Bool.{Bool, true, false, cond, _||_}
+use mathlib.Core.List.{List, [], _∷_, _++_, append-assoc}
 use mathlib.Core.Option.{Option, none, some}
-use lib.Dec.{leb, ltb, eqb}
-use lib.ListN.{length, take, length-map}
-use borrow.Author.Tests.{eq-eqb, ne-eqb, eqb-true}
+use lib.Dec.{eqb}
+use lib.ListN.{length, take}
+use borrow.Author.Tests.{ne-eqb, eqb-true}
 use Rattle.model.specs.Limits.{session-count, table-least, output-least}
 use Rattle.model.specs.Records.{Settings, read-settings}
-use Rattle.model.specs.Session.{Session, Emission}
+use Rattle.model.specs.Session.{Emission}
 use Rattle.model.specs.Row.{Tagged}
-use Rattle.model.specs.World.{World, uncounted, emits, begins, after, emitted}
+use Rattle.model.specs.World.{World, uncounted, begins, emitted}
 use Rattle.model.specs.Calls.{Call, start, open-session, hang-up-session, bytes, one-tick, tool}
 use Rattle.model.specs.Calls.{Lent, output, refusal, answered, step}
 use Rattle.model.specs.Calls as model

@@ -1,5 +1,5 @@
 -- 01, "Counted and compared": what is read comes in pieces, and is served as if it had come at once. Assumes nothing.
-use mathlib.Core.Path.{_≡_, refl, sym, ap, ap₂, subst, _∙_}
+use mathlib.Core.Path.{_≡_, refl, sym, ap, ap₂, _∙_}
 use Prim.Native.Nat.{ℕ, zero, suc, _+_, _-_, _≤_, _<_}
 use native.Mathlib.Nat.{zero-add}
 use native.Mathlib.Omega.{arith}
@@ -7,7 +7,7 @@ use mathlib.Core.Bool.{Bool, true, false, cond, _&&_}
 use mathlib.Core.List.{List, [], _∷_, _++_, append-assoc, append-nil, flatten}
 use lib.Dec.{leb}
 use lib.ListN.{length, take, drop, replicate, length-append, length-drop}
-use lib.Seq.{sets, length-take-le, take-add, take-take, take-append-le, drop-append-le, drop-drop}
+use lib.Seq.{sets, length-take-le, take-add, take-append-le, drop-append-le}
 use borrow.Author.Tests.{leb-true}
 use Rattle.model.specs.Limits.{table-least, payload-longest}
 use Rattle.model.specs.Bytes.{little, places}

@@ -1,22 +1,18 @@
 -- 01, "Counted and compared": a record is a call, or received bytes; and the records of an input one after the other. Assumes nothing.
-use mathlib.Core.Path.{_≡_, refl, sym, ap, ap₂, _∙_}
+use mathlib.Core.Path.{_≡_, refl, sym, ap, _∙_}
 use Prim.Native.Nat.{ℕ, suc, _+_, _-_, _≤_, _<_}
 use native.Mathlib.Omega.{arith}
-use mathlib.Core.Bool.{Bool, true, false, cond, _&&_}
+use mathlib.Core.Bool.{Bool, true, false}
 use mathlib.Core.List.{List, _++_, flatten}
-use lib.Dec.{leb, eqb}
 use lib.ListN.{length, take, drop, length-append}
 use lib.Seq.{length-take-le, drop-drop}
-use borrow.Author.Tests.{ne-eqb, lt-leb}
-use Rattle.model.specs.Bytes.{within, little, places}
-use Rattle.model.specs.Calls.{Call, start, open-session, hang-up-session, bytes, one-tick, tool}
+use Rattle.model.specs.Bytes.{little, places}
 use Rattle.model.specs.Program.{State, called, fed, call-of, given, all-given, bytes-kind, is-of}
 use Rattle.model.specs.Records.{record-head}
 use Rattle.replay.specs.Whole.{whole-size, records, waits}
 use Rattle.replay.specs.States.{Follows}
 use Rattle.replay.proofs.Sizes.{slices-first, slices-none}
 use Rattle.replay.proofs.Follows.{follows-nothing, follows-then, follows-as}
-use Rattle.replay.proofs.Turns.{at-least}
 
 -- ==== one record
 

@@ -1,18 +1,16 @@
 -- A run in its area: what more bytes make of it. Assumes nothing.
-use mathlib.Core.Path.{_≡_, refl, sym, ap, ap₂, _∙_}
-use Prim.Native.Nat.{ℕ, zero, suc, _+_, _-_, _≤_, _<_, min}
+use mathlib.Core.Path.{_≡_, sym, ap, ap₂, _∙_}
+use Prim.Native.Nat.{ℕ, _+_, _-_, _≤_, _<_, min}
 use native.Mathlib.Nat.{le-trans}
 use native.Mathlib.Omega.{arith}
-use mathlib.Core.Bool.{true}
 use mathlib.Core.List.{List, [], _∷_, _++_}
 use lib.Dec.{leb, lit≤}
 use lib.ListN.{length, take, drop, length-drop}
 use lib.Seq.{sets, length-sets, length-take-le}
 use borrow.Author.Tests.{le-leb, leb-true}
 use Rattle.model.specs.Bytes.{little, in-bytes}
-use Rattle.model.specs.Runs.{Run, empty-run, longer}
+use Rattle.model.specs.Runs.{Run, longer}
 use Rattle.text.proofs.Lists.{drop-sets, drop-sets-after, take-sets, take-least, take-over}
-use Rattle.text.proofs.Numbers.{in-bytes-length}
 use Rattle.run.specs.Area.{run-size, run-of, run-formed, Area, Over}
 
 pub counted : (a : List ℕ) → Area a → little (take 2 a) ≤ 10000

@@ -12,10 +12,10 @@ use borrow.Author.Tests.{leb-true, leb-false, eq-eqb, ne-eqb, lt-ltb, le-ltb}
 use Rattle.model.specs.Limits.{copy-every, given-up-at}
 use Rattle.model.specs.Events.{Notice}
 use Rattle.model.specs.Kinds.{Room, the-newest, up-to}
-use Rattle.model.specs.Notices.{acked, busy, beats, news, asks, drops, acks, next-one, clock-at, has-room, takes, act}
+use Rattle.model.specs.Notices.{acked, busy, beats, news, asks, acks, next-one, clock-at, has-room, takes, act}
 use Rattle.model.specs.Notices as model
 use Rattle.session.specs.Meaning.{subscription-in, most-held, Holds, Stepped, Took, Becomes, held-asked}
-use Rattle.session.specs.Control.{subscription, unsubscribed, subscribed, beat-at, next-goes-out, by-beat, ticked, acknowledged}
+use Rattle.session.specs.Control.{subscription, subscribed, beat-at, next-goes-out, by-beat, ticked, acknowledged}
 use Rattle.session.specs.Control.{taken-busy, taken}
 use Rattle.session.specs.declared.Form.{Form}
 use Rattle.session.specs.declared.Form.the-variants.{Not, Plain, Acknowledged}
@@ -163,7 +163,3 @@ module _ (room : Room) (revision : ℕ) (no-acknowledge : Bool) where
       → Becomes room (act room (asks revision no-acknowledge) (subscription-in x ns)) (subscribed x revision no-acknowledge)
       (held-asked (x .form) ns)
   subscribe-right x ns h = asks-at (x .form) (x .revision) (x .clock) (x .held) ns h
-
--- `session::unsubscribed` is the model's unsubscribing, whatever is held
-pub unsubscribe-right : (room : Room) (x : model.Subscription) → Becomes room (act room drops x) unsubscribed []
-unsubscribe-right room x = record { acts = refl; holds = record { held = refl; clock = omega arith; fits = zero-le } }

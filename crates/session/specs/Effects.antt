@@ -1,6 +1,6 @@
 -- What this crate's answers come to for a whole session, in the model's terms, whatever subscriptions it has. Assumes nothing: these are
 -- definitions.
-use Prim.Native.Nat.{ℕ, _+_, _≤_, _<_}
+use Prim.Native.Nat.{ℕ, _≤_}
 use mathlib.Core.Path.{_≡_}
 use mathlib.Core.Bool.{Bool, true, false, cond}
 use mathlib.Core.List.{List, [], _∷_, _++_, map}

@@ -1,18 +1,15 @@
 -- A tick and an event to one session: first its region changes, and then what it has to say is written. Assumes nothing.
 use mathlib.Core.Path.{_≡_, sym, ap, ap₂, subst, _∙_}
-use Prim.Native.Nat.{ℕ, _+_, _≤_, _<_}
+use Prim.Native.Nat.{ℕ}
 use native.Mathlib.Omega.{arith}
 use mathlib.Core.Bool.{Bool, true, false, cond}
 use mathlib.Core.List.{List, [], _∷_, append-nil}
-use lib.ListN.{length}
-use Rattle.model.specs.Limits.{session-count}
 use Rattle.model.specs.Records.{Settings}
 use Rattle.model.specs.Kinds.{kinds, kind-at, copy-most, copies-most}
 use Rattle.model.specs.Notices.{is-subscribed}
-use Rattle.model.specs.Session.{Session, Emission, close}
+use Rattle.model.specs.Session.{close}
 use Rattle.model.specs.Frames.{close-record}
-use Rattle.model.specs.Local.{Local, tick, event, step, takes}
-use Rattle.model.specs.Sharing.{shared-begun}
+use Rattle.model.specs.Local.{tick, event, step, takes}
 use Rattle.model.specs.World.{session-at, to as to-one}
 use Rattle.text.specs.Put.{Put}
 use Rattle.text.proofs.Puts.{put-nothing, put-as}
@@ -23,10 +20,10 @@ use Rattle.lane.specs.declared.Told as lane
 use Rattle.region.specs.Region.{subscriptions-in, subscription-in, session-of, Good}
 use Rattle.region.specs.Said.{copies-out, due-copies, AllReady, Ticks, tick-said, Takes, event-said}
 use Rattle.region.specs.declared.Ticked.{Ticked}
-use Rattle.table.specs.Table.{region-in, decode, settings-in, Table, Went}
+use Rattle.table.specs.Table.{region-in, decode, settings-in, Went}
 use Rattle.table.specs.Says.{Lent, Wrote, CopyLent, DueLent}
 use Rattle.table.specs.Passes.{EventLent, TellsOne}
-use Rattle.table.proofs.Regions.{part, put, part-is, part-good, put-size, put-in, put-table, put-settings}
+use Rattle.table.proofs.Regions.{part, put, part-is, put-in, put-table, put-settings}
 use Rattle.table.proofs.Alone.{went-alone, by-settings}
 
 -- ==== the region of a session has become r

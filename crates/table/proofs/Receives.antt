@@ -6,7 +6,7 @@ use mathlib.Core.Option.{Option, none, some, Option·map as option-map}
 use Prim.Native.Nat.{ℕ, _+_, _-_, _≤_, _<_}
 use native.Mathlib.Nat.{sub-zero}
 use native.Mathlib.Omega.{arith}
-use lib.Dec.{ltb, leb}
+use lib.Dec.{leb}
 use lib.ListN.{length, take}
 use lib.Seq.{take-all}
 use borrow.Author.Tests.{lt-ltb, le-ltb, leb-true}
@@ -33,7 +33,7 @@ use Rattle.session.proofs.Replies.{out-append}
 use Rattle.run.specs.Area.{run-of, Ends}
 use Rattle.head.specs.Head.{head-of}
 use Rattle.region.specs.Region as region
-use Rattle.region.specs.Region.{head-area, run-area, subscriptions-in, subscription-in, session-of, Good, run-bytes}
+use Rattle.region.specs.Region.{head-area, run-area, subscriptions-in, subscription-in, session-of, run-bytes}
 use Rattle.region.specs.Said.{due-copy, Ready, ending, Knows, ended-in, end-said, RunEnds}
 use Rattle.region.specs.declared.Ended.{Ended}
 use Rattle.region.proofs.Areas.{means}

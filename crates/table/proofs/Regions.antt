@@ -1,19 +1,19 @@
 -- The areas of the table: what is known of each, and what the table means after one of them was replaced. Assumes nothing.
 use mathlib.Core.Path.{_≡_, refl, sym, ap, subst, _∙_}
-use Prim.Native.Nat.{ℕ, zero, suc, _+_, _-_, _*_, _≤_, _<_}
+use Prim.Native.Nat.{ℕ, _+_, _-_, _≤_, _<_}
 use native.Mathlib.Nat.{add-sub-cancel-left}
 use native.Mathlib.Omega.{arith}
-use mathlib.Core.Bool.{Bool, true, false, _&&_, and-eq-true-iff}
-use mathlib.Core.List.{List, [], _∷_}
+use mathlib.Core.Bool.{Bool, true, false, and-eq-true-iff}
+use mathlib.Core.List.{List}
 use lib.Dec.{lit≤}
-use lib.ListN.{length, getD, set, drop, replicate, length-drop, drop-of-length-le}
+use lib.ListN.{length, getD, set, drop, replicate, length-drop}
 use lib.Seq.{drop-drop, length-take-le}
 use borrow.Rule.Slice.PartMut.{putMid, midOf, mid-len, same-len-mid}
 use Rattle.model.specs.Limits.{session-count, table-least, identifier-length}
 use Rattle.model.specs.Bytes.{all}
 use Rattle.model.specs.Records.{settings-of, settings-length}
 use Rattle.model.specs.Session.{Session, closed}
-use Rattle.model.specs.World.{World, session-at}
+use Rattle.model.specs.World.{session-at}
 use Rattle.text.specs.Areas.{Apart}
 use Rattle.text.proofs.Lists.{drop-after}
 use Rattle.text.proofs.Cells.{area-same, area-before, area-after}

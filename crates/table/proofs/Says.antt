@@ -1,23 +1,21 @@
 -- What is written of a table is what its sessions say. Assumes nothing.
-use mathlib.Core.Path.{_≡_, refl, sym, ap, ap₂, subst, _∙_}
-use Prim.Native.Nat.{ℕ, suc, _+_, _-_, _≤_, _<_}
+use mathlib.Core.Path.{_≡_, sym, ap, ap₂, _∙_}
+use Prim.Native.Nat.{ℕ, suc, _+_, _≤_, _<_}
 use native.Mathlib.Numerals.{add-one}
 use native.Mathlib.Omega.{arith}
-use mathlib.Core.Bool.{Bool, true, false, cond}
+use mathlib.Core.Bool.{Bool, true, false}
 use mathlib.Core.List.{List, [], _∷_, _++_, map, append-nil}
 use lib.ListN.{length, getD, drop, length-drop, drop-of-length-le}
 use lib.Seq.{length-take-le}
-use Rattle.model.specs.Limits.{session-count}
 use Rattle.model.specs.Records.{Settings}
 use Rattle.model.specs.Kinds.{Kind, kinds, kind-at, copy-most, copies-most}
-use Rattle.model.specs.Events.{Notice}
 use Rattle.model.specs.Frames.{event-frame, frame-record}
 use Rattle.model.specs.Notices.{Subscription, unsubscribed, is-subscribed}
-use Rattle.model.specs.Session.{Copy, Emission, copy}
+use Rattle.model.specs.Session.{Copy, copy}
 use Rattle.model.specs.Row.{tag}
 use Rattle.text.specs.Put.{Put}
 use Rattle.text.proofs.Lists.{drop-next}
-use Rattle.text.proofs.Puts.{Left, left-all, left-put, left-none, left-as, put-as, put-nothing}
+use Rattle.text.proofs.Puts.{Left, left-all, left-put, left-none, left-as}
 use Rattle.frame.specs.Places.{place-size, event-in, notice-in}
 use Rattle.session.specs.Effects.{out-bytes}
 use Rattle.session.specs.declared.Subscription as control
@@ -27,7 +25,7 @@ use Rattle.lane.specs.Lane.{is-plain, control-of, first-in, lane-of, open-one, 
 use Rattle.lane.proofs.KindLaws.{kind-fits}
 use Rattle.lane.proofs.Lanes.{first-fits}
 use Rattle.lane.proofs.Sayings.{tell-said, open-there, open-first}
-use Rattle.region.specs.Said.{copies-out, due-copy, due-copies, Ready, AllReady}
+use Rattle.region.specs.Said.{copies-out, due-copy, due-copies}
 
 -- ==== a copy
 
@@ -103,13 +101,6 @@ module _ (st : Settings) (s : ℕ) (due : List Bool) (xs : List Subscription) (o
             room = omega (arith, room-for kind h);
             bytes = left-put (left-as next-one (w .bytes)) p;
           }
-
-      -- nothing is due
-      pub saying-on : getD due kind false ≡ false → Saying o at (kind + 1)
-      saying-on e =
-          saying-next o at
-          (put-as (ap (λ (b : Bool). out-bytes s (due-copy st kind b (getD xs kind unsubscribed))) (sym e)) (put-nothing o at))
-          (omega arith)
 
   pub all-said : (o : List ℕ) (at kind : ℕ) → Saying o at kind → length due ≤ kind
       → Put o₀ at₀ (out-bytes s (due-copies st 0 due xs)) at o

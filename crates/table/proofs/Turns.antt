@@ -8,9 +8,7 @@ use mathlib.Core.List.{List, [], _∷_}
 use lib.ListN.{length}
 use Rattle.model.specs.Limits.{session-count}
 use Rattle.model.specs.Local.{Local}
-use Rattle.model.specs.Row.{Tagged}
-use Rattle.model.specs.Session.{Emission}
-use Rattle.model.specs.World.{World, uncounted, Moment, to as alone, to-all, next, emits, after, emitted, in-turn}
+use Rattle.model.specs.World.{uncounted, to as alone, to-all, next, emits, after, emitted, in-turn}
 use Rattle.model.specs.Calls.{output}
 use Rattle.model.proofs.InTurn.{all-in-turn, all-emitted}
 use Rattle.text.specs.Put.{Put}

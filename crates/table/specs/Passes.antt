@@ -4,7 +4,7 @@ use mathlib.Core.Path.{_≡_}
 use Prim.Native.Nat.{ℕ, _+_, _^_, _≤_, _<_}
 use mathlib.Core.Bool.{false}
 use mathlib.Core.List.{List, [], _∷_}
-use mathlib.Core.Option.{Option, Option·map as option-map}
+use mathlib.Core.Option.{Option·map as option-map}
 use lib.ListN.{length}
 use Rattle.model.specs.Limits.{session-count}
 use Rattle.model.specs.Runs.{Piece}

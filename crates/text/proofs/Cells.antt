@@ -1,66 +1,15 @@
--- Laws of cells: after one cell's elements were replaced, that cell reads as they do, and the others as they did; and areas of any
--- sizes, likewise. Assumes nothing.
+-- Laws of cells: their number, the last of them, and a queue in them; and after one of areas of any sizes was replaced, that one reads as
+-- what was put there, and the others as they did. Assumes nothing.
 use mathlib.Core.Path.{_≡_, refl, sym, ap, ap₂, _∙_}
-use Prim.Native.Nat.{ℕ, zero, suc, _+_, _-_, _*_, _≤_, _<_}
-use native.Mathlib.Nat.{suc-add, zero-add, add-zero, suc-mul, zero-mul, add-comm, add-sub-cancel-left, sub-zero, suc-sub-suc}
+use Prim.Native.Nat.{ℕ, zero, suc, _+_, _-_, _*_, _≤_}
+use native.Mathlib.Nat.{zero-add, add-zero, suc-mul, zero-mul, add-comm, add-sub-cancel-left}
 use native.Mathlib.Omega.{arith}
 use mathlib.Core.List.{List, [], _∷_, _++_}
-use lib.ListN.{length, getD, set, take, drop, length-drop}
-use lib.Seq.{sets, take-nil, take-at, drop-at, drop-drop, take-take, take-append-le, length-take-le}
+use lib.ListN.{length, take, drop, length-drop}
+use lib.Seq.{sets, take-at, drop-at, drop-drop, take-take, take-append-le, length-take-le}
 use borrow.Rule.Slice.PartMut.{putMid, midOf}
 use Rattle.text.specs.Cells.{cells}
 use Rattle.text.proofs.Lists.{sets-mid, drop-after, drop-take, drop-sets, take-sets, take-sets-before}
-
--- a part that lies past the first a elements, seen from there
-pub drop-mid : (l ys : List ℕ) (a m k : ℕ) → a ≤ length l → drop a (putMid (a + m) k l ys) ≡ putMid m k (drop a l) ys
-drop-mid l ys zero m k h = rw zero-add
-drop-mid [] ys (suc a) m k h = absurd (omega arith)
-drop-mid (x ∷ l) ys (suc a) m k h = rw suc-add (drop-mid l ys a m k (omega arith))
-
-pub take-mid : (l ys : List ℕ) (a m k : ℕ) → a ≤ length l → take a (putMid (a + m) k l ys) ≡ take a l
-take-mid l ys zero m k h = refl
-take-mid [] ys (suc a) m k h = absurd (omega arith)
-take-mid (x ∷ l) ys (suc a) m k h = rw suc-add (ap (λ (z : List ℕ). x ∷ z) (take-mid l ys a m k (omega arith)))
-
-module _ {A : Type 0} (f : List ℕ → A) (k : ℕ) (ys : List ℕ) (len : length ys ≡ k) where
-  -- the j-th of n cells has ys now
-  pub cells-put : (n j : ℕ) (l : List ℕ) → j * k + k ≤ length l → cells f k n (putMid (j * k) k l ys) ≡ set (cells f k n l) j (f ys)
-  unfolding cells
-  cells-put zero j l h = refl
-  cells-put (suc n) zero l h =
-      rw zero-mul (ap₂ (λ (c : List ℕ) (d : List ℕ). f c ∷ cells f k n d) (take-at ys _ k len) (drop-at ys _ k len))
-  cells-put (suc n) (suc j) l h =
-      let e : suc j * k ≡ k + j * k = suc-mul j k ∙ add-comm (j * k) k in
-      let g : k ≤ length l = omega arith in
-      let d : j * k + k ≤ length (drop k l) = simp length-drop (omega arith) in
-      rw e
-      (ap₂ (λ (c : List ℕ) (d : List ℕ). f c ∷ cells f k n d) (take-mid l ys k (j * k) k g) (drop-mid l ys k (j * k) k g)
-      ∙ ap (λ (z : List A). f (take k l) ∷ z) (cells-put n j (drop k l) d))
-
--- the j-th of n cells
-pub cells-at : {A : Type 0} (f : List ℕ → A) (k n j : ℕ) (l : List ℕ) (d : A) → j < n
-    → getD (cells f k n l) j d ≡ f (take k (drop (j * k) l))
-unfolding cells
-cells-at f k zero j l d h = absurd (omega arith)
-cells-at f k (suc n) zero l d h = rw zero-mul
-cells-at f k (suc n) (suc j) l d h =
-    cells-at f k n j (drop k l) d (omega arith) ∙ ap (λ (z : List ℕ). f (take k z))
-    (drop-drop (j * k) k l ∙ ap (λ (m : ℕ). drop m l) (add-comm k (j * k) ∙ sym (suc-mul j k)))
-
--- ---- cells from `base` on, one of which was lent as `&mut t[a..a + k]` with a at `base + j * k`
-module _ {A : Type 0} (f : List ℕ → A) (base k n j : ℕ) (t : List ℕ) where
-  width : base + j * k + k - (base + j * k) ≡ k
-  width = add-sub-cancel-left (base + j * k) k
-
-  pub part-put : (ys : List ℕ) → length ys ≡ k → base + j * k + k ≤ length t
-      → cells f k n (drop base (putMid (base + j * k) (base + j * k + k - (base + j * k)) t ys)) ≡ set (cells f k n (drop base t)) j (f ys)
-  part-put ys e h =
-      let g : base ≤ length t = omega arith in
-      ap (λ (w : ℕ). cells f k n (drop base (putMid (base + j * k) w t ys))) width ∙ ap (cells f k n) (drop-mid t ys base (j * k) k g)
-      ∙ cells-put f k ys e n j (drop base t) (simp length-drop (omega arith))
-
-  pub part-at : (d : A) → j < n → getD (cells f k n (drop base t)) j d ≡ f (midOf (base + j * k) (base + j * k + k - (base + j * k)) t)
-  part-at d b = cells-at f k n j (drop base t) d b ∙ ap₂ (λ (w : ℕ) (l : List ℕ). f (take w l)) (sym width) (drop-drop (j * k) base t)
 
 -- ---- the number of cells, the last of them, and what they depend on
 pub length-cells : {A : Type 0} (f : List ℕ → A) (k n : ℕ) (l : List ℕ) → length (cells f k n l) ≡ n

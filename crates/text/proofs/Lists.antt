@@ -6,7 +6,7 @@ use native.Mathlib.Numerals.{add-one}
 use native.Mathlib.Omega.{arith}
 use mathlib.Core.Bool.{Bool, true, false, _&&_, and-eq-true-iff}
 use mathlib.Core.List.{List, [], _∷_, _++_, append-assoc}
-use lib.ListN.{length, getD, set, take, drop, replicate, length-append, length-drop, length-set, drop-of-length-le}
+use lib.ListN.{length, getD, set, take, drop, replicate, length-append, length-set, drop-of-length-le}
 use lib.Seq.{sets, sets-eq, set-comm, drop-cons, drop-drop, drop-set-add, drop-set-lt, take-set-le, take-at, take-nil, length-take-le}
 use lib.Seq.{take-append-add, getD-drop}
 use borrow.Rule.Slice.PartMut.{putMid, drop-put}

@@ -43,15 +43,5 @@ returns-2 c =
 
 pub tool-record-spec : {M : Type 1} → statement M
 tool-record-spec =
-    tie.close
-    (tie.spec
-    (λ c κs. search needs)
-    (λ c κs. search needs)
-    (λ c κs. search needs)
-    (λ c. search needs)
-    returns
-    report-requires
-    (λ c κs. search needs)
-    (λ c. search needs)
-    (λ c. search needs)
-    returns-2)
+    tie.close (tie.spec (λ c κs. search needs) (λ c κs. search needs) (λ c κs. search needs) (λ c. search needs) returns report-requires
+    (λ c κs. search needs) (λ c. search needs) (λ c. search needs) returns-2)

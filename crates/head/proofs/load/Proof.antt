@@ -7,10 +7,5 @@ use Rattle.head.proofs.load.Tie as tie
 pub load-spec : {M : Type 1} → statement M
 unfolding head-of
 load-spec =
-    tie.close
-    (tie.spec
-    (λ c. search needs)
-    (λ c κs. search needs)
-    (λ c. search needs)
-    (λ c κs. search needs)
+    tie.close (tie.spec (λ c. search needs) (λ c κs. search needs) (λ c. search needs) (λ c κs. search needs)
     (λ c. rw (c .wide .ensures, c .before .before .phase-from .ensures)))

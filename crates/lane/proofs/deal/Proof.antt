@@ -55,11 +55,4 @@ returns c =
 
 pub deal-spec : {M : Type 1} → statement M
 deal-spec =
-    tie.close
-    (tie.spec
-    (λ c κs. search needs)
-    (λ c κs. search needs)
-    shift-down-requires
-    store-requires
-    (λ c. search needs)
-    returns)
+    tie.close (tie.spec (λ c κs. search needs) (λ c κs. search needs) shift-down-requires store-requires (λ c. search needs) returns)

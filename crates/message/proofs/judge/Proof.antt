@@ -8,12 +8,6 @@ use Rattle.message.proofs.Order.{known, unknown, ordered}
 use Rattle.message.proofs.judge.Statement.{statement}
 use Rattle.message.proofs.judge.Tie as tie
 
-returns : tie.Need-returns
-returns c = unknown _ _ _ _ _ (c .enum-told .given .1) (c .before .before .effect-of .ensures)
-
-row-of-requires : tie.Need-row-of-requires
-row-of-requires c κs = known _ (c .before .effect-of .result) (c .match .keys2) (c .before .effect-of .ensures)
-
 returns-2 : tie.Need-returns-2
 returns-2 c =
     let r = c .before .before in
@@ -81,8 +75,8 @@ judge-spec =
     (tie.spec
     (λ c κs. search needs)
     (λ c. search needs)
-    returns
-    row-of-requires
+    (λ c. unknown _ _ _ _ _ (c .enum-told .given .1) (c .before .before .effect-of .ensures))
+    (λ c κs. known _ (c .before .effect-of .result) (c .match .keys2) (c .before .effect-of .ensures))
     (λ c κs. search needs)
     returns-2
     (λ c κs. search needs)

@@ -5,12 +5,6 @@ use mathlib.Core.Logic.{inl, inr, ⊎-elim}
 use Rattle.record.proofs.good_at.Statement.{statement}
 use Rattle.record.proofs.good_at.Tie as tie
 
-returns : tie.Need-returns
-returns c = ⊎-elim (λ e. rw e) (λ e. rw e) (c .match .keys1)
-
-returns-2 : tie.Need-returns-2
-returns-2 c = ⊎-elim (λ e. rw e) (⊎-elim (λ e. rw e) (λ e. rw e)) (c .match .keys2)
-
 returns-3 : tie.Need-returns-3
 returns-3 c =
     let dashes = c .before .match .rest .0 .1 in
@@ -25,4 +19,8 @@ returns-3 c =
     (c .is-digit .ensures)
 
 pub good-at-spec : {M : Type 1} → statement M
-good-at-spec = tie.close (tie.spec (λ c κs. search needs) returns returns-2 returns-3)
+good-at-spec =
+    tie.close (tie.spec (λ c κs. search needs)
+    (λ c. ⊎-elim (λ e. rw e) (λ e. rw e) (c .match .keys1))
+    (λ c. ⊎-elim (λ e. rw e) (⊎-elim (λ e. rw e) (λ e. rw e)) (c .match .keys2))
+    returns-3)

@@ -1,8 +1,7 @@
 -- `record::good_item` meets its contract: the form says which test. Assumes nothing.
 use borrow.Author.Needs.{needs}
-use mathlib.Core.Path.{_≡_, refl, sym, ap, _∙_}
+use mathlib.Core.Path.{ap, _∙_}
 use native.Mathlib.Omega.{arith}
-use lib.ListN.{length}
 use lib.Seq.{take-length}
 use Rattle.model.specs.Bytes.{little}
 use Rattle.record.proofs.Parts.{number-short, is-number, is-a-text, is-a-time}

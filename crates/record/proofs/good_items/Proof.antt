@@ -5,7 +5,7 @@ use borrow.Author.Tests.{not-true, not-false}
 use mathlib.Core.Path.{_≡_, refl, sym, ap, _∙_}
 use mathlib.Core.Bool.{true}
 use mathlib.Core.List.{List, []}
-use Prim.Native.Nat.{ℕ, _+_, _-_, _≤_}
+use Prim.Native.Nat.{ℕ, _+_, _-_}
 use native.Mathlib.Nat.{zero-add, add-sub-cancel-left}
 use native.Mathlib.Omega.{arith}
 use lib.ListN.{length, getD, take, drop, length-drop}
@@ -24,9 +24,6 @@ Inv-loop rows s at₀ k₀ at k =
 
 abbrev μ-loop : tie.MeasureT-loop
 μ-loop rows s at₀ k₀ at k = length rows - k
-
-loop-holds : tie.Need-loop-holds Inv-loop μ-loop
-loop-holds c = (zero-add _ ∙ sym (c .before .pre .1), refl)
 
 -- in a turn: the row can be read, and its bytes are there
 module _ (c : tie.In-loop Inv-loop μ-loop) where
@@ -94,7 +91,7 @@ good-items-spec =
     (tie.spec
     Inv-loop
     μ-loop
-    loop-holds
+    (λ c. (zero-add _ ∙ sym (c .before .pre .1), refl))
     (λ c. search needs)
     (λ c. search needs)
     (λ c. search needs)

@@ -32,12 +32,4 @@ returns-3 c =
     (rw (p .payload .ensures) at (c .good-items .ensures))
 
 pub good-record-spec : {M : Type 1} → statement M
-good-record-spec =
-    tie.close
-    (tie.spec
-    (λ c κs. search needs)
-    returns
-    (λ c κs. search needs)
-    returns-2
-    (λ c κs. search needs)
-    returns-3)
+good-record-spec = tie.close (tie.spec (λ c κs. search needs) returns (λ c κs. search needs) returns-2 (λ c κs. search needs) returns-3)

@@ -7,9 +7,6 @@ use Rattle.record.proofs.Parts.{too-short, other-size, by-kind}
 use Rattle.record.proofs.is_record.Statement.{statement}
 use Rattle.record.proofs.is_record.Tie as tie
 
-returns : tie.Need-returns
-returns c = let a = c .before .before .args in too-short (a .kind) (a .slice .now) (c .if1 .taken)
-
 returns-2 : tie.Need-returns-2
 returns-2 c =
     let a = c .before .before .before .before .args in
@@ -23,4 +20,6 @@ returns-3 c =
 
 pub is-record-spec : {M : Type 1} → statement M
 is-record-spec =
-    tie.close (tie.spec returns (λ c κs. search needs) (λ c. search needs) returns-2 (λ c κs. search needs) returns-3)
+    tie.close (tie.spec
+    (λ c. let a = c .before .before .args in too-short (a .kind) (a .slice .now) (c .if1 .taken))
+    (λ c κs. search needs) (λ c. search needs) returns-2 (λ c κs. search needs) returns-3)

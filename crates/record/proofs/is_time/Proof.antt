@@ -3,7 +3,6 @@ use borrow.Author.Needs.{needs}
 use borrow.Author.Tests.{not-true, not-false}
 use mathlib.Core.Path.{_≡_, refl, sym, _∙_}
 use Prim.Native.Nat.{_+_, _-_}
-use native.Mathlib.Omega.{arith}
 use lib.ListN.{length, drop}
 use Rattle.model.specs.Records.{is-time, is-time-from}
 use Rattle.record.proofs.Times.{time-goes-on, time-stops, time-ends}
@@ -30,9 +29,6 @@ loop-again c =
     time-goes-on (t .before .before .before .args .s .now) (l .i) (t .loop-test .taken)
     (sym (c .before .good-at .ensures) ∙ not-false _ (c .if1 .left)) (l .inv)
 
-returns-2 : tie.Need-returns-2 Inv-loop μ-loop
-returns-2 c = time-ends (c .before .before .before .args .s .now) (c .before .loop .i) (c .loop-test .left) (c .before .loop .inv)
-
 pub is-time-spec : {M : Type 1} → statement M
 is-time-spec =
     tie.close
@@ -46,4 +42,4 @@ is-time-spec =
     returns
     (λ c. search needs)
     loop-again
-    returns-2)
+    (λ c. time-ends (c .before .before .before .args .s .now) (c .before .loop .i) (c .loop-test .left) (c .before .loop .inv)))

@@ -12,9 +12,6 @@ returns c =
     let a = c .before .before .before .args in
     lent-gives (a .table .now) (a .output) (tool-own (a .table .now) (a .record-kind)) (c .before .tick .ensures) (c .if1 .taken)
 
-last-requires : tie.Need-last-requires
-last-requires c κs = let r = c .before .before in is-ready _ _ (sym (r .before .tick .ensures) ∙ r .if1 .left) .table
-
 returns-2 : tie.Need-returns-2
 unfolding tool-number
 returns-2 c =
@@ -57,7 +54,7 @@ tool-record-spec =
     returns
     (λ c. search needs)
     (λ c. search needs)
-    last-requires
+    (λ c κs. let r = c .before .before in is-ready _ _ (sym (r .before .tick .ensures) ∙ r .if1 .left) .table)
     returns-2
     (λ c. search needs)
     returns-3

@@ -12,11 +12,4 @@ returns c =
     padded-there (s .args .data-field .now) (s .pre .0) (s .pre .1) (y .copy .ensures) (f .fill .ensures .1)
 
 pub announce-spec : {M : Type 1} → statement M
-announce-spec =
-    tie.close
-    (tie.spec
-    (λ c κs. search needs)
-    (λ c. search needs)
-    (λ c κs. search needs)
-    (λ c. search needs)
-    returns)
+announce-spec = tie.close (tie.spec (λ c κs. search needs) (λ c. search needs) (λ c κs. search needs) (λ c. search needs) returns)

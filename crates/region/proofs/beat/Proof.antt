@@ -1,8 +1,7 @@
 -- `region::beat` meets its contract. The invariant: what is left to be done to the lanes from a kind on, over what was done, is all of it.
 -- Assumes nothing.
 use borrow.Author.Needs.{needs}
-use mathlib.Core.Path.{refl, sym, subst, _∙_}
-use mathlib.Core.List.{List}
+use mathlib.Core.Path.{refl, sym, subst}
 use Prim.Native.Nat.{ℕ, _+_, _-_, _≤_}
 use lib.ListN.{length}
 use Rattle.model.specs.Kinds.{kinds}

@@ -22,11 +22,4 @@ returns c =
 
 pub carry-out-spec : {M : Type 1} → statement M
 carry-out-spec =
-    tie.close
-    (tie.spec
-    (λ c κs. search needs)
-    (λ c κs. search needs)
-    store-requires
-    (λ c κs. search needs)
-    (λ c. search needs)
-    returns)
+    tie.close (tie.spec (λ c κs. search needs) (λ c κs. search needs) store-requires (λ c κs. search needs) (λ c. search needs) returns)

@@ -1,7 +1,7 @@
 -- `region::clear_lanes` meets its contract. The invariant: the lanes of the kinds so far are cleared. Assumes nothing.
 use borrow.Author.Needs.{needs}
-use mathlib.Core.Path.{sym, ap, _∙_}
-use Prim.Native.Nat.{ℕ, _+_, _-_, _≤_}
+use mathlib.Core.Path.{ap, _∙_}
+use Prim.Native.Nat.{_+_, _-_, _≤_}
 use lib.ListN.{length}
 use Rattle.model.specs.Kinds.{kinds}
 use Rattle.region.proofs.Areas.{lane-lies, lane-part, lane-length}

@@ -1,8 +1,6 @@
 -- `region::deal` meets its contract, by whether there is anything to do. Assumes nothing.
 use borrow.Author.Needs.{needs}
 use mathlib.Core.Path.{sym, subst}
-use mathlib.Core.List.{List}
-use Prim.Native.Nat.{ℕ}
 use Rattle.frame.specs.Places.{notice-in}
 use Rattle.session.specs.Meaning.{deed-of}
 use Rattle.session.specs.declared.Deed.{Deed}

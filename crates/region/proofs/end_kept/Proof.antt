@@ -1,8 +1,7 @@
 -- `region::end_kept` meets its contract. Assumes nothing.
 use borrow.Author.Needs.{needs}
-use mathlib.Core.Path.{_≡_, refl, sym, ap, subst, _∙_}
-use mathlib.Core.List.{List, []}
-use Prim.Native.Nat.{ℕ}
+use mathlib.Core.Path.{refl, sym, subst}
+use mathlib.Core.List.{[]}
 use Rattle.model.specs.Runs.{Run, longer}
 use Rattle.run.specs.Area.{run-of}
 use Rattle.region.specs.Region.{run-area}

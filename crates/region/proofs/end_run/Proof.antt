@@ -6,9 +6,6 @@ use Rattle.region.proofs.Ends.{run-empty, ends-longer}
 use Rattle.region.proofs.end_run.Statement.{statement}
 use Rattle.region.proofs.end_run.Tie as tie
 
-count-requires : tie.Need-count-requires
-count-requires c κs = let s = c .before .before .before .before .before in parts (s .args .region .now) (s .pre .0) .run
-
 end-whole-requires : tie.Need-end-whole-requires
 end-whole-requires c κs =
     let n = c .before .before .before in
@@ -26,18 +23,7 @@ returns-2 c =
 
 pub end-run-spec : {M : Type 1} → statement M
 end-run-spec =
-    tie.close
-    (tie.spec
-    (λ c. search needs)
-    (λ c. search needs)
-    (λ c. search needs)
-    count-requires
-    end-whole-requires
-    (λ c. search needs)
-    (λ c. search needs)
-    (λ c. search needs)
-    (λ c κs. search needs)
-    (λ c κs. search needs)
-    (λ c. search needs)
-    (λ c. search needs)
-    returns-2)
+    tie.close (tie.spec (λ c. search needs) (λ c. search needs) (λ c. search needs)
+    (λ c κs. let s = c .before .before .before .before .before in parts (s .args .region .now) (s .pre .0) .run)
+    end-whole-requires (λ c. search needs) (λ c. search needs) (λ c. search needs) (λ c κs. search needs) (λ c κs. search needs)
+    (λ c. search needs) (λ c. search needs) returns-2)

@@ -9,9 +9,6 @@ use Rattle.region.proofs.Areas.{means}
 use Rattle.region.proofs.hang_up.Statement.{statement}
 use Rattle.region.proofs.hang_up.Tie as tie
 
-store-requires : tie.Need-store-requires
-store-requires c κs = (c .before .before .before .pre, rw (c .cleared .ensures) (omega arith))
-
 returns : tie.Need-returns
 returns c =
     let p = c .before .before in
@@ -24,6 +21,6 @@ hang-up-spec =
     tie.close
     (tie.spec
     (λ c κs. search needs)
-    store-requires
+    (λ c κs. (c .before .before .before .pre, rw (c .cleared .ensures) (omega arith)))
     (λ c. search needs)
     returns)

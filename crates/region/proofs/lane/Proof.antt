@@ -1,8 +1,6 @@
 -- `region::lane` meets its contract. Assumes nothing.
 use borrow.Author.Needs.{needs}
-use mathlib.Core.Path.{_∙_}
-use native.Mathlib.Omega.{arith}
-use Rattle.region.proofs.Areas.{lane-ends, lane-lies, lane-part}
+use Rattle.region.proofs.Areas.{lane-lies, lane-part}
 use Rattle.region.proofs.lane.Statement.{statement}
 use Rattle.region.proofs.lane.Tie as tie
 
@@ -30,12 +28,4 @@ returns c =
 
 pub lane-spec : {M : Type 1} → statement M
 lane-spec =
-    tie.close
-    (tie.spec
-    (λ c κs. search needs)
-    (λ c κs. search needs)
-    add-e
-    (λ c. search needs)
-    (λ c. search needs)
-    part-result-end
-    returns)
+    tie.close (tie.spec (λ c κs. search needs) (λ c κs. search needs) add-e (λ c. search needs) (λ c. search needs) part-result-end returns)

@@ -15,12 +15,5 @@ last zero h n = absurd (n refl)
 last (suc zero) h n = refl
 last (suc (suc kind)) h n = absurd (omega arith)
 
-returns-2 : tie.Need-returns-2
-returns-2 c = last (c .before .args .kind) (c .before .pre) (c .match .rest .1)
-
 pub lane-at-spec : {M : Type 1} → statement M
-lane-at-spec =
-    tie.close
-    (tie.spec
-    (λ c. search needs)
-    returns-2)
+lane-at-spec = tie.close (tie.spec (λ c. search needs) (λ c. last (c .before .args .kind) (c .before .pre) (c .match .rest .1)))

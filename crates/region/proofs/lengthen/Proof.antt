@@ -4,9 +4,6 @@ use Rattle.region.proofs.Areas.{parts, run-replaced}
 use Rattle.region.proofs.lengthen.Statement.{statement}
 use Rattle.region.proofs.lengthen.Tie as tie
 
-lengthen-requires : tie.Need-lengthen-requires
-lengthen-requires c κs = let s = c .before .before .before in parts (s .args .region .now) (s .pre) .run
-
 returns : tie.Need-returns
 returns c =
     let p = c .before .before in
@@ -20,6 +17,6 @@ lengthen-spec =
     (λ c. search needs)
     (λ c. search needs)
     (λ c. search needs)
-    lengthen-requires
+    (λ c κs. let s = c .before .before .before in parts (s .args .region .now) (s .pre) .run)
     (λ c. search needs)
     returns)

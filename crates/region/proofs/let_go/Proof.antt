@@ -1,12 +1,6 @@
 -- `region::let_go` meets its contract, by whether it begins. Assumes nothing.
 use borrow.Author.Needs.{needs}
 use borrow.Author.Tests.{not-true, not-false}
-use mathlib.Core.Path.{sym, subst}
-use mathlib.Core.Bool.{Bool, cond}
-use Rattle.model.specs.Session.{no-subscriptions}
-use Rattle.run.specs.Area.{run-of}
-use Rattle.head.specs.Head.{head-of}
-use Rattle.region.specs.Region.{head-area, run-area, subscriptions-in, Changes}
 use Rattle.region.proofs.Ends.{unchanged, lanes-cleared}
 use Rattle.region.proofs.let_go.Statement.{statement}
 use Rattle.region.proofs.let_go.Tie as tie
@@ -24,10 +18,4 @@ returns-2 c =
     rw (not-false (s .args .begins) (i .if1 .left)) (lanes-cleared (s .args .region .now) _ (s .pre) (k .clear-lanes .ensures))
 
 pub let-go-spec : {M : Type 1} → statement M
-let-go-spec =
-    tie.close
-    (tie.spec
-    returns
-    (λ c κs. search needs)
-    (λ c. search needs)
-    returns-2)
+let-go-spec = tie.close (tie.spec returns (λ c κs. search needs) (λ c. search needs) returns-2)

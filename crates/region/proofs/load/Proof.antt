@@ -15,11 +15,4 @@ returns c =
     (c .load .ensures, subst Storable (sym (c .load .ensures)) (storable (head-area r) (parts r (s .pre) .head .formed)))
 
 pub load-spec : {M : Type 1} → statement M
-load-spec =
-    tie.close
-    (tie.spec
-    (λ c. search needs)
-    (λ c. search needs)
-    (λ c. search needs)
-    (λ c κs. search needs)
-    returns)
+load-spec = tie.close (tie.spec (λ c. search needs) (λ c. search needs) (λ c. search needs) (λ c κs. search needs) returns)

@@ -9,9 +9,6 @@ use Rattle.region.proofs.Areas.{means}
 use Rattle.region.proofs.open.Statement.{statement}
 use Rattle.region.proofs.open.Tie as tie
 
-store-requires : tie.Need-store-requires
-store-requires c κs = (c .before .before .before .pre, rw (c .fresh .ensures) (omega arith))
-
 returns : tie.Need-returns
 returns c =
     let n = c .before .before in
@@ -27,7 +24,7 @@ open-spec =
     tie.close
     (tie.spec
     (λ c κs. search needs)
-    store-requires
+    (λ c κs. (c .before .before .before .pre, rw (c .fresh .ensures) (omega arith)))
     (λ c κs. search needs)
     (λ c. search needs)
     returns)

@@ -1,6 +1,5 @@
 -- `region::rule` meets its contract, by whether an identifier is made known. Assumes nothing.
 use borrow.Author.Needs.{needs}
-use borrow.Author.Tests.{not-true}
 use Rattle.region.proofs.Rulings.{data-few, ruled-silent, ruled-known}
 use Rattle.region.proofs.rule.Statement.{statement}
 use Rattle.region.proofs.rule.Tie as tie
@@ -28,12 +27,4 @@ returns-2 c =
     (d .decide .ensures) (c .if1 .left)
 
 pub rule-spec : {M : Type 1} → statement M
-rule-spec =
-    tie.close
-    (tie.spec
-    (λ c κs. search needs)
-    (λ c κs. search needs)
-    announce-requires
-    (λ c. search needs)
-    returns
-    returns-2)
+rule-spec = tie.close (tie.spec (λ c κs. search needs) (λ c κs. search needs) announce-requires (λ c. search needs) returns returns-2)

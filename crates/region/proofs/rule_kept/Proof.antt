@@ -1,6 +1,6 @@
 -- `region::rule_kept` meets its contract. Assumes nothing.
 use borrow.Author.Needs.{needs}
-use mathlib.Core.Path.{_≡_, sym, ap, subst}
+use mathlib.Core.Path.{sym, subst}
 use mathlib.Core.List.{List}
 use Prim.Native.Nat.{ℕ, _≤_}
 use lib.ListN.{length}
@@ -10,12 +10,6 @@ use Rattle.region.proofs.Areas.{parts}
 use Rattle.region.proofs.Ends.{kept-few}
 use Rattle.region.proofs.rule_kept.Statement.{statement}
 use Rattle.region.proofs.rule_kept.Tie as tie
-
-kept-requires : tie.Need-kept-requires
-kept-requires c κs = let s = c .before .before .before in parts (s .args .region .now) (s .pre .0) .run
-
-count-requires : tie.Need-count-requires
-count-requires c κs = let s = c .before .before .before .before in parts (s .args .region .now) (s .pre .0) .run
 
 rule-requires : tie.Need-rule-requires
 rule-requires c κs =
@@ -37,8 +31,8 @@ rule-kept-spec =
     (λ c. search needs)
     (λ c. search needs)
     (λ c. search needs)
-    kept-requires
-    count-requires
+    (λ c κs. let s = c .before .before .before in parts (s .args .region .now) (s .pre .0) .run)
+    (λ c κs. let s = c .before .before .before .before in parts (s .args .region .now) (s .pre .0) .run)
     rule-requires
     (λ c. search needs)
     returns)

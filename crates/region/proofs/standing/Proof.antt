@@ -1,6 +1,5 @@
 -- `region::standing` meets its contract. Assumes nothing.
 use borrow.Author.Needs.{needs}
-use mathlib.Core.Path.{_≡_, ap, _∙_}
 use Rattle.region.proofs.Walks.{stands-so}
 use Rattle.region.proofs.standing.Statement.{statement}
 use Rattle.region.proofs.standing.Tie as tie
@@ -12,9 +11,4 @@ returns c =
     (c .subscribed .ensures)
 
 pub standing-spec : {M : Type 1} → statement M
-standing-spec =
-    tie.close
-    (tie.spec
-    (λ c. search needs)
-    (λ c κs. search needs)
-    returns)
+standing-spec = tie.close (tie.spec (λ c. search needs) (λ c κs. search needs) returns)

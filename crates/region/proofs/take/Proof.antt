@@ -1,12 +1,12 @@
 -- `region::take` meets its contract, by the phase. Assumes nothing.
 use borrow.Author.Needs.{needs}
-use mathlib.Core.Path.{_≡_, sym, ap, subst, _∙_}
-use Prim.Native.Nat.{ℕ, _+_, _≤_}
+use mathlib.Core.Path.{sym, ap, subst, _∙_}
+use Prim.Native.Nat.{_+_, _≤_}
 use lib.ListN.{length}
-use Rattle.model.specs.Kinds.{kinds, room-of}
+use Rattle.model.specs.Kinds.{room-of}
 use Rattle.model.specs.Notices.{news, takes}
 use Rattle.frame.specs.Places.{notice-in}
-use Rattle.session.specs.declared.Phase.the-variants.{Closed, Opened, Started}
+use Rattle.session.specs.declared.Phase.the-variants.{Closed, Opened}
 use Rattle.lane.specs.Lane.{lane-of, Lane}
 use Rattle.region.proofs.Areas.{lane-lies, lane-part, lane-good}
 use Rattle.region.proofs.Walks.{dealt-to}
@@ -69,22 +69,9 @@ returns-3 c =
 
 pub take-spec : {M : Type 1} → statement M
 take-spec =
-    tie.close
-    (tie.spec
-    (λ c κs. search needs)
-    (λ c. search needs)
-    (λ c. search needs)
-    (λ c. search needs)
-    (λ c κs. search needs)
+    tie.close (tie.spec (λ c κs. search needs) (λ c. search needs) (λ c. search needs) (λ c. search needs) (λ c κs. search needs)
     (λ c κs. search needs)
     (λ c. let f = lies c in search needs)
-    (λ c. search needs)
-    (λ c. search needs)
+    (λ c. search needs) (λ c. search needs)
     (λ c. let f = lies c in search needs)
-    take-requires
-    (λ c. search needs)
-    returns
-    (λ c. search needs)
-    returns-2
-    (λ c. search needs)
-    returns-3)
+    take-requires (λ c. search needs) returns (λ c. search needs) returns-2 (λ c. search needs) returns-3)

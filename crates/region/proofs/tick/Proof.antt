@@ -19,9 +19,6 @@ tick-stays-requires c κs =
           (sym (i .idled .ensures) ∙ c .before .before .idling .given .1),
     )
 
-store-requires : tie.Need-store-requires
-store-requires c κs = (c .before .before .before .before .before .before .before .before .pre, rw (c .cleared .ensures) (omega arith))
-
 returns : tie.Need-returns
 returns c =
     let t = c .before .before in
@@ -53,7 +50,7 @@ tick-spec =
     tick-stays-requires
     (λ c. search needs)
     (λ c κs. search needs)
-    store-requires
+    (λ c κs. (c .before .before .before .before .before .before .before .before .pre, rw (c .cleared .ensures) (omega arith)))
     (λ c. search needs)
     returns
     (λ c. search needs)

@@ -1,11 +1,11 @@
 -- `replay::feed` meets its contract. The invariant: what is left is still to be handed on, and what was is the calls of the model's
 -- program so far. Assumes nothing.
 use borrow.Author.Needs.{needs}
-use mathlib.Core.Path.{_≡_, refl, sym, ap, _∙_}
-use mathlib.Core.Bool.{Bool, true, false, cond}
-use Prim.Native.Nat.{ℕ, suc, _≤_, _<_}
+use mathlib.Core.Path.{_≡_, refl, _∙_}
+use mathlib.Core.Bool.{cond}
+use Prim.Native.Nat.{suc, _≤_}
 use native.Mathlib.Omega.{arith}
-use lib.ListN.{length, take, drop}
+use lib.ListN.{length, take}
 use Rattle.replay.proofs.Follows.{behind-room}
 use Rattle.replay.proofs.Fed.{Feeding, feeding-begins, feeding-on, feeding-ends, on-done, on-refused}
 use Rattle.replay.proofs.Turns.{fits-in, same-output, fewer, no-more}
@@ -101,9 +101,6 @@ loop-again-2 c =
           (behind-room (i .2) (p .ensures .0)) (rest .ensures) (on-refused (r .number) (length (rest .result .now)) (c .if1 .left)),
     )
 
-returns : tie.Need-returns Inv-loop μ-loop
-returns c = let i = c .before .loop .inv in (feeding-ends (i .4) (c .loop-test .left), i .3)
-
 pub feed-spec : {M : Type 1} → statement M
 feed-spec =
     tie.close
@@ -121,4 +118,4 @@ feed-spec =
     (λ c. c .before .loop .inv .0)
     (λ c. c .before .loop .inv .1)
     (λ c. c .before .loop .inv .2)
-    returns)
+    (λ c. let i = c .before .loop .inv in (feeding-ends (i .4) (c .loop-test .left), i .3)))

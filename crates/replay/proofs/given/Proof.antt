@@ -1,6 +1,6 @@
 -- `replay::given` meets its contract. Assumes nothing.
 use borrow.Author.Needs.{needs}
-use mathlib.Core.Path.{_≡_, sym, _∙_}
+use mathlib.Core.Path.{sym, _∙_}
 use Prim.Native.Nat.{_-_}
 use native.Mathlib.Omega.{arith}
 use lib.ListN.{length, drop, length-drop}
@@ -14,16 +14,10 @@ use Rattle.replay.proofs.Turns.{at-least, fits-in}
 use Rattle.replay.proofs.given.Statement.{statement}
 use Rattle.replay.proofs.given.Tie as tie
 
-little-requires : tie.Need-little-requires
-little-requires c κs = let p = c .before .before .before .before .pre .2 in (omega arith, omega arith)
-
 sub-feed : tie.Need-sub-feed
 sub-feed c =
     at-least bytes-kind (c .before .before .before .before .before .little .result)
     (sym (c .before .before .before .before .is-within .ensures) ∙ c .before .before .before .if1 .taken)
-
-feed-requires : tie.Need-feed-requires
-feed-requires c κs = let p = c .before .before .before .before .before .before .before .before .before .before .before .pre in (p .0, p .1)
 
 returns : tie.Need-returns
 returns c =
@@ -37,9 +31,6 @@ returns c =
     let rest = take-all (length slice - record-head) (drop record-head slice) (simp length-drop (omega arith)) in
     let f = fed .feed .ensures in
     (follows-as (λ x m. given-bytes x slice (kind .result) (kind .ensures .0) _ are-bytes rest) (f .0), f .1)
-
-call-requires : tie.Need-call-requires
-call-requires c κs = sym (c .before .before .before .is-within .ensures) ∙ c .before .before .if1 .left
 
 print-requires : tie.Need-print-requires
 print-requires c κs =
@@ -64,18 +55,18 @@ pub given-spec : {M : Type 1} → statement M
 given-spec =
     tie.close
     (tie.spec
-    little-requires
+    (λ c κs. let p = c .before .before .before .before .pre .2 in (omega arith, omega arith))
     (λ c κs. search needs)
     sub-feed
     (λ c. omega (arith, c .before .before .before .before .before .before .before .before .before .before .pre .2))
     (λ c. omega (arith, c .before .before .before .before .before .before .before .before .before .before .pre .2))
     (λ c. search needs)
-    feed-requires
+    (λ c κs. let p = c .before .before .before .before .before .before .before .before .before .before .before .pre in (p .0, p .1))
     (λ c. search needs)
     (λ c. search needs)
     (λ c. search needs)
     returns
-    call-requires
+    (λ c κs. sym (c .before .before .before .is-within .ensures) ∙ c .before .before .if1 .left)
     print-requires
     (λ c. search needs)
     (λ c. search needs)

@@ -4,16 +4,10 @@ use Rattle.replay.proofs.Sizes.{is-short, is-long}
 use Rattle.replay.proofs.is_too_long.Statement.{statement}
 use Rattle.replay.proofs.is_too_long.Tie as tie
 
-returns : tie.Need-returns
-returns c = is-short (c .before .before .args .input .now) (c .if1 .taken)
-
-returns-2 : tie.Need-returns-2
-returns-2 c = is-long (c .before .before .before .args .input .now) (c .little .result) (c .little .ensures .0) (c .before .if1 .left)
-
 pub is-too-long-spec : {M : Type 1} → statement M
 is-too-long-spec =
     tie.close
     (tie.spec
-    returns
+    (λ c. is-short (c .before .before .args .input .now) (c .if1 .taken))
     (λ c κs. search needs)
-    returns-2)
+    (λ c. is-long (c .before .before .before .args .input .now) (c .little .result) (c .little .ensures .0) (c .before .if1 .left)))

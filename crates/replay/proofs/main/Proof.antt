@@ -4,18 +4,9 @@ use native.Mathlib.Omega.{arith}
 use Rattle.replay.proofs.main.Statement.{statement}
 use Rattle.replay.proofs.main.Tie as tie
 
-run-requires : tie.Need-run-requires
-run-requires c κs = omega (arith, c .before .before .before .before .before .large-buffer .ensures)
-
 pub main-spec : {M : Type 1} → statement M
 main-spec =
-    tie.close
-    (tie.spec
-    (λ c κs. search needs)
-    (λ c κs. search needs)
+    tie.close (tie.spec (λ c κs. search needs) (λ c κs. search needs) (λ c. search needs) (λ c. search needs) (λ c. search needs)
     (λ c. search needs)
-    (λ c. search needs)
-    (λ c. search needs)
-    (λ c. search needs)
-    run-requires
+    (λ c κs. omega (arith, c .before .before .before .before .before .large-buffer .ensures))
     (λ c. search needs))

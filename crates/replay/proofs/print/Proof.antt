@@ -5,12 +5,6 @@ use Rattle.replay.proofs.Follows.{behind-put}
 use Rattle.replay.proofs.print.Statement.{statement}
 use Rattle.replay.proofs.print.Tie as tie
 
-room-requires : tie.Need-room-requires
-room-requires c κs = let p = c .before .before .before .pre in (p .2, p .3)
-
-tell-requires : tie.Need-tell-requires
-tell-requires c κs = let p = c .before .before .before .before .before .pre in (p .0, p .1, c .before .room .ensures .1)
-
 returns : tie.Need-returns
 returns c =
     let free = c .before .before .before .before .room .ensures in
@@ -22,7 +16,7 @@ pub print-spec : {M : Type 1} → statement M
 print-spec =
     tie.close
     (tie.spec
-    room-requires
-    tell-requires
+    (λ c κs. let p = c .before .before .before .pre in (p .2, p .3))
+    (λ c κs. let p = c .before .before .before .before .before .pre in (p .0, p .1, c .before .room .ensures .1))
     (λ c. search needs)
     returns)

@@ -6,17 +6,11 @@ use Rattle.replay.proofs.Follows.{free-behind, free-front}
 use Rattle.replay.proofs.room.Statement.{statement}
 use Rattle.replay.proofs.room.Tie as tie
 
-returns : tie.Need-returns
-returns c = let a = c .before .before .args in (free-behind (length (a .lines .now)) (a .at) (omega arith), omega arith)
-
-returns-2 : tie.Need-returns-2
-returns-2 c = let a = c .before .before .before .args in (free-front (length (a .lines .now)) (a .at) (omega arith), omega arith)
-
 pub room-spec : {M : Type 1} → statement M
 room-spec =
     tie.close
     (tie.spec
     (λ c. search needs)
-    returns
+    (λ c. let a = c .before .before .args in (free-behind (length (a .lines .now)) (a .at) (omega arith), omega arith))
     (λ c κs. search needs)
-    returns-2)
+    (λ c. let a = c .before .before .before .args in (free-front (length (a .lines .now)) (a .at) (omega arith), omega arith)))

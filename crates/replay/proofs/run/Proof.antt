@@ -1,9 +1,8 @@
 -- `replay::run` meets its contract. The invariant: what was read so far was served, and what waits stands at the input's front.
 -- Assumes nothing.
-use borrow.Author.Needs.{needs}
 use mathlib.Core.Path.{_≡_, refl, sym, _∙_}
 use mathlib.Core.List.{[]}
-use Prim.Native.Nat.{_≤_, _<_}
+use Prim.Native.Nat.{_≤_}
 use native.Mathlib.Omega.{arith}
 use lib.ListN.{length, take}
 use Rattle.replay.specs.States.{Turned}
@@ -23,9 +22,6 @@ Inv-loop table₀ output₀ lines₀ input₀ turns₀ size₀ going₀ table ou
 
 abbrev μ-loop : tie.MeasureT-loop
 μ-loop table₀ output₀ lines₀ input₀ turns₀ size₀ going₀ table output lines input turns size going = turns
-
-loop-holds : tie.Need-loop-holds Inv-loop μ-loop
-loop-holds c = (refl, refl, refl, refl, omega arith, turned-none refl (sym (size-cut [] (omega arith))))
 
 turn-requires : tie.Need-turn-requires Inv-loop μ-loop
 turn-requires c κs =
@@ -47,19 +43,13 @@ loop-again c =
     let k = t .kept in
     (k .0 ∙ i .0, k .1 .0 ∙ i .1, k .1 .1 .0 ∙ i .2, k .1 .1 .1 .0 ∙ i .3, omega arith, turned-then (i .5) (t .ensures .0))
 
-returns : tie.Need-returns Inv-loop μ-loop
-returns c = let l = c .before .before .loop in record { waiting = take (l .size) (l .input); turned = l .inv .5 }
-
-returns-2 : tie.Need-returns-2 Inv-loop μ-loop
-returns-2 c = let l = c .before .loop in record { waiting = take (l .size) (l .input); turned = l .inv .5 }
-
 pub run-spec : {M : Type 1} → statement M
 run-spec =
     tie.close
     (tie.spec
     Inv-loop
     μ-loop
-    loop-holds
+    (λ c. (refl, refl, refl, refl, omega arith, turned-none refl (sym (size-cut [] (omega arith)))))
     turn-requires
     (λ c. let a = c .before .before .before .before .before .before .before .before .before .before .before .before .before .if1 .taken in
     let b = c .before .before .before .before .before .before .before .before .before .before .before .before .before .before .loop-test
@@ -72,9 +62,9 @@ run-spec =
     (λ c. c .before .before .loop .inv .1)
     (λ c. c .before .before .loop .inv .2)
     (λ c. c .before .before .loop .inv .3)
-    returns
+    (λ c. let l = c .before .before .loop in record { waiting = take (l .size) (l .input); turned = l .inv .5 })
     (λ c. c .before .loop .inv .0)
     (λ c. c .before .loop .inv .1)
     (λ c. c .before .loop .inv .2)
     (λ c. c .before .loop .inv .3)
-    returns-2)
+    (λ c. let l = c .before .loop in record { waiting = take (l .size) (l .input); turned = l .inv .5 }))

@@ -1,8 +1,8 @@
 -- `replay::serve_and_move` meets its contract. Assumes nothing.
 use borrow.Author.Needs.{needs}
-use mathlib.Core.Path.{_≡_, sym, _∙_}
+use mathlib.Core.Path.{sym}
 use native.Mathlib.Omega.{arith}
-use lib.ListN.{length, take}
+use lib.ListN.{take}
 use lib.Seq.{length-take-le}
 use Rattle.replay.proofs.Input.{waits-few, waits-moved}
 use Rattle.replay.proofs.serve_and_move.Statement.{statement}
@@ -54,15 +54,5 @@ returns c =
 
 pub serve-and-move-spec : {M : Type 1} → statement M
 serve-and-move-spec =
-    tie.close
-    (tie.spec
-    (λ c. search needs)
-    slice-aggregate-serve
-    (λ c κs. search needs)
-    sub-shift
-    shift-requires
-    (λ c. search needs)
-    (λ c. search needs)
-    (λ c. search needs)
-    (λ c. search needs)
-    returns)
+    tie.close (tie.spec (λ c. search needs) slice-aggregate-serve (λ c κs. search needs) sub-shift shift-requires (λ c. search needs)
+    (λ c. search needs) (λ c. search needs) (λ c. search needs) returns)

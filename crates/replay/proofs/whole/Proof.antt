@@ -1,13 +1,9 @@
 -- `replay::whole` meets its contract. Assumes nothing.
 use borrow.Author.Needs.{needs}
-use mathlib.Core.Path.{sym, _∙_}
 use native.Mathlib.Omega.{arith}
 use Rattle.replay.proofs.Sizes.{size-cut, size-too-long, size-missing, size-whole}
 use Rattle.replay.proofs.whole.Statement.{statement}
 use Rattle.replay.proofs.whole.Tie as tie
-
-returns : tie.Need-returns
-returns c = (size-cut (c .before .before .args .bytes .now) (c .if1 .taken), omega arith, λ h. absurd (omega arith))
 
 returns-2 : tie.Need-returns-2
 returns-2 c =
@@ -36,7 +32,7 @@ pub whole-spec : {M : Type 1} → statement M
 whole-spec =
     tie.close
     (tie.spec
-    returns
+    (λ c. (size-cut (c .before .before .args .bytes .now) (c .if1 .taken), omega arith, λ h. absurd (omega arith)))
     (λ c κs. search needs)
     returns-2
     (λ c. search needs)

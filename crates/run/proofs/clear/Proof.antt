@@ -10,9 +10,4 @@ returns c =
     rw (c .before .before .put-little .ensures .1 .output) (cleared (s .args .area .now) (s .pre))
 
 pub clear-spec : {M : Type 1} → statement M
-clear-spec =
-    tie.close
-    (tie.spec
-    (λ c κs. search needs)
-    (λ c. search needs)
-    returns)
+clear-spec = tie.close (tie.spec (λ c κs. search needs) (λ c. search needs) returns)

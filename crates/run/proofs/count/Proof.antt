@@ -4,12 +4,9 @@ use Rattle.run.proofs.Areas.{count-is}
 use Rattle.run.proofs.count.Statement.{statement}
 use Rattle.run.proofs.count.Tie as tie
 
-returns : tie.Need-returns
-returns c = let s = c .before .before in count-is (s .args .area .now) _ (s .pre) (c .little .ensures .0)
-
 pub count-spec : {M : Type 1} → statement M
 count-spec =
     tie.close
     (tie.spec
     (λ c κs. search needs)
-    returns)
+    (λ c. let s = c .before .before in count-is (s .args .area .now) _ (s .pre) (c .little .ensures .0)))

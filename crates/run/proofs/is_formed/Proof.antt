@@ -12,8 +12,4 @@ unfolding run-formed
 returns c = ap (λ (n : ℕ). leb n 10000) (c .little .ensures .0)
 
 pub is-formed-spec : {M : Type 1} → statement M
-is-formed-spec =
-    tie.close
-    (tie.spec
-    (λ c κs. search needs)
-    returns)
+is-formed-spec = tie.close (tie.spec (λ c κs. search needs) returns)

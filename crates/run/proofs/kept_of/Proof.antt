@@ -14,11 +14,4 @@ returns c =
     ap (λ (n : ℕ). take n bs) (sub-zero _ ∙ c .before .least .ensures) ∙ take-least 45 bs
 
 pub kept-of-spec : {M : Type 1} → statement M
-kept-of-spec =
-    tie.close
-    (tie.spec
-    (λ c κs. search needs)
-    (λ c. search needs)
-    (λ c. search needs)
-    (λ c. search needs)
-    returns)
+kept-of-spec = tie.close (tie.spec (λ c κs. search needs) (λ c. search needs) (λ c. search needs) (λ c. search needs) returns)

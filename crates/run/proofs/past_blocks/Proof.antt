@@ -1,6 +1,5 @@
 -- `run::past_blocks` meets its contract. The invariant: nothing that was passed is a NUL. Assumes nothing.
 use borrow.Author.Needs.{needs}
-use native.Mathlib.Omega.{arith}
 use Prim.Native.Nat.{_-_}
 use lib.ListN.{length}
 use Rattle.run.specs.Area.{Passed}
@@ -13,21 +12,9 @@ Inv-loop bytes from size at₀ at = Passed bytes at
 abbrev μ-loop : tie.MeasureT-loop
 μ-loop bytes from size at₀ at = length bytes - at
 
-loop-again : tie.Need-loop-again Inv-loop μ-loop
-loop-again c = c .before .may-end .ensures (c .if1 .left)
-
 pub past-blocks-spec : {M : Type 1} → statement M
 past-blocks-spec =
-    tie.close
-    (tie.spec
-    Inv-loop
-    μ-loop
-    (λ c. search needs)
-    (λ c. search needs)
-    (λ c. search needs)
-    (λ c κs. search needs)
-    (λ c. search needs)
-    (λ c. search needs)
-    (λ c. search needs)
-    loop-again
+    tie.close (tie.spec Inv-loop μ-loop (λ c. search needs) (λ c. search needs) (λ c. search needs) (λ c κs. search needs)
+    (λ c. search needs) (λ c. search needs) (λ c. search needs)
+    (λ c. c .before .may-end .ensures (c .if1 .left))
     (λ c. search needs))

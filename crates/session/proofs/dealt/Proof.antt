@@ -6,19 +6,8 @@ use Rattle.session.proofs.dealt.Tie as tie
 
 pub dealt-spec : {M : Type 1} → statement M
 dealt-spec =
-    tie.close
-    (tie.spec
-    (λ c. search needs)
-    (λ c κs. search needs)
-    (λ c. search needs)
-    (λ c κs. search needs)
-    (λ c. search needs)
-    (λ c κs. search needs)
-    (λ c. search needs)
-    (λ c κs. search needs)
-    (λ c κs. search needs)
-    (λ c. search needs)
-    (λ c κs. search needs)
+    tie.close (tie.spec (λ c. search needs) (λ c κs. search needs) (λ c. search needs) (λ c κs. search needs) (λ c. search needs)
+    (λ c κs. search needs) (λ c. search needs) (λ c κs. search needs) (λ c κs. search needs) (λ c. search needs) (λ c κs. search needs)
     (λ c κs. search needs)
     (λ c. c .still .ensures ∙ rw (c .before .enum-told .given .1))
     (λ c. c .ticked .ensures ∙ rw (c .before .enum-told2 .given .1))

@@ -9,18 +9,9 @@ use Rattle.session.proofs.decide_read.Tie as tie
 pub decide-read-spec : {M : Type 1} → statement M
 unfolding decision
 decide-read-spec =
-    tie.close
-    (tie.spec
-    (λ c. search needs)
-    (λ c. search needs)
-    (λ c κs. search needs)
+    tie.close (tie.spec (λ c. search needs) (λ c. search needs) (λ c κs. search needs)
     (λ c. c .replied .ensures ∙ rw (c .before .enum-told .given .1))
-    (λ c κs. search needs)
-    (λ c. search needs)
-    (λ c κs. search needs)
-    (λ c. search needs)
-    (λ c κs. search needs)
-    (λ c. search needs)
+    (λ c κs. search needs) (λ c. search needs) (λ c κs. search needs) (λ c. search needs) (λ c κs. search needs) (λ c. search needs)
     (λ c κs. search needs)
     (λ c.
     let j = c .before .before .before in

@@ -9,8 +9,4 @@ use Rattle.session.proofs.is_granted.Tie as tie
 
 pub is-granted-spec : {M : Type 1} → statement M
 unfolding settings-of
-is-granted-spec =
-    tie.close
-    (tie.spec
-    (λ c κs. search needs)
-    (λ c. ap (λ (n : ℕ). eqb n 1) (c .little .ensures .0)))
+is-granted-spec = tie.close (tie.spec (λ c κs. search needs) (λ c. ap (λ (n : ℕ). eqb n 1) (c .little .ensures .0)))

@@ -9,13 +9,7 @@ use Rattle.session.proofs.ticked.Tie as tie
 pub ticked-spec : {M : Type 1} → statement M
 unfolding ticked
 ticked-spec =
-    tie.close
-    (tie.spec
-    (λ c. search needs)
-    (λ c κs. search needs)
-    (λ c. search needs)
-    (λ c κs. search needs)
-    (λ c. search needs)
+    tie.close (tie.spec (λ c. search needs) (λ c κs. search needs) (λ c. search needs) (λ c κs. search needs) (λ c. search needs)
     (λ c κs. search needs)
     (λ c. c .still3 .ensures ∙ rw (c .before .before .before .enum-told3 .given .1, eq-eqb _ _ (c .before .if1 .taken)))
     (λ c κs. search needs)

@@ -10,11 +10,4 @@ unfolding in-force-of
 returns c = refl
 
 pub in-force-spec : {M : Type 1} → statement M
-in-force-spec =
-    tie.close
-    (tie.spec
-    (λ c. search needs)
-    (λ c. search needs)
-    (λ c. search needs)
-    (λ c. search needs)
-    returns)
+in-force-spec = tie.close (tie.spec (λ c. search needs) (λ c. search needs) (λ c. search needs) (λ c. search needs) returns)

@@ -13,8 +13,4 @@ unfolding shared-formed
 returns c = ap (λ (n : ℕ). eqb n (little mark)) (c .little .ensures .0)
 
 pub is-formed-spec : {M : Type 1} → statement M
-is-formed-spec =
-    tie.close
-    (tie.spec
-    (λ c κs. search needs)
-    returns)
+is-formed-spec = tie.close (tie.spec (λ c κs. search needs) returns)

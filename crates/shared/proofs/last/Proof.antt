@@ -10,8 +10,4 @@ unfolding last-of
 returns c = (c .little .ensures .0, omega (arith, c .little .ensures .1))
 
 pub last-spec : {M : Type 1} → statement M
-last-spec =
-    tie.close
-    (tie.spec
-    (λ c κs. search needs)
-    returns)
+last-spec = tie.close (tie.spec (λ c κs. search needs) returns)

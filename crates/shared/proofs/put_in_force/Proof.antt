@@ -10,9 +10,4 @@ returns c =
     rw (c .before .before .copy .ensures .output) (force-put (s .args .area .now) (s .args .identifier .now) (s .pre .0) (s .pre .1))
 
 pub put-in-force-spec : {M : Type 1} → statement M
-put-in-force-spec =
-    tie.close
-    (tie.spec
-    (λ c κs. search needs)
-    (λ c. search needs)
-    returns)
+put-in-force-spec = tie.close (tie.spec (λ c κs. search needs) (λ c. search needs) returns)

@@ -10,9 +10,4 @@ returns c =
     rw (c .before .before .put-little .ensures .1 .output) (last-put (s .args .area .now) (s .args .n) (s .pre .0) (s .pre .1))
 
 pub put-last-spec : {M : Type 1} → statement M
-put-last-spec =
-    tie.close
-    (tie.spec
-    (λ c κs. search needs)
-    (λ c. search needs)
-    returns)
+put-last-spec = tie.close (tie.spec (λ c κs. search needs) (λ c. search needs) returns)

@@ -10,11 +10,4 @@ unfolding settings-part
 returns c = refl
 
 pub settings-spec : {M : Type 1} → statement M
-settings-spec =
-    tie.close
-    (tie.spec
-    (λ c. search needs)
-    (λ c. search needs)
-    (λ c. search needs)
-    (λ c. search needs)
-    returns)
+settings-spec = tie.close (tie.spec (λ c. search needs) (λ c. search needs) (λ c. search needs) (λ c. search needs) returns)

@@ -1,7 +1,7 @@
 -- `table::hear` meets its contract. Assumes nothing.
 use borrow.Author.Needs.{needs}
-use mathlib.Core.Path.{_≡_, ap, sym, _∙_}
-use Rattle.model.specs.Records.{Settings, settings-of}
+use mathlib.Core.Path.{ap, sym, _∙_}
+use Rattle.model.specs.Records.{settings-of}
 use Rattle.table.proofs.Regions.{part-good}
 use Rattle.table.proofs.Receives.{end-lent, heard}
 use Rattle.table.proofs.hear.Statement.{statement}
@@ -36,19 +36,6 @@ returns c =
 
 pub hear-spec : {M : Type 1} → statement M
 hear-spec =
-    tie.close
-    (tie.spec
-    (λ c κs. search needs)
-    (λ c κs. search needs)
-    (λ c. search needs)
-    (λ c. search needs)
-    (λ c. search needs)
-    (λ c. search needs)
-    (λ c. search needs)
-    (λ c. search needs)
-    end-run-requires
-    answer-requires
-    (λ c. search needs)
-    (λ c. search needs)
-    (λ c. search needs)
-    returns)
+    tie.close (tie.spec (λ c κs. search needs) (λ c κs. search needs) (λ c. search needs) (λ c. search needs) (λ c. search needs)
+    (λ c. search needs) (λ c. search needs) (λ c. search needs) end-run-requires answer-requires (λ c. search needs) (λ c. search needs)
+    (λ c. search needs) returns)

@@ -15,11 +15,4 @@ returns c =
     (c .in-force .ensures, ap length (c .in-force .ensures) ∙ length-in-force (shared-area t) (length-shared t (s .pre .size)))
 
 pub in-force-spec : {M : Type 1} → statement M
-in-force-spec =
-    tie.close
-    (tie.spec
-    (λ c. search needs)
-    (λ c. search needs)
-    (λ c. search needs)
-    (λ c κs. search needs)
-    returns)
+in-force-spec = tie.close (tie.spec (λ c. search needs) (λ c. search needs) (λ c. search needs) (λ c κs. search needs) returns)

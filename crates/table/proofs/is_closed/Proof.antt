@@ -22,9 +22,4 @@ returns c =
     ∙ ap is-closed (sym (part-is t (s .args .s) (s .pre .1)))
 
 pub is-closed-spec : {M : Type 1} → statement M
-is-closed-spec =
-    tie.close
-    (tie.spec
-    (λ c κs. search needs)
-    is-closed-requires
-    returns)
+is-closed-spec = tie.close (tie.spec (λ c κs. search needs) is-closed-requires returns)

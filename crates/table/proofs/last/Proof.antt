@@ -9,11 +9,4 @@ unfolding decode
 returns c = c .last .ensures
 
 pub last-spec : {M : Type 1} → statement M
-last-spec =
-    tie.close
-    (tie.spec
-    (λ c. search needs)
-    (λ c. search needs)
-    (λ c. search needs)
-    (λ c κs. search needs)
-    returns)
+last-spec = tie.close (tie.spec (λ c. search needs) (λ c. search needs) (λ c. search needs) (λ c κs. search needs) returns)

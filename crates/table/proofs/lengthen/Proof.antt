@@ -5,9 +5,6 @@ use Rattle.table.proofs.Receives.{lengthened}
 use Rattle.table.proofs.lengthen.Statement.{statement}
 use Rattle.table.proofs.lengthen.Tie as tie
 
-lengthen-requires : tie.Need-lengthen-requires
-lengthen-requires c κs = let s = c .before .before .before in part-good (s .args .table .now) (s .args .s) (s .pre .0) (s .pre .1)
-
 returns : tie.Need-returns
 returns c =
     let k = c .before .before in
@@ -16,14 +13,7 @@ returns c =
 
 pub lengthen-spec : {M : Type 1} → statement M
 lengthen-spec =
-    tie.close
-    (tie.spec
+    tie.close (tie.spec (λ c. search needs) (λ c. search needs) (λ c. search needs) (λ c. search needs) (λ c. search needs)
     (λ c. search needs)
-    (λ c. search needs)
-    (λ c. search needs)
-    (λ c. search needs)
-    (λ c. search needs)
-    (λ c. search needs)
-    lengthen-requires
-    (λ c. search needs)
-    returns)
+    (λ c κs. let s = c .before .before .before in part-good (s .args .table .now) (s .args .s) (s .pre .0) (s .pre .1))
+    (λ c. search needs) returns)

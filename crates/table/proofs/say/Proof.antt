@@ -1,13 +1,12 @@
 -- `table::say` meets its contract. The invariant: what is left to say, over what was said, is all of it. Assumes nothing.
 use borrow.Author.Needs.{needs}
-use mathlib.Core.Path.{_≡_, refl, sym, ap, subst, _∙_}
+use mathlib.Core.Path.{sym, ap, subst}
 use native.Mathlib.Omega.{arith}
-use Prim.Native.Nat.{ℕ, _-_, _<_}
-use mathlib.Core.Bool.{Bool, false}
-use mathlib.Core.List.{List}
+use Prim.Native.Nat.{_-_, _<_}
+use mathlib.Core.Bool.{false}
 use lib.ListN.{length, getD}
 use Rattle.model.specs.Kinds.{kinds}
-use Rattle.model.specs.Notices.{Subscription, unsubscribed}
+use Rattle.model.specs.Notices.{Subscription}
 use Rattle.text.proofs.Puts.{put-as}
 use Rattle.session.specs.Effects.{out-bytes}
 use Rattle.region.specs.Region.{subscriptions-in}

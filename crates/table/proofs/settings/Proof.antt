@@ -14,11 +14,4 @@ returns c =
     (c .settings .ensures, ap length (c .settings .ensures) ∙ length-settings (shared-area t) (length-shared t (s .pre .size)))
 
 pub settings-spec : {M : Type 1} → statement M
-settings-spec =
-    tie.close
-    (tie.spec
-    (λ c. search needs)
-    (λ c. search needs)
-    (λ c. search needs)
-    (λ c κs. search needs)
-    returns)
+settings-spec = tie.close (tie.spec (λ c. search needs) (λ c. search needs) (λ c. search needs) (λ c κs. search needs) returns)

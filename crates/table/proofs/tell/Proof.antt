@@ -2,7 +2,7 @@
 -- up of those that take the event, and the room that is left. Assumes nothing.
 use borrow.Author.Needs.{needs}
 use mathlib.Core.Path.{_≡_, refl, ap, _∙_}
-use mathlib.Core.Bool.{Bool, cond}
+use mathlib.Core.Bool.{cond}
 use Prim.Native.Nat.{ℕ, _+_, _-_, _*_, _^_, _≤_}
 use native.Mathlib.Omega.{arith}
 use lib.ListN.{drop}
@@ -26,9 +26,6 @@ Inv-loop table₀ out₀ at kind place at₀ taken₀ bit₀ session₀ table ou
 
 abbrev μ-loop : tie.MeasureT-loop
 μ-loop table₀ out₀ at kind place at₀ taken₀ bit₀ session₀ table out at′ taken bit session = session-count - session
-
-loop-holds : tie.Need-loop-holds Inv-loop μ-loop
-loop-holds c = let s = c .before .before .before in (turns-none _ _ _ _ (s .pre .0), omega arith, refl, omega arith)
 
 tell-session-requires : tie.Need-tell-session-requires Inv-loop μ-loop
 tell-session-requires c κs =
@@ -81,7 +78,7 @@ tell-spec =
     (tie.spec
     Inv-loop
     μ-loop
-    loop-holds
+    (λ c. let s = c .before .before .before in (turns-none _ _ _ _ (s .pre .0), omega arith, refl, omega arith))
     tell-session-requires
     (λ c κs. search needs)
     (λ c.

@@ -1,8 +1,5 @@
 -- `table::tell_session` meets its contract, by whether it is sent. Assumes nothing.
 use borrow.Author.Needs.{needs}
-use mathlib.Core.Path.{_≡_, sym, ap, subst, _∙_}
-use mathlib.Core.Bool.{Bool, cond}
-use native.Mathlib.Omega.{arith}
 use Rattle.table.proofs.Passes.{told-one-sent, told-one-silent, copy-lent}
 use Rattle.table.proofs.Regions.{part-good}
 use Rattle.table.proofs.tell_session.Statement.{statement}
@@ -39,18 +36,5 @@ returns-2 c =
 
 pub tell-session-spec : {M : Type 1} → statement M
 tell-session-spec =
-    tie.close
-    (tie.spec
-    (λ c. search needs)
-    (λ c. search needs)
-    (λ c. search needs)
-    (λ c. search needs)
-    (λ c. search needs)
-    (λ c. search needs)
-    take-requires
-    put-copy-requires
-    (λ c. search needs)
-    (λ c. search needs)
-    returns
-    (λ c. search needs)
-    returns-2)
+    tie.close (tie.spec (λ c. search needs) (λ c. search needs) (λ c. search needs) (λ c. search needs) (λ c. search needs)
+    (λ c. search needs) take-requires put-copy-requires (λ c. search needs) (λ c. search needs) returns (λ c. search needs) returns-2)

@@ -1,7 +1,7 @@
 -- `table::tick` meets its contract. The invariant: what the sessions come to that are left is what all come to, and the room that is left.
 -- Assumes nothing.
 use borrow.Author.Needs.{needs}
-use Prim.Native.Nat.{ℕ, _+_, _-_, _*_, _≤_}
+use Prim.Native.Nat.{_+_, _-_, _*_, _≤_}
 use native.Mathlib.Omega.{arith}
 use Rattle.model.specs.Limits.{session-count}
 use Rattle.model.specs.Kinds.{kinds, copies-most}
@@ -18,9 +18,6 @@ Inv-loop table₀ out₀ at at₀ session₀ table out at′ session =
 
 abbrev μ-loop : tie.MeasureT-loop
 μ-loop table₀ out₀ at at₀ session₀ table out at′ session = session-count - session
-
-loop-holds : tie.Need-loop-holds Inv-loop μ-loop
-loop-holds c = (turns-none tick _ _ _ (c .before .before .pre .0), omega arith)
 
 tick-session-requires : tie.Need-tick-session-requires Inv-loop μ-loop
 tick-session-requires c κs =
@@ -57,7 +54,7 @@ tick-spec =
     (tie.spec
     Inv-loop
     μ-loop
-    loop-holds
+    (λ c. (turns-none tick _ _ _ (c .before .before .pre .0), omega arith))
     tick-session-requires
     (λ c. search needs)
     (λ c. search needs)

@@ -34,9 +34,6 @@ loop-again c =
     (rw (le-leb _ _ (c .before .if1 .left), le-leb _ _ (c .if2 .left)))
     (l .loop .inv)
 
-returns-3 : tie.Need-returns-3 Inv-loop μ-loop
-returns-3 c = sym (all-end _ (c .before .before .args .s .now) (c .before .loop .i) (c .loop-test .left)) ∙ c .before .loop .inv
-
 pub all-within-spec : {M : Type 1} → statement M
 all-within-spec =
     tie.close
@@ -50,4 +47,4 @@ all-within-spec =
     (λ c. search needs)
     (λ c. search needs)
     loop-again
-    returns-3)
+    (λ c. sym (all-end _ (c .before .before .args .s .now) (c .before .loop .i) (c .loop-test .left)) ∙ c .before .loop .inv))

@@ -7,8 +7,7 @@ use Rattle.text.proofs.Numbers.{within-one}
 use Rattle.text.proofs.is_spaces.Statement.{statement}
 use Rattle.text.proofs.is_spaces.Tie as tie
 
-returns : tie.Need-returns
-returns c = c .all-within .ensures ∙ all-same (within 32 32) is-space (within-one 32) (c .before .before .args .s .now)
-
 pub is-spaces-spec : {M : Type 1} → statement M
-is-spaces-spec = tie.close (tie.spec (λ c κs. search needs) returns)
+is-spaces-spec =
+    tie.close (tie.spec (λ c κs. search needs)
+    (λ c. c .all-within .ensures ∙ all-same (within 32 32) is-space (within-one 32) (c .before .before .args .s .now)))

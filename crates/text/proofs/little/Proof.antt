@@ -1,11 +1,11 @@
 -- `text::little` meets its contract. The invariant: n is the number of the bytes from i on, which are few enough. Assumes nothing.
 use borrow.Author.Needs.{needs}
-use mathlib.Core.Path.{_≡_, refl, sym, ap, _∙_}
+use mathlib.Core.Path.{_≡_, sym, ap, _∙_}
 use Prim.Native.Nat.{ℕ, suc, _+_, _-_, _*_, _^_, _≤_, _<_}
 use native.Mathlib.Nat.{add-zero, sub-self, sub-zero}
 use native.Mathlib.Omega.{arith}
 use lib.Dec.{lit<}
-use lib.ListN.{length, take, drop, getD}
+use lib.ListN.{take, drop, getD}
 use Rattle.model.specs.Bytes.{little}
 use Rattle.text.proofs.Numbers.{little-next, digit-more, power-bound}
 use Rattle.text.proofs.little.Statement.{statement}
@@ -16,9 +16,6 @@ Inv-loop b at size i₀ n₀ i n = (i ≤ size) × (n ≡ little (take (size - i
 
 abbrev μ-loop : tie.MeasureT-loop
 μ-loop b at size i₀ n₀ i n = i
-
-loop-holds : tie.Need-loop-holds Inv-loop μ-loop
-loop-holds c = let z = sub-self (c .before .args .size) in (omega arith, rw z, rw z (lit< tt))
 
 -- seven bytes at most are read before another
 few : (c : tie.In-loop Inv-loop μ-loop) → c .before .loop .n < 256 ^ 7
@@ -51,7 +48,7 @@ little-spec =
     (tie.spec
     Inv-loop
     μ-loop
-    loop-holds
+    (λ c. let z = sub-self (c .before .args .size) in (omega arith, rw z, rw z (lit< tt)))
     (λ c. search needs)
     (λ c. omega (arith, few c))
     (λ c. search needs)

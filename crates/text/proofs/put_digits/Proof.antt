@@ -1,7 +1,7 @@
 -- `text::put_digits` meets its contract. It writes from the last digit to the first; the invariant is that of `copy`, backwards.
 -- Assumes nothing.
 use borrow.Author.Needs.{needs}
-use mathlib.Core.Path.{_≡_, refl, ap, _∙_}
+use mathlib.Core.Path.{_≡_, refl, ap}
 use Prim.Native.Nat.{ℕ, _+_, _-_, _/_, _%_, _≤_}
 use native.Mathlib.Omega.{arith}
 use lib.ListN.{length, length-set}
@@ -43,18 +43,7 @@ returns c =
 
 pub put-digits-spec : {M : Type 1} → statement M
 put-digits-spec =
-    tie.close
-    (tie.spec
-    Inv-loop
-    μ-loop
+    tie.close (tie.spec Inv-loop μ-loop
     (λ c. (omega arith, refl, refl))
-    (λ c. search needs)
-    (λ c. search needs)
-    (λ c. search needs)
-    (λ c. search needs)
-    (λ c. search needs)
-    (λ c. search needs)
-    loop-again
-    (λ c. search needs)
-    (λ c. search needs)
-    returns)
+    (λ c. search needs) (λ c. search needs) (λ c. search needs) (λ c. search needs) (λ c. search needs) (λ c. search needs) loop-again
+    (λ c. search needs) (λ c. search needs) returns)

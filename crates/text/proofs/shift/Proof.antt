@@ -16,9 +16,6 @@ Inv-loop b₀ to from n i₀ b i = Moving b₀ b to from n i
 abbrev μ-loop : tie.MeasureT-loop
 μ-loop b₀ to from n i₀ b i = n - i
 
-loop-holds : tie.Need-loop-holds Inv-loop μ-loop
-loop-holds c = record { within = omega arith; same = refl; left = simp (add-zero, sub-zero); ahead = refl }
-
 loop-again : tie.Need-loop-again Inv-loop μ-loop
 loop-again c =
     let l = c .before .before in
@@ -35,17 +32,7 @@ returns c =
 
 pub shift-spec : {M : Type 1} → statement M
 shift-spec =
-    tie.close
-    (tie.spec
-    Inv-loop
-    μ-loop
-    loop-holds
-    (λ c. search needs)
-    (λ c. search needs)
-    (λ c. search needs)
-    (λ c. search needs)
-    (λ c. search needs)
-    (λ c. search needs)
-    loop-again
-    (λ c. search needs)
-    returns)
+    tie.close (tie.spec Inv-loop μ-loop
+    (λ c. record { within = omega arith; same = refl; left = simp (add-zero, sub-zero); ahead = refl })
+    (λ c. search needs) (λ c. search needs) (λ c. search needs) (λ c. search needs) (λ c. search needs) (λ c. search needs) loop-again
+    (λ c. search needs) returns)
