@@ -107,7 +107,7 @@ def tightening_fields(i, **named):
     """The i-th tightening: no two are alike, and fields of one range differ."""
     fields = {name: (i + 10006 * place) % (item.greatest + 1) for place, (name, item) in enumerate(PAYLOADS[TIGHTENING].items.items())}
     fields.update(identifier="BODY-%07d" % i, time="2026-01-%02d:%02d:%02d:%02d" % (i % 28 + 1, i // 3600 % 24, i // 60 % 60, i % 60),
-                  change_time="2025-12-31:23:59:%02d" % (i % 60))
+                  change_time="2025-12-31:23:59:%02d" % (i % 60), batch_status=(i + 2) % 3)
     return {**fields, **named}
 
 
