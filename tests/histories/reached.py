@@ -11,7 +11,7 @@ import collections
 import re
 import subprocess
 
-import generate  # and the tools' modules
+import generate  # which puts tools on the path
 from house_records import BYTES, HANG_UP, OPEN, PAYLOADS, TICK, record, split
 
 MARKER = record(HANG_UP + 15)
