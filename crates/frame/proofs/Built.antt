@@ -1,4 +1,4 @@
--- Frames that were put together in a scratch array, and what each form is of the model's frames. Assumes nothing.
+-- Frames that were put together in a scratch array, and which of the model's frames each is. Assumes nothing.
 use mathlib.Core.Path.{_≡_, refl, sym, ap, ap₂, subst, _∙_}
 use Prim.Native.Nat.{ℕ, zero, suc, _+_, _≤_, _<_}
 use native.Mathlib.Omega.{arith}
@@ -16,8 +16,8 @@ use Rattle.model.specs.Frames.{header, frame, frame-0002, frame-0004, frame-000
 use Rattle.text.specs.Put.{Put}
 use Rattle.text.proofs.Numbers.{digits-length}
 use Rattle.text.proofs.Puts.{put-before, put-as, put-length, scratched}
-use Rattle.frame.specs.declared.Form.{Form}
-use Rattle.frame.specs.declared.Form.the-variants.{Started, Refused, Accepted, Notice}
+use Rattle.frame.specs.declared.Content.{Content}
+use Rattle.frame.specs.declared.Content.the-variants.{Started, Refused, Accepted, Notice}
 use Rattle.frame.specs.declared.Frame.{Frame}
 use Rattle.frame.specs.declared.To.{To}
 use Rattle.frame.specs.Places.{place-size, result-of, event-in}
@@ -52,7 +52,7 @@ module _ {z z₁ z₂ d : List ℕ} {n end r : ℕ} (mid revision byte-12 : ℕ)
       let s = header-size end mid revision byte-12 in
       scratched (omega arith) (put-before (w .put) (h .1) (h .0)) ∙ ap (λ (k : ℕ). header k mid revision byte-12 ++ d) e
 
--- ==== how long the forms are, and which bytes serve them
+-- ==== how long they are, and which bytes serve them
 
 parts-short : (b : Bool) → header-length + rows-length true (take (cond b 1 4) identifier-rows) ≤ 128
 parts-short true = omega arith
@@ -63,13 +63,13 @@ copy-short zero revision h = parts-short (eqb revision 1)
 copy-short (suc zero) revision h = omega arith
 copy-short (suc (suc kind)) revision h = absurd (omega arith)
 
-pub form-short : (form : Form) → Real form → frame-length form ≤ longest
-form-short Started h = omega arith
-form-short (Refused mid error) h = omega arith
-form-short (Accepted mid) h = omega arith
-form-short (Notice zero revision) h = let s = copy-short 0 revision h in omega arith
-form-short (Notice (suc zero) revision) h = omega arith
-form-short (Notice (suc (suc kind)) revision) h = absurd (omega arith)
+pub content-short : (content : Content) → Real content → frame-length content ≤ longest
+content-short Started h = omega arith
+content-short (Refused mid error) h = omega arith
+content-short (Accepted mid) h = omega arith
+content-short (Notice zero revision) h = let s = copy-short 0 revision h in omega arith
+content-short (Notice (suc zero) revision) h = omega arith
+content-short (Notice (suc (suc kind)) revision) h = absurd (omega arith)
 
 parts-served : (b : Bool)
     → all (served settings-length identifier-length) (map (placed scanned-items) (take (cond b 1 4) identifier-rows)) ≡ true
@@ -83,17 +83,17 @@ notice-served zero revision h = parts-served (eqb revision 1)
 notice-served (suc zero) revision h = refl
 notice-served (suc (suc kind)) revision h = absurd (omega arith)
 
--- ==== a frame of the form that it is
+-- ==== a frame that says what another says
 
 module _ {f g : Frame} (e : f ≡ g) (b : Given) where
   pub sendable : {o : List ℕ} {to : To} → Sendable o to g b → Sendable o to f b
   sendable {o} {to} h = subst (λ (x : Frame). Sendable o to x b) (sym e) h
 
   pub sent : {o o′ : List ℕ} {at r : ℕ} (s : ℕ) (bytes : List ℕ) → frame-of g b ≡ bytes
-      → Wrote o at (record-length (frame-length (f .form))) (frame-record s (frame-of f b)) r o′
-      → (r ≡ at + record-length (frame-length (g .form))) × Put o at (frame-record s bytes) r o′
+      → Wrote o at (record-length (frame-length (f .content))) (frame-record s (frame-of f b)) r o′
+      → (r ≡ at + record-length (frame-length (g .content))) × Put o at (frame-record s bytes) r o′
   sent {at = at} s bytes q w = (
-    w .place ∙ ap (λ (x : Frame). at + record-length (frame-length (x .form))) e,
+    w .place ∙ ap (λ (x : Frame). at + record-length (frame-length (x .content))) e,
     put-as (ap (frame-record s) (ap (λ (x : Frame). frame-of x b) e ∙ q)) (w .put),
   )
 

@@ -13,7 +13,7 @@ use Rattle.text.specs.Put.{Put}
 use Rattle.text.proofs.Lists.{drop-next, all-at}
 use Rattle.text.proofs.Puts.{Left, left-all, left-put, left-none, left-as, put-then, put-as}
 use Rattle.frame.specs.declared.Placed.{Placed}
-use Rattle.frame.specs.declared.Form.{Form}
+use Rattle.frame.specs.declared.Content.{Content}
 use Rattle.frame.specs.Layout.{layout-of, items-told, row-at, placed, placed-width, Given, shown, said-by, data-in, served}
 use Rattle.frame.specs.Output.{Wrote, Servable, Layable}
 use Rattle.frame.proofs.Placing.{suits, placed-shown, width-placed, all-suit}
@@ -36,61 +36,61 @@ module _ (numbered : Bool) (rows : List Row) (k : ℕ) (h : k < length rows) whe
 
 -- ==== the loop: the rows from k on are left to be written
 
-module _ (form : Form) (b : Given) (o₀ : List ℕ) (at : ℕ) where
+module _ (content : Content) (b : Given) (o₀ : List ℕ) (at : ℕ) where
   abbrev rows : List Row
-  rows = layout-of form .rows
+  rows = layout-of content .rows
 
   abbrev numbered : Bool
-  numbered = layout-of form .numbered
+  numbered = layout-of content .numbered
 
   abbrev left-length : ℕ → ℕ
   left-length k = rows-length numbered (drop k rows)
 
   pub record Laying (o : List ℕ) (to k : ℕ) : Type 0 where
     pub within : k ≤ length rows
-    pub place : to + left-length k ≡ at + data-length (layout-of form)
-    pub left : Left o₀ at (data-in form b) o to (data-from numbered (k + 1) (drop k rows) (said-by form b))
+    pub place : to + left-length k ≡ at + data-length (layout-of content)
+    pub left : Left o₀ at (data-in content b) o to (data-from numbered (k + 1) (drop k rows) (said-by content b))
 
   pub laying : Laying o₀ at 0
   unfolding data-in
   laying = record { within = omega arith; place = refl; left = left-all _ _ _ }
 
   module _ {o : List ℕ} {to k : ℕ} (l : Laying o to k) where
-    module _ (h : k < length rows) (w : Layable form b at (length o₀)) {label : ℕ} (el : label ≡ label-length numbered) where
+    module _ (h : k < length rows) (w : Layable content b at (length o₀)) {label : ℕ} (el : label ≡ label-length numbered) where
       -- there is room for the next field and its number
       pub label-room : to + label ≤ length o
       label-room = let e = length-next numbered rows k h in let z = l .left .size in let r = w .room in let p = l .place in omega arith
 
-      pub row-servable : {n size : ℕ} {row : Placed} → row ≡ placed (items-told form) (row-at rows k)
+      pub row-servable : {n size : ℕ} {row : Placed} → row ≡ placed (items-told content) (row-at rows k)
           → n ≡ to + label → size ≡ length o → Servable b row n size
       row-servable {n} {size} {row} e q z =
-          let ps = map (placed (items-told form)) rows in
-          let s = all-at (served (length (b .settings)) (length (b .told))) ps k (placed (items-told form) (blank 0)) (w .sound)
-          (rw (length-map rows (placed (items-told form))) h) in
+          let ps = map (placed (items-told content)) rows in
+          let s = all-at (served (length (b .settings)) (length (b .told))) ps k (placed (items-told content) (blank 0)) (w .sound)
+          (rw (length-map rows (placed (items-told content))) h) in
           subst (λ (x : Placed). Servable b x n size) (sym e) (record {
-            sound = rw (← List·getD-map (placed (items-told form)) rows k (blank 0)) s;
+            sound = rw (← List·getD-map (placed (items-told content)) rows k (blank 0)) s;
             room =
                 let d = length-next numbered rows k h in let g = l .left .size in let r = w .room in let p = l .place in
-                let v = width-placed (items-told form) (row-at rows k) in omega arith;
+                let v = width-placed (items-told content) (row-at rows k) in omega arith;
           })
 
       -- a field and its number are written
-      pub laid : {o₁ o₂ : List ℕ} {n to′ : ℕ} {row : Placed} → row ≡ placed (items-told form) (row-at rows k)
+      pub laid : {o₁ o₂ : List ℕ} {n to′ : ℕ} {row : Placed} → row ≡ placed (items-told content) (row-at rows k)
           → (n ≡ to + label) × Put o to (digits label (k + 1)) n o₁
           → Wrote o₁ n (placed-width row) (shown b row) to′ o₂ → Laying o₂ to′ (k + 1)
       laid {o₁} {o₂} {n} {to′} {row} e q v =
-          let ok = all-at (suits (items-told form)) rows k (blank 0) (all-suit form (w .real)) h in record {
+          let ok = all-at (suits (items-told content)) rows k (blank 0) (all-suit content (w .real)) h in record {
             within = omega arith;
             place =
                 let d = length-next numbered rows k h in let p = l .place in let f = q .0 in let g = v .place in
-                let j = ap placed-width e ∙ width-placed (items-told form) (row-at rows k) in omega arith;
+                let j = ap placed-width e ∙ width-placed (items-told content) (row-at rows k) in omega arith;
             left =
-                left-put (left-as (data-next numbered rows k h (said-by form b)) (l .left))
-                (put-then (put-as (ap (λ (n : ℕ). digits n (k + 1)) el) (q .1)) (put-as (ap (shown b) e ∙ placed-shown (items-told form) b (row-at rows k) ok) (v .put)));
+                left-put (left-as (data-next numbered rows k h (said-by content b)) (l .left))
+                (put-then (put-as (ap (λ (n : ℕ). digits n (k + 1)) el) (q .1)) (put-as (ap (shown b) e ∙ placed-shown (items-told content) b (row-at rows k) ok) (v .put)));
           }
 
     -- all are written
-    pub all-laid : length rows ≤ k → Wrote o₀ at (data-length (layout-of form)) (data-in form b) to o
+    pub all-laid : length rows ≤ k → Wrote o₀ at (data-length (layout-of content)) (data-in content b) to o
     unfolding data-from
     all-laid h =
         let e = drop-of-length-le rows {i = k} h in

@@ -14,8 +14,8 @@ use Rattle.model.specs.Records.{number-in, text-in, number-at, text-at, setting
 use Rattle.model.specs.Layouts.{Sources, settings, source, Row, number as number-row, text as text-row, blank, known, width-of, characters}
 use Rattle.model.specs.Layouts.{identifier-rows}
 use Rattle.model.specs.Kinds.{kinds}
-use Rattle.frame.specs.declared.Form.{Form}
-use Rattle.frame.specs.declared.Form.the-variants.{Started, Refused, Accepted, Notice}
+use Rattle.frame.specs.declared.Content.{Content}
+use Rattle.frame.specs.declared.Content.the-variants.{Started, Refused, Accepted, Notice}
 use Rattle.frame.specs.Layout.{layout-of, items-told, items-of, item-at, place-of, placed, placed-width, Given, bytes-of, part, shown, said-by}
 use Rattle.frame.specs.Output.{Real}
 
@@ -103,12 +103,12 @@ width-placed told (text-row width from i) = refl
 width-placed told (blank width) = refl
 width-placed told (known width n) = refl
 
--- the rows of every form do
+-- the rows of every frame do
 suits-identifiers : (b : Bool) → all (suits scanned-items) (take (cond b 1 4) identifier-rows) ≡ true
 suits-identifiers true = refl
 suits-identifiers false = refl
 
-pub all-suit : (form : Form) → Real form → all (suits (items-told form)) (layout-of form .rows) ≡ true
+pub all-suit : (content : Content) → Real content → all (suits (items-told content)) (layout-of content .rows) ≡ true
 all-suit Started h = refl
 all-suit (Refused mid error) h = refl
 all-suit (Accepted mid) h = refl

@@ -12,26 +12,26 @@ use Rattle.model.specs.Kinds.{kind-at}
 use Rattle.frame.specs.Places.{place-items}
 use Rattle.frame.specs.declared.Placed.{Placed}
 use Rattle.frame.specs.declared.Placed.the-variants.{Number, Text, Blank, Known}
-use Rattle.frame.specs.declared.Form.{Form}
-use Rattle.frame.specs.declared.Form.the-variants.{Started, Refused, Accepted, Notice}
+use Rattle.frame.specs.declared.Content.{Content}
+use Rattle.frame.specs.declared.Content.the-variants.{Started, Refused, Accepted, Notice}
 use Rattle.frame.specs.declared.Extent.{Extent}
 
--- ==== the forms of frame: the layout of each, and of which items what it tells is the payload
+-- ==== what frames say: the layout of each, and of which items what it tells is the payload
 
-abbrev pub layout-of : Form → Layout
+abbrev pub layout-of : Content → Layout
 layout-of Started = layout-0002
 layout-of (Refused mid error) = layout-0004 mid error
 layout-of (Accepted mid) = layout-0005 mid
 layout-of (Notice kind revision) = ((kind-at kind) .layout) revision
 
-abbrev pub items-told : Form → List Item
+abbrev pub items-told : Content → List Item
 items-told Started = []
 items-told (Refused mid error) = []
 items-told (Accepted mid) = []
 items-told (Notice kind revision) = place-items kind
 
-abbrev pub extent-of : Form → Extent
-extent-of form = record { label = label-length (layout-of form .numbered); count = length (layout-of form .rows) }
+abbrev pub extent-of : Content → Extent
+extent-of content = record { label = label-length (layout-of content .numbered); count = length (layout-of content .rows) }
 
 -- row k (past the last there is none)
 abbrev pub row-at : List Row → ℕ → Row
@@ -55,9 +55,9 @@ placed told (text width from i) = Text width from (place-of (items-of told from)
 placed told (blank width) = Blank width
 placed told (known width n) = Known width n
 
--- row k of a form
-abbrev pub placed-row : Form → ℕ → Placed
-placed-row form k = placed (items-told form) (row-at (layout-of form .rows) k)
+-- row k of a content
+abbrev pub placed-row : Content → ℕ → Placed
+placed-row content k = placed (items-told content) (row-at (layout-of content .rows) k)
 
 -- ==== what a frame is made of, as bytes: a settings record's payload, and what it tells
 
@@ -86,11 +86,11 @@ shown b (Blank width) = spaces width
 shown b (Known width n) = digits width n
 
 -- the data: of the values that the bytes hold
-abbrev pub said-by : Form → Given → Sources
-said-by form b = record { settings = values settings-items (b .settings); told = values (items-told form) (b .told) }
+abbrev pub said-by : Content → Given → Sources
+said-by content b = record { settings = values settings-items (b .settings); told = values (items-told content) (b .told) }
 
-unfoldable pub data-in : Form → Given → List ℕ
-data-in form b = data-of (layout-of form) (said-by form b)
+unfoldable pub data-in : Content → Given → List ℕ
+data-in content b = data-of (layout-of content) (said-by content b)
 
 -- ==== which rows so many bytes can serve
 

@@ -15,8 +15,8 @@ use Rattle.text.specs.Put.{Put}
 use Rattle.frame.specs.Places.{place-size}
 use Rattle.frame.specs.Layout.{layout-of, items-told, placed, Given, bytes-of, placed-width, data-in, served}
 use Rattle.frame.specs.declared.Placed.{Placed}
-use Rattle.frame.specs.declared.Form.{Form}
-use Rattle.frame.specs.declared.Form.the-variants.{Started, Refused, Accepted, Notice}
+use Rattle.frame.specs.declared.Content.{Content}
+use Rattle.frame.specs.declared.Content.the-variants.{Started, Refused, Accepted, Notice}
 use Rattle.frame.specs.declared.Frame.{Frame}
 use Rattle.frame.specs.declared.To.{To}
 use Rattle.frame.specs.declared.Asked.{Asked}
@@ -38,36 +38,36 @@ pub record Servable (b : Given) (row : Placed) (at size : ℕ) : Type 0 where
   pub room : at + placed-width row ≤ size
 
 -- a kind of notice is one that there is
-abbrev pub Real : Form → Type 0
+abbrev pub Real : Content → Type 0
 Real Started = Unit {0}
 Real (Refused mid error) = Unit {0}
 Real (Accepted mid) = Unit {0}
 Real (Notice kind revision) = kind < length kinds
 
 -- the rows of a frame can be written
-pub record Layable (form : Form) (b : Given) (at size : ℕ) : Type 0 where
-  pub real : Real form
-  pub sound : all (served (length (b .settings)) (length (b .told))) (map (placed (items-told form)) (layout-of form .rows)) ≡ true
-  pub room : at + data-length (layout-of form) ≤ size
+pub record Layable (content : Content) (b : Given) (at size : ℕ) : Type 0 where
+  pub real : Real content
+  pub sound : all (served (length (b .settings)) (length (b .told))) (map (placed (items-told content)) (layout-of content .rows)) ≡ true
+  pub room : at + data-length (layout-of content) ≤ size
 
 -- ==== frames
 
 -- how long a frame is
-abbrev pub frame-length : Form → ℕ
-frame-length form = header-length + data-length (layout-of form)
+abbrev pub frame-length : Content → ℕ
+frame-length content = header-length + data-length (layout-of content)
 
 abbrev pub frame-of : Frame → Given → List ℕ
-frame-of f b = frame (f .mid) (f .revision) (f .«byte_12») (data-in (f .form) b)
+frame-of f b = frame (f .mid) (f .revision) (f .«byte_12») (data-in (f .content) b)
 
-abbrev pub reply-of : ℕ → Form → Frame
-reply-of mid form = record { mid = mid; revision = 1; «byte_12» = space; form = form }
+abbrev pub reply-of : ℕ → Content → Frame
+reply-of mid content = record { mid = mid; revision = 1; «byte_12» = space; content = content }
 
 abbrev pub notice-of : Asked → Frame
 notice-of asked = record {
   mid = (kind-at (asked .kind)) .notice;
   revision = asked .revision;
   «byte_12» = cond (asked .«no_acknowledge») digit-1 digit-0;
-  form = Notice (asked .kind) (asked .revision);
+  content = Notice (asked .kind) (asked .revision);
 }
 
 -- 0005 has the number that is answered, 0004 an error behind it
@@ -90,9 +90,9 @@ pub record Writable (out : List ℕ) (to : To) (size : ℕ) : Type 0 where
 
 -- a frame can go there
 pub record Sendable (out : List ℕ) (to : To) (f : Frame) (b : Given) : Type 0 where
-  pub output : Writable out to (record-length (frame-length (f .form)))
-  pub real : Real (f .form)
-  pub sound : all (served (length (b .settings)) (length (b .told))) (map (placed (items-told (f .form))) (layout-of (f .form) .rows)) ≡ true
+  pub output : Writable out to (record-length (frame-length (f .content)))
+  pub real : Real (f .content)
+  pub sound : all (served (length (b .settings)) (length (b .told))) (map (placed (items-told (f .content))) (layout-of (f .content) .rows)) ≡ true
 
 -- a copy of the notice in a place can go there: it may be as long as its kind has them, and what it is made of is whole
 pub record Lent (out : List ℕ) (to : To) (asked : Asked) (st p : List ℕ) : Type 0 where

@@ -32,7 +32,7 @@ ghost use Rattle.frame.specs.Output.{
   Writable,
   Lent,
 };
-ghost use Rattle.frame.specs.declared.Form.the-variants.{Notice};
+ghost use Rattle.frame.specs.declared.Content.the-variants.{Notice};
 
 // ---- headers: length and message number in so many digits each, the revision in so many, byte 12, and spaces
 
@@ -170,7 +170,7 @@ pub fn read_header<'a>(run: &'a [u8], count: usize) -> RunRead<'a>
     RunRead { header, field }
 }
 
-// ---- layouts: the rows of each form of frame, and where the value of each stands in the bytes that the frame is made of
+// ---- layouts: the rows of each frame, and where the value of each stands in the bytes that the frame is made of
 
 // These bytes: a settings record's payload, and what the frame tells.
 const SETTINGS: usize = 0;
@@ -189,8 +189,8 @@ pub enum Placed {
     Known(usize, u64),
 }
 
-// Which frame it is.
-pub enum Form {
+// What a frame says.
+pub enum Content {
     // 0002
     Started,
     // 0004: the message that is answered, and the error
@@ -306,42 +306,42 @@ fn notice_row(kind: usize, revision: u64, k: usize) -> Placed
 }
 
 // Any frame.
-fn measure(form: Form) -> Extent
-    requires { ⌜ Real form ⌝ }
-    ensures { λ r. ⌜ r ≡ extent-of form ⌝ }
+fn measure(content: Content) -> Extent
+    requires { ⌜ Real content ⌝ }
+    ensures { λ r. ⌜ r ≡ extent-of content ⌝ }
 {
-    match form {
-        Form::Started => Extent {
+    match content {
+        Content::Started => Extent {
             label: NUMBERED,
             count: CONTROLLER_COUNT,
         },
-        Form::Refused(mid, error) => Extent {
+        Content::Refused(mid, error) => Extent {
             label: PLAIN,
             count: 2,
         },
-        Form::Accepted(mid) => Extent {
+        Content::Accepted(mid) => Extent {
             label: PLAIN,
             count: 1,
         },
-        Form::Notice(kind, revision) => notice_extent(kind, revision),
+        Content::Notice(kind, revision) => notice_extent(kind, revision),
     }
 }
 
 // Row k of it.
-fn row(form: Form, k: usize) -> Placed
-    requires { ⌜ Real form × (k < length (layout-of form .rows)) ⌝ }
-    ensures { λ r. ⌜ r ≡ placed-row form k ⌝ }
+fn row(content: Content, k: usize) -> Placed
+    requires { ⌜ Real content × (k < length (layout-of content .rows)) ⌝ }
+    ensures { λ r. ⌜ r ≡ placed-row content k ⌝ }
 {
-    match form {
-        Form::Started => controller_row(k),
-        Form::Refused(mid, error) => {
+    match content {
+        Content::Started => controller_row(k),
+        Content::Refused(mid, error) => {
             if k == 0 {
                 return Placed::Known(NUMBER_DIGITS, mid);
             }
             Placed::Known(2, error)
         }
-        Form::Accepted(mid) => Placed::Known(NUMBER_DIGITS, mid),
-        Form::Notice(kind, revision) => notice_row(kind, revision, k),
+        Content::Accepted(mid) => Placed::Known(NUMBER_DIGITS, mid),
+        Content::Notice(kind, revision) => notice_row(kind, revision, k),
     }
 }
 
@@ -408,19 +408,19 @@ fn put_value(out: &mut [u8], at: usize, row: Placed, settings: &[u8], told: &[u8
 }
 
 // The fields of a frame, each with its number before it where they are numbered.
-fn put_fields(out: &mut [u8], at: usize, form: Form, settings: &[u8], told: &[u8]) -> usize
-    requires { ⌜ Layable form (record { settings = now settings; told = now told }) at (length (now out)) ⌝ }
-    ensures { λ r. ⌜ Wrote (now (out .entry)) at (data-length (layout-of form))
-        (data-in form (record { settings = now (settings .entry); told = now (told .entry) })) r (now (out .exit)) ⌝ }
+fn put_fields(out: &mut [u8], at: usize, content: Content, settings: &[u8], told: &[u8]) -> usize
+    requires { ⌜ Layable content (record { settings = now settings; told = now told }) at (length (now out)) ⌝ }
+    ensures { λ r. ⌜ Wrote (now (out .entry)) at (data-length (layout-of content))
+        (data-in content (record { settings = now (settings .entry); told = now (told .entry) })) r (now (out .exit)) ⌝ }
 {
-    let extent = measure(form);
+    let extent = measure(content);
     let label = extent.label;
     let count = extent.count;
     let mut to = at;
     let mut k = 0;
     while k < count {
         let n = text::put_digits(out, to, label, (k + 1) as u64);
-        let row = row(form, k);
+        let row = row(content, k);
         to = put_value(out, n, row, settings, told);
         k += 1;
     }
@@ -462,13 +462,13 @@ pub fn put_close(out: &mut [u8], to: To) -> usize
     text::put_little(out, at, 2, CLOSE_KIND + to.session)
 }
 
-// ---- frames: what the header says, and the form
+// ---- frames: what the header says, and the content
 
 pub struct Frame {
     pub mid: u64,
     pub revision: u64,
     pub byte_12: u8,
-    pub form: Form,
+    pub content: Content,
 }
 
 // A frame's header.
@@ -490,27 +490,27 @@ const FRAME_LONGEST: usize = 231;
 // Any frame: it is put together in a scratch array, the data first, whose end is the frame's length, and copied to its output record.
 fn put_frame(out: &mut [u8], to: To, f: Frame, settings: &[u8], told: &[u8]) -> usize
     requires { ⌜ Sendable (now out) to f (record { settings = now settings; told = now told }) ⌝ }
-    ensures { λ r. ⌜ Wrote (now (out .entry)) (to .at) (record-length (frame-length (f .form)))
+    ensures { λ r. ⌜ Wrote (now (out .entry)) (to .at) (record-length (frame-length (f .content)))
         (frame-record (to .session) (frame-of f (record { settings = now (settings .entry); told = now (told .entry) }))) r
         (now (out .exit)) ⌝ }
 {
     let mut frame = [0u8; FRAME_LONGEST];
-    let form = f.form;
-    let end = put_fields(&mut frame, HEADER_LENGTH, form, settings, told);
+    let content = f.content;
+    let end = put_fields(&mut frame, HEADER_LENGTH, content, settings, told);
     put_header(&mut frame, end as u64, f);
     put_record(out, to, &frame[..end])
 }
 
 // ---- replies: revision 1, and byte 12 a space
 
-fn reply(mid: u64, form: Form) -> Frame
-    ensures { λ r. ⌜ r ≡ reply-of mid form ⌝ }
+fn reply(mid: u64, content: Content) -> Frame
+    ensures { λ r. ⌜ r ≡ reply-of mid content ⌝ }
 {
     Frame {
         mid,
         revision: 1,
         byte_12: b' ',
-        form,
+        content,
     }
 }
 
@@ -521,7 +521,7 @@ pub fn put_0002(out: &mut [u8], to: To, settings: &[u8]) -> usize
         × Put (now (out .entry)) (to .at) (frame-record (to .session) (frame-0002 (settings-of (now (settings .entry))))) r
         (now (out .exit)) ⌝ }
 {
-    let f = reply(2, Form::Started);
+    let f = reply(2, Content::Started);
     put_frame(out, to, f, settings, &settings[0..0])
 }
 
@@ -531,7 +531,7 @@ pub fn put_0004(out: &mut [u8], to: To, mid: u64, error: u64) -> usize
     ensures { λ r. ⌜ (r ≡ to .at + record-length length-0004)
         × Put (now (out .entry)) (to .at) (frame-record (to .session) (frame-0004 mid error)) r (now (out .exit)) ⌝ }
 {
-    let f = reply(4, Form::Refused(mid, error));
+    let f = reply(4, Content::Refused(mid, error));
     put_frame(out, to, f, &[], &[])
 }
 
@@ -541,7 +541,7 @@ pub fn put_0005(out: &mut [u8], to: To, mid: u64) -> usize
     ensures { λ r. ⌜ (r ≡ to .at + record-length length-0005)
         × Put (now (out .entry)) (to .at) (frame-record (to .session) (frame-0005 mid)) r (now (out .exit)) ⌝ }
 {
-    let f = reply(5, Form::Accepted(mid));
+    let f = reply(5, Content::Accepted(mid));
     put_frame(out, to, f, &[], &[])
 }
 
@@ -582,7 +582,7 @@ fn notice(asked: Asked) -> Frame
         mid: NOTICES[kind],
         revision: asked.revision,
         byte_12: byte_12(asked.no_acknowledge),
-        form: Form::Notice(kind, asked.revision),
+        content: Content::Notice(kind, asked.revision),
     }
 }
 

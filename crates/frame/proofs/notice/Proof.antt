@@ -2,7 +2,7 @@
 use borrow.Author.Needs.{needs}
 use lib.ListN.{List·getD-map}
 use Rattle.model.specs.Kinds.{Kind, kinds, kind-at}
-use Rattle.frame.specs.declared.Form.the-variants.{Notice}
+use Rattle.frame.specs.declared.Content.the-variants.{Notice}
 use Rattle.frame.proofs.notice.Statement.{statement}
 use Rattle.frame.proofs.notice.Tie as tie
 
@@ -13,7 +13,7 @@ returns c =
       mid = List·getD-map (λ (k : Kind). k .notice) kinds (a .kind) (kind-at 2) i;
       revision = a .revision;
       «byte_12» = c .byte-12 .ensures i;
-      form = Notice (a .kind) (a .revision);
+      content = Notice (a .kind) (a .revision);
     }
 
 pub notice-spec : {M : Type 1} → statement M

@@ -13,13 +13,13 @@ use Rattle.frame.proofs.put_fields.Statement.{statement}
 use Rattle.frame.proofs.put_fields.Tie as tie
 
 abbrev Inv-loop : tie.InvT-loop
-Inv-loop out₀ at form settings told label count to₀ k₀ out to k =
-    (label ≡ label-length (layout-of form .numbered))
-    × (count ≡ length (layout-of form .rows))
-    × Laying form (record { settings = settings; told = told }) out₀ at out to k
+Inv-loop out₀ at content settings told label count to₀ k₀ out to k =
+    (label ≡ label-length (layout-of content .numbered))
+    × (count ≡ length (layout-of content .rows))
+    × Laying content (record { settings = settings; told = told }) out₀ at out to k
 
 abbrev μ-loop : tie.MeasureT-loop
-μ-loop out₀ at form settings told label count to₀ k₀ out to k = count - k
+μ-loop out₀ at content settings told label count to₀ k₀ out to k = count - k
 
 loop-holds : tie.Need-loop-holds Inv-loop μ-loop
 loop-holds c =

@@ -5,21 +5,21 @@ use Prim.Native.Nat.{ℕ, _+_}
 use Rattle.model.specs.Frames.{frame-record}
 use Rattle.text.proofs.Puts.{put-as}
 use Rattle.frame.specs.Output.{record-length}
-use Rattle.frame.proofs.Built.{built-within, built-length, built, form-short}
+use Rattle.frame.proofs.Built.{built-within, built-length, built, content-short}
 use Rattle.frame.proofs.put_frame.Statement.{statement}
 use Rattle.frame.proofs.put_frame.Tie as tie
 
 put-fields-requires : tie.Need-put-fields-requires
 put-fields-requires c κs =
     let s = c .before .before .before .before in
-    record { real = s .pre .real; sound = s .pre .sound; room = form-short (s .args .f .form) (s .pre .real) }
+    record { real = s .pre .real; sound = s .pre .sound; room = content-short (s .args .f .content) (s .pre .real) }
 
 array-share-prefix-frame : tie.Need-array-share-prefix-frame
 array-share-prefix-frame c =
     let h = c .before .before in
     let p = h .before .before .before in
     let s = p .before .before .before .before .before in
-    built-within _ _ _ (form-short (s .args .f .form) (s .pre .real)) (p .put-fields .ensures) (h .put-header .ensures)
+    built-within _ _ _ (content-short (s .args .f .content) (s .pre .real)) (p .put-fields .ensures) (h .put-header .ensures)
 
 slice-aggregate-put-record : tie.Need-slice-aggregate-put-record
 slice-aggregate-put-record c =
@@ -27,14 +27,14 @@ slice-aggregate-put-record c =
     let p = h .before .before .before in
     let s = p .before .before .before .before .before in
     p .put-fields .ensures .place
-    ∙ sym (built-length _ _ _ (form-short (s .args .f .form) (s .pre .real)) (p .put-fields .ensures) (h .put-header .ensures))
+    ∙ sym (built-length _ _ _ (content-short (s .args .f .content) (s .pre .real)) (p .put-fields .ensures) (h .put-header .ensures))
 
 put-record-requires : tie.Need-put-record-requires
 put-record-requires c κs =
     let h = c .before .before .before in
     let p = h .before .before .before in
     let s = p .before .before .before .before .before in
-    rw (built-length _ _ _ (form-short (s .args .f .form) (s .pre .real)) (p .put-fields .ensures) (h .put-header .ensures)) (s .pre .output)
+    rw (built-length _ _ _ (content-short (s .args .f .content) (s .pre .real)) (p .put-fields .ensures) (h .put-header .ensures)) (s .pre .output)
 
 returns : tie.Need-returns
 returns c =
@@ -43,7 +43,7 @@ returns c =
     let p = h .before .before .before in
     let s = p .before .before .before .before .before in
     let a = s .args in
-    let short = form-short (a .f .form) (s .pre .real) in
+    let short = content-short (a .f .content) (s .pre .real) in
     let e = built-length _ _ _ short (p .put-fields .ensures) (h .put-header .ensures) in
     record {
       place = r .put-record .ensures .0 ∙ ap (λ (n : ℕ). a .to .at + record-length n) e;

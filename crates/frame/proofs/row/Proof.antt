@@ -1,37 +1,37 @@
--- `frame::row` meets its contract, by the form. Assumes nothing.
+-- `frame::row` meets its contract, by the content. Assumes nothing.
 use borrow.Author.Needs.{needs}
 use mathlib.Core.Path.{_≡_, sym, ap, subst, _∙_}
 use Prim.Native.Nat.{ℕ, _<_}
 use native.Mathlib.Omega.{arith}
 use lib.ListN.{length}
-use Rattle.frame.specs.declared.Form.{Form}
+use Rattle.frame.specs.declared.Content.{Content}
 use Rattle.frame.specs.Layout.{layout-of, placed-row}
 use Rattle.frame.specs.Output.{Real}
 use Rattle.frame.proofs.row.Statement.{statement}
 use Rattle.frame.proofs.row.Tie as tie
 
--- what is asked of a form, and what is answered, of the form that it is
-asked : {f g : Form} {k : ℕ} → f ≡ g → Real f × (k < length (layout-of f .rows)) → Real g × (k < length (layout-of g .rows))
-asked {f} {g} {k} e h = subst (λ (x : Form). Real x × (k < length (layout-of x .rows))) e h
+-- what is asked of a content, and what is answered, of the content that it is
+asked : {f g : Content} {k : ℕ} → f ≡ g → Real f × (k < length (layout-of f .rows)) → Real g × (k < length (layout-of g .rows))
+asked {f} {g} {k} e h = subst (λ (x : Content). Real x × (k < length (layout-of x .rows))) e h
 
-module _ {f g : Form} {k j : ℕ} (e : f ≡ g) (n : k ≡ j) where
+module _ {f g : Content} {k j : ℕ} (e : f ≡ g) (n : k ≡ j) where
   same-row : placed-row g j ≡ placed-row f k
-  same-row = sym (ap (λ (x : Form). placed-row x k) e ∙ ap (placed-row g) n)
+  same-row = sym (ap (λ (x : Content). placed-row x k) e ∙ ap (placed-row g) n)
 
 returns : tie.Need-returns
-returns c = same-row (c .before .before .form .given .1) (c .if1 .taken)
+returns c = same-row (c .before .before .content .given .1) (c .if1 .taken)
 
 returns-3 : tie.Need-returns-3
 returns-3 c =
     let s = c .before .before .before .before in
-    let e = c .before .before .form .given .1 in
+    let e = c .before .before .content .given .1 in
     let few = asked e (s .pre) .1 in
     let n = c .if1 .left in
     same-row {j = 1} e (omega (arith, n))
 
 returns-4 : tie.Need-returns-4
 returns-4 c =
-    let e = c .before .form2 .given .1 in
+    let e = c .before .content2 .given .1 in
     let few = asked e (c .before .before .before .pre) .1 in
     same-row {j = 0} e (omega arith)
 
@@ -45,9 +45,9 @@ row-spec =
     returns
     (λ c. search needs)
     (λ c. search needs)
-    (λ c κs. asked (c .before .form3 .given .1) (c .before .before .before .pre))
-    (λ c. c .controller-row .ensures ∙ sym (ap (λ (x : Form). placed-row x (c .before .before .before .args .k)) (c .before .enum-told .given .1)))
+    (λ c κs. asked (c .before .content3 .given .1) (c .before .before .before .pre))
+    (λ c. c .controller-row .ensures ∙ sym (ap (λ (x : Content). placed-row x (c .before .before .before .args .k)) (c .before .enum-told .given .1)))
     returns-3
     returns-4
     (λ c. c .notice-row .ensures
-    ∙ sym (ap (λ (x : Form). placed-row x (c .before .before .before .before .args .k)) (c .before .before .form3 .given .1))))
+    ∙ sym (ap (λ (x : Content). placed-row x (c .before .before .before .before .args .k)) (c .before .before .content3 .given .1))))
