@@ -6,7 +6,6 @@ import contextlib
 import glob
 import os
 import re
-import struct
 import subprocess
 import sys
 import tempfile
@@ -14,11 +13,9 @@ import threading
 import time
 from dataclasses import dataclass
 
-import history
 import lent_table
-from history import BYTES, OPEN, SETTINGS, TICK
+from house_records import BYTES, HEAD, OPEN, PAYLOAD_LONGEST, SETTINGS, TICK, record
 
-PAYLOAD_LONGEST = 8192  # a longer one ends replay's run
 BLOCK = 65536
 
 
@@ -120,19 +117,20 @@ class Records:
         for block in self.blocks:
             self.buffer += block
             at = 0
-            while at + 4 <= len(self.buffer):
-                length, kind = struct.unpack_from("<HH", self.buffer, at)
-                if length > PAYLOAD_LONGEST or at + 4 + length > len(self.buffer):
+            while at + HEAD.size <= len(self.buffer):
+                length, kind = HEAD.unpack_from(self.buffer, at)
+                begin, end = at + HEAD.size, at + HEAD.size + length
+                if length > PAYLOAD_LONGEST or end > len(self.buffer):
                     break
-                yield self.size - self.left, kind, self.buffer[at + 4:at + 4 + length]
-                at += 4 + length
-                self.left -= 4 + length
+                yield self.size - self.left, kind, self.buffer[begin:end]
+                self.left -= end - at
+                at = end
             self.buffer = self.buffer[at:]
             if self.is_too_long():
                 return
 
     def is_too_long(self):
-        return len(self.buffer) >= 4 and struct.unpack_from("<H", self.buffer)[0] > PAYLOAD_LONGEST
+        return len(self.buffer) >= HEAD.size and HEAD.unpack_from(self.buffer)[0] > PAYLOAD_LONGEST
 
     def rest(self):
         yield self.buffer
@@ -142,12 +140,12 @@ class Records:
         """Why the run ends, in words; '' where the last record is whole."""
         if not self.left:
             return ""
-        if self.left < 4:
+        if self.left < HEAD.size:
             return "the last record is cut: %s of it" % count(self.left, "byte")
-        length, kind = struct.unpack_from("<HH", self.buffer)
+        length, kind = HEAD.unpack_from(self.buffer)
         if length > PAYLOAD_LONGEST:
             return "a record of %d bytes, longer than %d, ends the run: %s not read" % (length, PAYLOAD_LONGEST, count(self.left, "byte"))
-        return "the last record is cut: kind %d, %d of %d bytes" % (kind, self.left - 4, length)
+        return "the last record is cut: kind %d, %d of %d bytes" % (kind, self.left - HEAD.size, length)
 
 
 @dataclass
@@ -181,7 +179,7 @@ def pieces_of(records):
 # no bytes, with 9 whatever the table holds, and an open of session 15, with 4, or with 2 before a start was done. What is printed
 # for a record has one refusal at most, as its last line; if that is a 9, the 9 of the first mark follows it. So a 9 with a 4 or
 # a 2 behind it is the marks', and nothing else is: what a frame has of spaces is printed as _.
-MARKS = history.record(SETTINGS) + history.record(OPEN + 15)
+MARKS = record(SETTINGS) + record(OPEN + 15)
 PRINTED_MARKS = re.compile(r"R 9\nR [42]\n")
 PRINTED_LONGEST = 65536  # no call writes so much
 
@@ -218,7 +216,7 @@ def feed(journal, pipe):
     try:
         with pipe:
             for piece in pieces_of(records):
-                given += history.record(piece.kind, piece.payload) + MARKS
+                given += record(piece.kind, piece.payload) + MARKS
                 if len(given) >= BLOCK:
                     pipe.write(given)
                     given.clear()

@@ -7,7 +7,7 @@ from functools import partial
 import history
 import lent_table
 import openprotocol
-from history import BYTES, HANG_UP, OPEN, SCANNED, SETTINGS, TICK, TIGHTENING
+from house_records import BYTES, HANG_UP, OPEN, SCANNED, SETTINGS, TICK, TIGHTENING, fields_of, filled
 from ladder_journal import Fault, count
 
 REFUSALS = {
@@ -40,7 +40,6 @@ UNSUBSCRIBES = {"0054": IDENTIFIER, "0063": TIGHTENED}
 ACKNOWLEDGES = {"0053": IDENTIFIER, "0062": TIGHTENED}
 MOST = {IDENTIFIER: 2, TIGHTENED: 8}  # notices of a kind that a session holds, the open one included
 REPEATED, GIVEN_UP = 20, 120  # ticks after the first copy
-SESSIONS = 4
 
 TOOL, CONTROLLER = -2, -1  # the rails; a session's is its number
 
@@ -63,34 +62,30 @@ def verdict(status):
 
 def tool_words(kind, payload, number=None, taken=()):
     """What a tool record says; of one that was done its number too, and who took it."""
-    if kind == SCANNED and len(payload) == 25:
-        words = text_bytes(payload)
-    elif kind == TIGHTENING and len(payload) == history.TIGHTENING_FORM.size:
-        fields = dict(zip(history.NAMES, history.TIGHTENING_FORM.unpack(payload)))
-        own = fields["identifier"]
-        words = "%s%s, %s%s" % ("" if number is None else "%d: " % number, torque(fields["torque"]), verdict(fields["status"]),
-                                ", identifier " + text_bytes(own) if own.strip(b" ") else "")
-    else:
+    fields = fields_of(kind, payload)
+    if not fields:
         words = "of kind %d, %s" % (kind, count(len(payload), "byte"))
+    elif kind == SCANNED:
+        words = text_bytes(payload)
+    else:
+        own = fields["identifier"]
+        words = "%s%s, %s%s" % ("" if number is None else "%d: " % number, torque(fields["torque"]), verdict(fields["tightening_status"]),
+                                ", identifier " + text_bytes(own) if own.strip(b" ") else "")
     if taken or number is not None:
         words += ", taken by " + (" ".join(map(str, taken)) or "none")
     return words
 
 
 def tool_word(kind, payload):
-    if kind == SCANNED and len(payload) == 25:
-        return "identifier"
-    if kind == TIGHTENING and len(payload) == history.TIGHTENING_FORM.size:
-        return "tightening"
-    return "record"
+    return {SCANNED: "identifier", TIGHTENING: "tightening"}[kind] if fields_of(kind, payload) else "record"
 
 
 def start_words(payload):
-    if len(payload) != history.SETTINGS_FORM.size:
+    fields = fields_of(SETTINGS, payload)
+    if not fields:
         return "settings of %s" % count(len(payload), "byte")
-    cell, channel, granted, name, last = history.SETTINGS_FORM.unpack(payload)
     return "cell %d, channel %d, %s, identifier over the net %sgranted, last number %d" % (
-        cell, channel, text_bytes(name), "" if granted else "not ", last)
+        fields["cell"], fields["channel"], text_bytes(fields["name"]), "" if fields["granted"] else "not ", fields["last"])
 
 
 def run_words(run, closes):
@@ -159,9 +154,13 @@ class Notice:
         return frame_words(self.frame)
 
     def fits(self, frame):
+        """Whether that frame tells of the event; of a revision that openprotocol has no layout for it is taken to."""
+        layout = openprotocol.LAYOUTS.get((int(self.kind), int(frame[8:11])))
+        if not layout:
+            return True
         if self.kind == TIGHTENED:
-            return frame[-10:] == "%010d" % self.event
-        return frame[22:47] == self.event.replace(b" ", b"_").decode("latin-1")
+            return int(frame[layout.places["number"]]) == self.event
+        return frame[layout.places["identifier"]] == self.event.replace(b" ", b"_").decode("latin-1")
 
     def lost_words(self, when):
         """How it was lost: a notice that is dropped goes out no more."""
@@ -181,7 +180,7 @@ class Books:
     where the two differ nothing is drawn."""
 
     def __init__(self):
-        self.subscriptions = [{} for _ in range(SESSIONS)]
+        self.subscriptions = [{} for _ in range(lent_table.SESSIONS)]
         self.sent = 0
 
     def held(self):
@@ -449,7 +448,7 @@ class Ladder:
             self.add(CONTROLLER, CONTROLLER, "start", partial(start_words, payload), source)
             for session in sorted(self.open):
                 self.end_session(session, "when the controller was started anew")
-            self.last = history.SETTINGS_FORM.unpack(payload)[-1]
+            self.last = fields_of(SETTINGS, payload)["last"]
         elif OPEN <= kind < HANG_UP:
             self.add_open(kind - OPEN, source)
             self.open |= {kind - OPEN}
@@ -538,7 +537,7 @@ class Ladder:
         elif mid == "0003":
             self.lose_all(session, self.books.drop(session), "when the server stopped")
         elif mid == "0050":
-            self.lose_replaced(self.books.tell(IDENTIFIER, history.filled(self.message.head[20:]))[2])
+            self.lose_replaced(self.books.tell(IDENTIFIER, filled(self.message.head[20:]))[2])
 
     def take_notice(self, session, frame, line):
         notice = self.books.send(session, frame, self.second)

@@ -3,6 +3,8 @@ Python reads it by this."""
 
 from dataclasses import dataclass
 
+from house_records import PAYLOADS, SCANNED, TIGHTENING
+
 MARK = b"SERIFLAD"
 LAST = slice(8, 12)  # the last tightening number, in what is shared
 PART = 1024  # bytes, of what is shared and of each session's region
@@ -13,9 +15,9 @@ CLOSED, OPENED, STARTED = range(3)  # phases
 RUN_COUNT, RUN = slice(8, 10), slice(10, 55)  # the bytes that were received, and the first of them
 
 NOT, PLAIN, ACKNOWLEDGED = range(3)  # forms of a subscription
-LANES = IDENTIFIERS, TIGHTENINGS = (56, 25), (128, 110)  # where a lane begins, and the bytes of a place in it
 CONTROL = 16  # bytes of a lane before its places
-NUMBER = slice(106, 110)  # a result's, in its place
+NUMBER = slice(PAYLOADS[TIGHTENING].size, PAYLOADS[TIGHTENING].size + 4)  # a result's, in its place, behind the payload
+LANES = IDENTIFIERS, TIGHTENINGS = (56, PAYLOADS[SCANNED].size), (128, NUMBER.stop)  # where a lane begins, and the bytes of a place in it
 
 
 def little(data):

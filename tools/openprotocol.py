@@ -1,11 +1,14 @@
-"""The line server's side of Open Protocol, as far as the controller speaks it: messages are built, a stream is cut
-at its NULs, and the controller's frames are read into named fields.
+"""Open Protocol, as far as the controller speaks it: messages are built, a stream is cut at its NULs, and the controller's frames are
+read into named fields, or written of them, by layouts.
 
     message(60)                        0060, revision 1, as bytes with their NUL
     Stream().take(received)            the runs that are whole by now
-    read(run)                          a Frame: mid, revision, byte_12, fields"""
+    read(run)                          a Frame: mid, revision, byte_12, fields
+    write(5, {"mid": 60})              a run that the controller sends"""
 
-import dataclasses
+from dataclasses import dataclass
+
+from house_records import NUMBER, TEXT, TEXT_SIZE, TIME_SIZE, filled
 
 HEADER = 20
 
@@ -30,9 +33,9 @@ ERRORS = {
 }
 
 
-def message(mid, revision=1, byte_12=b" ", data=b"", rest=b"        "):
+def message(mid, revision=b"001", byte_12=b" ", rest=b"        ", data=b""):
     """A message with its NUL; `rest` are bytes 13 to 20, which the controller does not read."""
-    return b"%04d%04d%03d" % (HEADER + len(data), mid, revision) + byte_12 + rest + data + b"\0"
+    return b"%04d%04d" % (HEADER + len(data), mid) + revision + byte_12 + rest + data + b"\0"
 
 
 class Stream:
@@ -47,73 +50,108 @@ class Stream:
         return runs
 
 
-# ---- layouts: name, width and sort of each field
+# ---- layouts: rows, and whether a field's number stands before each
 
-def number(name, width):
-    return name, width, int
-
-
-def text(name, width):
-    return name, width, lambda value: value.decode("ascii").rstrip(" ")
+SPACES = "spaces"  # a row that has no value; the others are numbers and texts
 
 
-CONTROLLER = [number("cell", 4), number("channel", 2), text("name", 25)]
-RESULT_FIELDS = CONTROLLER + [
-    text("identifier", 25),
-    number("job", 2),
-    number("parameter_set", 3),
-    number("batch_size", 4),
-    number("batch_counter", 4),
-    number("tightening_status", 1),
-    number("torque_status", 1),
-    number("angle_status", 1),
-    number("torque_min", 6),
-    number("torque_max", 6),
-    number("torque_target", 6),
-    number("torque", 6),
-    number("angle_min", 5),
-    number("angle_max", 5),
-    number("angle_target", 5),
-    number("angle", 5),
-    text("time", 19),
-    text("change_time", 19),
-    number("batch_status", 1),
-    number("number", 10),
-]
-IDENTIFIER_FIELDS = [text("identifier", 25), text("part_2", 25), text("part_3", 25), text("part_4", 25)]
+@dataclass(frozen=True)
+class Row:
+    sort: str
+    width: int
+    name: str  # of the field whose value it shows: what a house record has is called the same there
 
-# By message number and revision: do the fields have their own numbers before them, and which are they?
+    def write(self, fields):
+        if self.sort == NUMBER:
+            return b"%0*d" % (self.width, fields[self.name])
+        return filled(fields[self.name] if self.sort == TEXT else b"", self.width)
+
+    def read(self, value):
+        return int(value) if self.sort == NUMBER else value.decode("ascii").rstrip(" ")
+
+
+NUMBERED, PLAIN = True, False
+
+
+class Layout:
+    """Of a frame: `places` are where the fields stand in it, `befores` what stands before them."""
+
+    def __init__(self, numbered, *rows):
+        self.rows, self.places, self.length = rows, {}, HEADER
+        self.befores = [b"%02d" % i if numbered else b"" for i in range(1, len(rows) + 1)]
+        for row, before in zip(rows, self.befores):
+            begin = self.length + len(before)
+            self.length = begin + row.width
+            self.places[row.name] = slice(begin, self.length)
+
+    def write(self, fields):
+        """The data field."""
+        return b"".join(before + row.write(fields) for row, before in zip(self.rows, self.befores))
+
+    def read(self, run):
+        """The fields of a frame; ValueError says what is wrong with it."""
+        if len(run) != self.length:
+            raise ValueError("%d bytes of data, not %d" % (len(run) - HEADER, self.length - HEADER))
+        for row, before in zip(self.rows, self.befores):
+            if not run[:self.places[row.name].start].endswith(before):
+                raise ValueError("no %s before %s" % (before.decode(), row.name))
+        return {row.name: row.read(run[self.places[row.name]]) for row in self.rows}
+
+
+CONTROLLER = [Row(NUMBER, 4, "cell"), Row(NUMBER, 2, "channel"), Row(TEXT, TEXT_SIZE, "name")]
+
+# By message number and revision.
 LAYOUTS = {
-    (STARTED, 1): (True, CONTROLLER),
-    (REFUSED, 1): (False, [number("mid", 4), number("error", 2)]),
-    (ACCEPTED, 1): (False, [number("mid", 4)]),
-    (IDENTIFIER, 1): (True, IDENTIFIER_FIELDS[:1]),
-    (IDENTIFIER, 2): (True, IDENTIFIER_FIELDS),
-    (RESULT, 1): (True, RESULT_FIELDS),
-    (KEEP_ALIVE, 1): (False, []),
+    (STARTED, 1): Layout(NUMBERED, *CONTROLLER),
+    (REFUSED, 1): Layout(PLAIN, Row(NUMBER, 4, "mid"), Row(NUMBER, 2, "error")),
+    (ACCEPTED, 1): Layout(PLAIN, Row(NUMBER, 4, "mid")),
+    (IDENTIFIER, 1): Layout(NUMBERED, Row(TEXT, TEXT_SIZE, "identifier")),
+    (IDENTIFIER, 2): Layout(
+        NUMBERED,
+        Row(TEXT, TEXT_SIZE, "identifier"),
+        Row(SPACES, TEXT_SIZE, "part_2"),
+        Row(SPACES, TEXT_SIZE, "part_3"),
+        Row(SPACES, TEXT_SIZE, "part_4"),
+    ),
+    (RESULT, 1): Layout(
+        NUMBERED,
+        *CONTROLLER,
+        Row(TEXT, TEXT_SIZE, "identifier"),
+        Row(NUMBER, 2, "job"),
+        Row(NUMBER, 3, "parameter_set"),
+        Row(NUMBER, 4, "batch_size"),
+        Row(NUMBER, 4, "batch_counter"),
+        Row(NUMBER, 1, "tightening_status"),
+        Row(NUMBER, 1, "torque_status"),
+        Row(NUMBER, 1, "angle_status"),
+        Row(NUMBER, 6, "torque_min"),
+        Row(NUMBER, 6, "torque_max"),
+        Row(NUMBER, 6, "torque_target"),
+        Row(NUMBER, 6, "torque"),
+        Row(NUMBER, 5, "angle_min"),
+        Row(NUMBER, 5, "angle_max"),
+        Row(NUMBER, 5, "angle_target"),
+        Row(NUMBER, 5, "angle"),
+        Row(TEXT, TIME_SIZE, "time"),
+        Row(TEXT, TIME_SIZE, "change_time"),
+        Row(NUMBER, 1, "batch_status"),
+        Row(NUMBER, 10, "number"),
+    ),
+    (KEEP_ALIVE, 1): Layout(PLAIN),
 }
 
 
-@dataclasses.dataclass
+def longest(mid):
+    """The bytes of the longest frame of that number."""
+    return max(layout.length for (number, _), layout in LAYOUTS.items() if number == mid)
+
+
+@dataclass
 class Frame:
     mid: int
     revision: int
     byte_12: bytes
     fields: dict
-
-
-def read_fields(data, numbered, layout):
-    fields, at = {}, 0
-    for i, (name, width, value) in enumerate(layout, 1):
-        if numbered:
-            if data[at:at + 2] != b"%02d" % i:
-                raise ValueError("field %02d (%s) begins with %r" % (i, name, data[at:at + 2]))
-            at += 2
-        fields[name] = value(data[at:at + width])
-        at += width
-    if at != len(data):
-        raise ValueError("%d bytes of data, not %d" % (len(data), at))
-    return fields
 
 
 def read(run):
@@ -124,6 +162,11 @@ def read(run):
             raise ValueError("its length is %d" % len(run))
         if (mid, revision) not in LAYOUTS:
             raise ValueError("no such message here")
-        return Frame(mid, revision, run[11:12], read_fields(run[HEADER:], *LAYOUTS[mid, revision]))
+        return Frame(mid, revision, run[11:12], LAYOUTS[mid, revision].read(run))
     except ValueError as wrong:
         raise ValueError("not a frame of the controller: %r: %s" % (run, wrong)) from None
+
+
+def write(mid, fields, revision=1, byte_12=b" "):
+    """The run of a frame with these fields, of which its layout takes what it has."""
+    return message(mid, b"%03d" % revision, byte_12, data=LAYOUTS[mid, revision].write(fields))[:-1]

@@ -18,16 +18,15 @@ HERE = os.path.dirname(os.path.abspath(__file__))
 sys.path.insert(0, os.path.join(HERE, "..", "compare"))
 
 import compare  # noqa: E402
+from house_records import PAYLOAD_LONGEST, record, split  # noqa: E402
 
 SEEDS = 200
-PAYLOAD_LONGEST = 8192
 
 
 def whole_records(seed):
     """A history without what would end the run."""
-    records, _ = compare.history.split(compare.generate.generate(seed, 500))
-    return b"".join(compare.history.record(kind, payload) for kind, payload in records
-                    if len(payload) <= PAYLOAD_LONGEST)
+    records, _ = split(compare.generate.generate(seed, 500))
+    return b"".join(record(kind, payload) for kind, payload in records if len(payload) <= PAYLOAD_LONGEST)
 
 
 def make_input(path, size):

@@ -22,18 +22,20 @@ import time
 
 HERE = os.path.dirname(os.path.abspath(__file__))
 BUILD = os.path.join(HERE, "..", "..", "target", "tests")
-sys.path.insert(0, os.path.join(HERE, "..", "histories"))
-sys.path.insert(0, os.path.join(HERE, "..", "vectors"))
+sys.path[:0] = [os.path.join(HERE, "..", *names) for names in (("histories",), ("vectors",), ("..", "tools"))]
 
 import generate  # noqa: E402
 import history  # noqa: E402
 import run as vectors  # noqa: E402
+from house_records import HEAD, record, split  # noqa: E402
+from openprotocol import ACCEPTED, IDENTIFIER, RESULT, longest  # noqa: E402
 
 SECONDS = 60  # more than any history needs
 EQUAL, DIFFERENT, BROKEN = "equal", "different", "broken"
 
-# The fullest outputs that the rules allow: 0005 and four 0052 of revision 2; two notices to each session; four 0061.
-FULLEST = {"received bytes": 561, "tick": 1476, "tool record": 944}
+# The fullest outputs that the rules allow: so many of the longest frames of these numbers, each with its NUL, in a record each.
+FULLEST = {what: sum(HEAD.size + longest(mid) + 1 for mid in mids) for what, mids in {
+    "received bytes": [ACCEPTED] + 4 * [IDENTIFIER], "tick": 4 * [IDENTIFIER, RESULT], "tool record": 4 * [RESULT]}.items()}
 
 
 def run(command, data):
@@ -117,8 +119,8 @@ def all_in_one(pair, seeds, records, progress):
 
 def pieces(data):
     """The records of a history as bytes, with what is left behind the last whole one."""
-    records, tail = history.split(data)
-    parts = [history.record(kind, payload) for kind, payload in records]
+    records, tail = split(data)
+    parts = [record(kind, payload) for kind, payload in records]
     return parts + ([tail] if tail else [])
 
 

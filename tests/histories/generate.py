@@ -12,14 +12,17 @@ may be wrong. The same seed always gives the same history.
 --framed writes those of COUNT seeds, SEED and on, as the programs of tests/compare read them."""
 
 import argparse
+import os
 import random
 import struct
 import sys
 
-TIGHTENING, SCANNED, SETTINGS = 1, 2, 3
-OPEN, HANG_UP, BYTES, TICK = 16, 32, 48, 64
-GREATEST_NUMBER = 4294967295
-GREATEST_PAYLOAD = 8192
+sys.path.insert(0, os.path.join(os.path.dirname(os.path.abspath(__file__)), "..", "..", "tools"))
+
+from house_records import (BYTES, GREATEST_NUMBER, HANG_UP, NUMBER, OPEN, PAYLOAD_LONGEST, PAYLOADS, SCANNED, SETTINGS,  # noqa: E402
+                           TEXT, TICK, TIGHTENING, record)
+from openprotocol import message  # noqa: E402
+
 LONG_EVERY = 25  # of as many seeds one gives a history three times as long, in which a whole queue is given up
 
 KNOWN = (1, 3, 50, 51, 53, 54, 60, 62, 63, 9999)
@@ -31,18 +34,7 @@ GOOD_REVISIONS = (b"001", b"001", b"000", b"   ")
 BAD_REVISIONS = (b"0  ", b"  1", b"00 ", b" 01", b"1  ", b"0 1", b"00a", b"/00", b"00:", b"-01",
                  b"\xb0\xb01", b"  \x1f")
 NO_DIGITS = (0x20, 0x2F, 0x3A, 0x3B, 0x3C, 0x3D, 0x3E, 0x3F, 0x2B, 0x2D, 0x41, 0xB0, 0x1F)
-TICK_RECORD = struct.pack("<HH", 0, TICK)
-
-
-def record(kind, payload=b""):
-    return struct.pack("<HH", len(payload), kind) + payload
-
-
-def message(mid, revision=b"001", twelve=b" ", rest=b"        ", data=b"", length=None):
-    """The bytes of a message with its NUL; `length` only where the digits shall lie."""
-    if length is None:
-        length = 20 + len(data)
-    return b"%04d%04d" % (length, mid) + revision + twelve + rest + data + b"\0"
+TICK_RECORD = record(TICK)
 
 
 class Session:
@@ -116,7 +108,7 @@ class History:
         if s < 4:
             self.sessions[s] = Session()
 
-    def settings(self, last=None, granted=None):
+    def settings_fields(self, last=None, granted=None):
         if last is None:
             last = self.pick((0, 0, 7, 99, 65535, 345674, 9999999, GREATEST_NUMBER - 200,
                               self.between(0, GREATEST_NUMBER)))
@@ -124,7 +116,10 @@ class History:
             granted = 0 if self.chance(0.15) else 1
         cell = self.pick((0, 1, 12, 999, 1000, 9998, 9999))
         channel = self.pick((0, 1, 9, 10, 98, 99))
-        return struct.pack("<HBB25sI", cell, channel, granted, self.text(), last)
+        return {"cell": cell, "channel": channel, "granted": granted, "name": self.text(), "last": last}
+
+    def settings(self, last=None, granted=None):
+        return PAYLOADS[SETTINGS].pack(self.settings_fields(last, granted))
 
     def start(self, last=None, granted=None):
         self.put(SETTINGS, self.settings(last, granted))
@@ -154,19 +149,21 @@ class History:
             return self.pick((0, 1, 9, 10, greatest // 10, greatest - 1, greatest))
         return self.between(0, greatest)
 
-    def tightening_fields(self):
-        number = self.number
-        identifier = b" " * 25 if self.chance(0.5) else self.text()
-        return [identifier, number(99), number(999), number(9999), number(9999), self.between(0, 1),
-                self.between(0, 2), self.between(0, 2)] \
-            + [number(999999) for _ in range(4)] + [number(99999) for _ in range(4)] \
-            + [self.time(), self.time(), self.between(0, 2)]
+    def value(self, item):
+        if item.sort == TEXT:
+            return b"" if self.chance(0.5) else self.text()
+        if item.sort == NUMBER:
+            return self.number(item.greatest) if item.greatest > 9 else self.between(0, item.greatest)
+        return self.time()
 
-    def tightening_payload(self, fields):
-        return struct.pack("<25sBHHHBBB4I4I19s19sB", *fields)
+    def tightening_fields(self):
+        return {name: self.value(item) for name, item in PAYLOADS[TIGHTENING].items.items()}
+
+    def tightening_payload(self):
+        return PAYLOADS[TIGHTENING].pack(self.tightening_fields())
 
     def tightening(self):
-        self.put(TIGHTENING, self.tightening_payload(self.tightening_fields()))
+        self.put(TIGHTENING, self.tightening_payload())
 
     def scan(self):
         self.put(SCANNED, self.text())
@@ -204,8 +201,8 @@ class History:
     def flush(self, s):
         pending = self.sessions[s].pending
         while pending:
-            self.put(BYTES + s, bytes(pending[:GREATEST_PAYLOAD]))
-            del pending[:GREATEST_PAYLOAD]
+            self.put(BYTES + s, bytes(pending[:PAYLOAD_LONGEST]))
+            del pending[:PAYLOAD_LONGEST]
 
     def flush_all(self):
         """Now and then a part stays behind, so that ticks fall into the middle of a run."""
@@ -334,40 +331,30 @@ class History:
 
     # ---- bad records
 
-    def bad_tightening(self):
-        """One field out of its range by one, or a wrong byte in a text or a time."""
-        fields = self.tightening_fields()
-        limits = {1: 100, 2: 1000, 3: 10000, 4: 10000, 5: 2, 6: 3, 7: 3, 18: 3}
-        limits.update({place: 1000000 for place in range(8, 12)})
-        limits.update({place: 100000 for place in range(12, 16)})
-        place = self.between(0, 18)
-        if place in limits:
-            top = 255 if place in (1, 5, 6, 7, 18) else 65535 if place in (2, 3, 4) else GREATEST_NUMBER
-            fields[place] = self.pick((limits[place], limits[place], top))
+    def bad_value(self, item, value):
+        """A number out of its range, mostly by one, or a wrong byte in a text or a time."""
+        if item.sort == NUMBER:
+            return self.pick((item.greatest + 1, item.greatest + 1, (1 << 8 * item.size) - 1))
+        text = bytearray(item.packed(value))
+        where = self.between(0, item.size - 1)
+        if item.sort == TEXT:
+            text[where] = self.pick((0x1F, 0x7F, 0, 0x80, 0xFF))
         else:
-            text = bytearray(fields[place])
-            where = self.between(0, len(text) - 1)
-            if place == 0:
-                text[where] = self.pick((0x1F, 0x7F, 0, 0x80, 0xFF))
-            else:
-                text[where] = self.pick((0x2F, 0x3A, 0x2D, 0x30, 0x20, 0x39, 0x2C, 0x2E, self.between(0, 255)))
-            fields[place] = bytes(text)
-        return self.tightening_payload(fields)
+            text[where] = self.pick((0x2F, 0x3A, 0x2D, 0x30, 0x20, 0x39, 0x2C, 0x2E, self.between(0, 255)))
+        return bytes(text)
+
+    def bad_payload(self, kind, fields):
+        """With one of the fields bad, or of another size where that is the last number of the settings, which can't be bad."""
+        name = self.pick(list(fields))
+        if name == "last":
+            return self.wrong_size(PAYLOADS[kind].pack(fields))
+        return PAYLOADS[kind].pack({**fields, name: self.bad_value(PAYLOADS[kind].items[name], fields[name])})
+
+    def bad_tightening(self):
+        return self.bad_payload(TIGHTENING, self.tightening_fields())
 
     def bad_settings(self):
-        payload = bytearray(self.settings())
-        sort = self.between(0, 4)
-        if sort == 0:
-            payload[0:2] = struct.pack("<H", self.pick((10000, 65535, 10001)))
-        elif sort == 1:
-            payload[2] = self.pick((100, 255))
-        elif sort == 2:
-            payload[3] = self.pick((2, 255, 0x30, 0x31))
-        elif sort == 3:
-            payload[4 + self.between(0, 24)] = self.pick((0x1F, 0x7F, 0, 0x80))
-        else:
-            payload = self.wrong_size(payload)
-        return bytes(payload)
+        return self.bad_payload(SETTINGS, self.settings_fields())
 
     def wrong_size(self, payload):
         """One byte too few or too many, or so many that only the upper byte of the length is another."""
@@ -382,20 +369,17 @@ class History:
         elif sort == 4:
             self.put(SETTINGS, self.bad_settings())
         elif sort == 5:
-            text = bytearray(self.text())
-            text[self.between(0, 24)] = self.pick((0x1F, 0x7F, 0, 0x80, 0xFF))
-            self.put(SCANNED, bytes(text))
+            self.put(SCANNED, self.bad_value(PAYLOADS[SCANNED].items["identifier"], self.text()))
         elif sort == 6:
-            payload = self.tightening_payload(self.tightening_fields())
+            payload = self.tightening_payload()
             self.put(self.pick((TIGHTENING, SCANNED, SETTINGS)),
                      self.wrong_size(self.pick((payload, self.text(), self.settings()))))
         elif sort == 7:  # a kind that no call takes, with a good payload of another
             kind = self.pick((0, 4, 5, 15, 65, 80, 255, 256, 257, 512, 769, 65535, 258, 259))
-            self.put(kind, self.pick((b"", self.text(), self.settings(),
-                                      self.tightening_payload(self.tightening_fields()))))
+            self.put(kind, self.pick((b"", self.text(), self.settings(), self.tightening_payload())))
         elif sort == 8:  # a good payload under another kind's number
             self.put(TIGHTENING, self.text())
-            self.put(SCANNED, self.tightening_payload(self.tightening_fields()))
+            self.put(SCANNED, self.tightening_payload())
         else:  # sessions that there are not
             s = self.between(4, 15)
             self.put(self.pick((OPEN, HANG_UP, BYTES)) + s, self.pick((b"", b"00200001")))
@@ -627,7 +611,7 @@ class History:
     def send_long(self, s, data):
         at = 0
         while at < len(data):
-            size = self.pick((GREATEST_PAYLOAD, GREATEST_PAYLOAD, 8191, 8000))
+            size = self.pick((PAYLOAD_LONGEST, PAYLOAD_LONGEST, 8191, 8000))
             self.put(BYTES + s, data[at:at + size])
             at += size
 
@@ -761,7 +745,7 @@ class History:
             elif sort < 0.75:
                 self.put(TIGHTENING, self.bad_tightening())
             elif sort < 0.85:
-                self.put(TIGHTENING, self.wrong_size(self.tightening_payload(self.tightening_fields())))
+                self.put(TIGHTENING, self.wrong_size(self.tightening_payload()))
             elif sort < 0.95:
                 self.event()
             else:
@@ -799,7 +783,7 @@ class History:
         if ending < 0.03:  # a cut record, or a payload over 8,192 bytes, ends the run
             self.records[-1] = self.records[-1][:-1]
         elif ending < 0.06:
-            self.records[-1] = struct.pack("<HH", GREATEST_PAYLOAD + 1, BYTES) + b"x" * 8193 + TICK_RECORD
+            self.records[-1] = record(BYTES, b"x" * (PAYLOAD_LONGEST + 1)) + TICK_RECORD
         return b"".join(self.records)
 
 

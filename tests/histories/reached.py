@@ -8,19 +8,13 @@ program, which is given a hang-up of session 15 behind each record: 'R 4' ends i
 
 import argparse
 import collections
-import os
 import re
 import subprocess
-import sys
 
-HERE = os.path.dirname(os.path.abspath(__file__))
-sys.path.insert(0, os.path.join(HERE, "..", "vectors"))
+import generate  # which puts tools on the path
+from house_records import BYTES, HANG_UP, OPEN, PAYLOADS, TICK, record, split
 
-import generate  # noqa: E402
-import history  # noqa: E402
-
-SIZES = {history.TIGHTENING: history.TIGHTENING_FORM.size, history.SCANNED: 25, history.SETTINGS: history.SETTINGS_FORM.size}
-MARKER = history.record(history.HANG_UP + 15)
+MARKER = record(HANG_UP + 15)
 NO_DIGITS = b"/:;<=>?"
 GIVEN_UP_WHOLE = 7  # of eight held seven are sent when the one before them is given up, within 840 ticks
 
@@ -53,13 +47,13 @@ class Reached:
     def records(self, records):
         sent = collections.defaultdict(bytes)
         for kind, payload in records:
-            if history.BYTES <= kind < history.BYTES + 4:
+            if BYTES <= kind < BYTES + 4:
                 *runs, sent[kind] = (sent[kind] + payload).split(b"\0")
                 for run in runs:
                     self.run(run)
-            elif history.OPEN <= kind < history.BYTES:
-                sent[history.BYTES + kind % 16] = b""
-            elif kind in SIZES and len(payload) > SIZES[kind] and (len(payload) - SIZES[kind]) % 256 == 0:
+            elif OPEN <= kind < BYTES:
+                sent[BYTES + kind % 16] = b""
+            elif kind in PAYLOADS and len(payload) > PAYLOADS[kind].size and (len(payload) - PAYLOADS[kind].size) % 256 == 0:
                 self.times["a record whose length is wrong in its upper byte only"] += 1
 
     def given_up(self, groups):
@@ -71,7 +65,7 @@ class Reached:
                 if not found:
                     continue
                 queue = found.groups()
-                if kind != history.TICK:
+                if kind != TICK:
                     in_a_row[queue] = 0
                 elif newest.get(queue) != line:
                     in_a_row[queue] += 1
@@ -85,7 +79,7 @@ class Reached:
 def groups_of(program, records):
     """Each record's kind with its lines. Records to sessions that there are not are left out: they print what the marker does."""
     records = [(kind, payload) for kind, payload in records if not (16 <= kind < 64 and kind % 16 > 3)]
-    data = b"".join(history.record(kind, payload) + MARKER for kind, payload in records)
+    data = b"".join(record(kind, payload) + MARKER for kind, payload in records)
     done = subprocess.run([program], input=data, capture_output=True, timeout=60, check=True)
     texts = done.stdout.decode("latin-1").split("R 4\n")
     return zip((kind for kind, _ in records), (text.split("\n") for text in texts))
@@ -101,7 +95,7 @@ def main():
     for seed in range(options.first_seed, options.first_seed + options.count):
         made = generate.History(seed, 500)
         made.before_start = lambda: None  # before a start the marker prints R 2
-        records, _ = history.split(made.make())
+        records, _ = split(made.make())
         reached.records(records)
         reached.given_up(groups_of(options.program, records))
     for what, values in sorted(reached.seen.items()):

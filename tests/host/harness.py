@@ -22,17 +22,16 @@ import time
 
 HERE = os.path.dirname(os.path.abspath(__file__))
 ROOT = os.path.join(HERE, "..", "..")
-sys.path[:0] = [os.path.join(ROOT, "tools"), os.path.join(HERE, "..", "vectors"), os.path.join(HERE, "..", "histories")]
+sys.path[:0] = [os.path.join(ROOT, "tools"), os.path.join(HERE, "..", "histories")]
 
-import history  # noqa: E402
 import lent_table  # noqa: E402, F401
 import openprotocol  # noqa: E402
-from history import BYTES, HANG_UP, OPEN, SCANNED, SETTINGS, TICK, TIGHTENING, record  # noqa: E402, F401
+from house_records import (BYTES, GREATEST_NUMBER, HANG_UP, OPEN, PAYLOADS, SCANNED, SETTINGS, TICK, TIGHTENING,  # noqa: E402, F401
+                           fields_of, record, record_of, split)
 from openprotocol import message  # noqa: E402
 
 SECONDS = 30
 SESSIONS = 4
-GREATEST_NUMBER = 4294967295
 FILE_GREATEST = 64 << 20  # bytes of a file that a host writes; more where more results are asked for (see run.py)
 NO_TICKS = 1000000  # milliseconds: no tick comes while a test runs
 FAST_TICK = 0.04  # seconds; longer where the host is slow, as under an emulator (see run.py)
@@ -104,33 +103,20 @@ def wait(condition, what):
 
 # ---- records of the tool
 
-# A tightening record's fields are those of a result between the controller's own and the number.
-TIGHTENING_FIELDS = [name for name, _, _ in openprotocol.RESULT_FIELDS[len(openprotocol.CONTROLLER):-1]]
-
-
 def tightening_fields(i, **named):
-    """The i-th tightening: no two are alike, and every field has a value of its own."""
-    fields = dict(
-        identifier="BODY-%07d" % i, job=i % 100, parameter_set=(i + 7) % 1000, batch_size=(i + 11) % 10000,
-        batch_counter=(i + 13) % 10000, tightening_status=i % 2, torque_status=i % 3, angle_status=(i + 1) % 3,
-        torque_min=(i + 100001) % 1000000, torque_max=(i + 200002) % 1000000, torque_target=(i + 300003) % 1000000,
-        torque=(i + 400004) % 1000000, angle_min=(i + 10001) % 100000, angle_max=(i + 20002) % 100000,
-        angle_target=(i + 30003) % 100000, angle=(i + 40004) % 100000,
-        time="2026-01-%02d:%02d:%02d:%02d" % (i % 28 + 1, i // 3600 % 24, i // 60 % 60, i % 60),
-        change_time="2025-12-31:23:59:%02d" % (i % 60), batch_status=(i + 2) % 3)
-    fields.update(named)
-    return fields
+    """The i-th tightening: no two are alike, and fields of one range differ."""
+    fields = {name: (i + 10006 * place) % (item.greatest + 1) for place, (name, item) in enumerate(PAYLOADS[TIGHTENING].items.items())}
+    fields.update(identifier="BODY-%07d" % i, time="2026-01-%02d:%02d:%02d:%02d" % (i % 28 + 1, i // 3600 % 24, i // 60 % 60, i % 60),
+                  change_time="2025-12-31:23:59:%02d" % (i % 60), batch_status=(i + 2) % 3)
+    return {**fields, **named}
 
 
 def tightening_record(fields):
-    values = [fields[name] for name in TIGHTENING_FIELDS]
-    values[0] = "%-25s" % values[0]
-    values = [value.encode("ascii") if isinstance(value, str) else value for value in values]
-    return record(TIGHTENING, history.TIGHTENING_FORM.pack(*values))
+    return record_of(TIGHTENING, **fields)
 
 
 def identifier_record(identifier):
-    return record(SCANNED, b"%-25s" % identifier.encode("ascii"))
+    return record_of(SCANNED, identifier=identifier)
 
 
 WITH_SERIAL = 4
@@ -516,7 +502,7 @@ class Place:
 
     def journaled(self):
         """The journal's whole records, as (kind, payload)."""
-        return history.split(self.journal_bytes())[0]
+        return split(self.journal_bytes())[0]
 
     def ticks(self):
         return sum(kind == TICK for kind, _ in self.journaled())
@@ -535,7 +521,7 @@ class Place:
 
     def replayed(self):
         """What replay prints of the journal: an Opening for each open record, and the refusals."""
-        records, rest = history.split(self.journal_bytes())
+        records, rest = split(self.journal_bytes())
         equal(rest, b"", "bytes behind the journal's last whole record")
         # An open of a session that is none is refused with 4 and alters nothing: it marks each opening in what is printed.
         marked = b"".join((MARK if OPEN <= kind < OPEN + SESSIONS else b"") + record(kind, payload) for kind, payload in records)

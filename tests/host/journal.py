@@ -10,8 +10,8 @@ import socket
 import time
 
 import generate
-from harness import (BYTES, HANG_UP, OPEN, SCANNED, SETTINGS, TICK, TIGHTENING, InTime, check, content, equal, history, identifier_record,
-                     in_memory, openprotocol, record, test, tightening_fields, tightening_record)
+from harness import (BYTES, HANG_UP, OPEN, SCANNED, SETTINGS, TICK, TIGHTENING, InTime, check, content, equal, identifier_record,
+                     in_memory, openprotocol, record, split, test, tightening_fields, tightening_record)
 
 TICK_SECONDS = 0.03
 
@@ -63,7 +63,7 @@ class Play:
         mid = self.source.choice([1, 50, 51, 51, 53, 53, 60, 60, 60, 62, 62, 62, 62, 54, 63, 9999, 9999, 1234])
         data = b"NET" if mid == 50 else b""
         with contextlib.suppress(ConnectionError):
-            server.tell(mid, revision=self.source.choice([1, 1, 1, 2]), byte_12=self.source.choice([b" ", b" ", b"1"]), data=data)
+            server.tell(mid, revision=b"00%c" % self.source.choice(b"1112"), byte_12=b"%c" % self.source.choice(b"  1"), data=data)
 
     def fall_silent(self):
         """One of them says nothing more until the host closes it, while the others speak on."""
@@ -169,7 +169,7 @@ class Generated:
         self.now = {}  # by the history's session; which session the host gives is its own affair
         self.servers = []
         self.refusals = []
-        for kind, payload in history.split(generate.generate(seed, records))[0]:
+        for kind, payload in split(generate.generate(seed, records))[0]:
             self.happen(kind, payload.replace(b"\n", b" "))  # a line is a frame in what replay prints
         self.tool.close()
         place.finish(self.host, self.servers, self.refusals)
@@ -237,7 +237,7 @@ def the_journal_in_parts(place):
     check(len(parts) > 4, "only %d parts: this shows too little", len(parts))
     for i, path in enumerate(parts):
         written = content(path)
-        records, rest = history.split(written)
+        records, rest = split(written)
         equal(rest, b"", "bytes behind the last whole record of part %d" % i)
         equal([k for k, (kind, _) in enumerate(records) if kind == SETTINGS], [0] if i == 0 else [], "start records of part %d" % i)
         if path != place.journal:
@@ -246,7 +246,7 @@ def the_journal_in_parts(place):
     play.run(100)
     check(place.journal_bytes().startswith(kept), "the second run has altered what the first had journaled")
     equal(len(place.journal_parts()), len(parts), "parts with the second run's")
-    equal(history.split(place.journal_bytes()[len(kept):])[0][0][0], SETTINGS, "the kind of the first record of the second run")
+    equal(split(place.journal_bytes()[len(kept):])[0][0][0], SETTINGS, "the kind of the first record of the second run")
 
 
 @test
@@ -305,7 +305,7 @@ def a_file_that_is_no_journal(place):
         if cut:
             equal(content(aside + ".cut"), other, "what was cut off")
             os.remove(aside)
-        equal([kind for kind, _ in history.split(content(place.journal))[0]], [SETTINGS], "kinds of records in the new journal")
+        equal([kind for kind, _ in split(content(place.journal))[0]], [SETTINGS], "kinds of records in the new journal")
         os.remove(place.journal)
     equal(place.host().end(), 0, "status of a further run")
     equal([os.path.basename(path) for path in place.journal_parts()], ["journal.1", "journal"], "files")

@@ -11,7 +11,7 @@ import subprocess
 import zlib
 
 import tracing
-from harness import (BYTES, GREATEST_NUMBER, SETTINGS, TIGHTENING, InTime, Skipped, Wrong, check, content, equal, history, openprotocol,
+from harness import (BYTES, GREATEST_NUMBER, SETTINGS, TIGHTENING, InTime, Skipped, Wrong, check, content, equal, fields_of, openprotocol,
                      result_fields, tell_and_acknowledge, test, tightening_fields, tightening_record, wait)
 
 
@@ -20,7 +20,7 @@ def runs_of_the_host(records):
     runs = []
     for kind, payload in records:
         if kind == SETTINGS:
-            runs.append([history.SETTINGS_FORM.unpack(payload)[4], 0])
+            runs.append([fields_of(SETTINGS, payload)["last"], 0])
         elif kind == TIGHTENING:
             runs[-1][1] += 1
     return runs

@@ -17,7 +17,7 @@ from harness import (BYTES, OPEN, TICK, InTime, check, done, equal, identifier_r
                      tightening_record, wait)
 import openprotocol
 
-DIALOGUE = message(1) + message(51, revision=2) + message(60) + message(9999, rest=b"the-rest")
+DIALOGUE = message(1) + message(51, b"002") + message(60) + message(9999, rest=b"the-rest")
 REPLIES = [b"00570002001         010012020303LINE4" + b" " * 20, b"00240005001         0051", b"00240005001         0060",
            b"00209999001 the-rest"]
 

@@ -17,7 +17,7 @@ def start_to_result(place):
     tool.tighten(unseen, "none")
     tool.scan("BEFORE ANYONE CAME", "none")
     server = place.server(host).start()
-    server.accepted(openprotocol.SUBSCRIBE_IDENTIFIERS, revision=2)
+    server.accepted(openprotocol.SUBSCRIBE_IDENTIFIERS, revision=b"002")
     server.accepted(openprotocol.SUBSCRIBE_RESULTS)
     equal(server.fence(), [], "something old")
     for number in range(2, 30):

@@ -11,7 +11,7 @@ import stat
 import time
 
 import harness
-from harness import (SETTINGS, TICK, check, content, equal, history, in_memory, record, tell_and_acknowledge, test, tightening_fields,
+from harness import (SETTINGS, TICK, check, content, equal, in_memory, record, split, tell_and_acknowledge, test, tightening_fields,
                      tightening_record, wait)
 from kept import ends_without_a_word, gives_next
 
@@ -211,7 +211,7 @@ def log_and_journal_opened_again(place):
     equal(server.fence(), [], "something besides")
     wait(lambda: "tool: tightening 1" in host.log(), "a line in the new log")
     check("listening on" in content(old).decode() and "listening on" not in host.log(), "the lines are in the wrong log")
-    kept = history.split(content(place.journal + "-old"))[0]
+    kept = split(content(place.journal + "-old"))[0]
     equal([kind for kind, _ in kept if kind != TICK][0], SETTINGS, "the first record of the journal that was renamed")
     equal(host.end(), 0, "status")
 
@@ -246,7 +246,7 @@ def the_time_of_day_beside_the_journal(place):
         read = lambda: content(place.journal + ".1.times").decode().splitlines()  # noqa: E731
         wait(lambda: len(read()) >= len(lines) + 3, "three lines more in run %d" % run)
         equal(host.end(), 0, "status")
-        records = history.split(content(place.journal))[0]
+        records = split(content(place.journal))[0]
         ends = [0, *itertools.accumulate(4 + len(payload) for _, payload in records)]
         told = [(int(line.split()[0]), line.split()[1]) for line in read()[len(lines):]]
         ticks = [sum(kind == TICK for kind, _ in records[ends.index(told[0][0]):ends.index(at)]) for at, _ in told]

@@ -12,9 +12,9 @@ import time
 
 import harness
 import tracing
-from harness import (BYTES, GOOD_SETTINGS, HANG_UP, OPEN, SCANNED, SETTINGS, TICK, TIGHTENING, WITH_SERIAL, InTime, check, content, done,
-                     equal, history, identifier_record, in_memory, openprotocol, record, tell_and_acknowledge, test, tightening_fields,
-                     tightening_record, wait, with_serial)
+from harness import (BYTES, GOOD_SETTINGS, HANG_UP, OPEN, SCANNED, SETTINGS, TICK, TIGHTENING, WITH_SERIAL, InTime, check, done, equal,
+                     fields_of, identifier_record, in_memory, openprotocol, record, record_of, tell_and_acknowledge, test,
+                     tightening_fields, tightening_record, wait, with_serial)
 
 BAD = "7 tool record bad"
 
@@ -35,8 +35,8 @@ def bad_records():
 
 def other_calls():
     """Records that would be other calls in a journal: here they are bad records of a tool, and nothing more."""
-    settings = history.to_records('settings 1 1 1 "OTHER" 99')
-    return [settings, record(OPEN), record(OPEN + 1), record(HANG_UP), record(BYTES, openprotocol.message(3)), record(TICK)]
+    return [record_of(SETTINGS, name="OTHER", last=99), record(OPEN), record(OPEN + 1), record(HANG_UP),
+            record(BYTES, openprotocol.message(3)), record(TICK)]
 
 
 @test
@@ -308,7 +308,7 @@ def check_told_again(place, numbers, kills):
     journaled, last = {}, 0
     for kind, payload in place.journaled():
         if kind == SETTINGS:
-            last = history.SETTINGS_FORM.unpack(payload)[4]
+            last = fields_of(SETTINGS, payload)["last"]
         elif kind == TIGHTENING:
             last += 1
             journaled.setdefault(payload, []).append(last)

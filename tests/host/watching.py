@@ -83,21 +83,13 @@ def watch_waits_and_comes_back(place):
     equal(messages[-3:], ["0063", "0054", "0003"], "messages with which watch ends")
 
 
-def frame(mid, layout, byte_12=b" ", **values):
-    """A frame of a controller, by its layout; values that are not named are 0 or empty."""
-    data = b""
-    for i, (name, width, sort) in enumerate(layout, 1):
-        value = values.get(name, 0 if sort is int else "")
-        data += b"%02d" % i + (b"%0*d" % (width, value) if sort is int else value.encode("ascii").ljust(width))
-    return openprotocol.message(mid, byte_12=byte_12, data=data)
-
-
 @test
 def watch_with_another_controller(place):
     """Frames that come byte by byte are shown; a copy of a result is acknowledged and not shown again; after a refusal, or something
     that is no frame, watch says so and connects again."""
-    started = frame(openprotocol.STARTED, openprotocol.CONTROLLER, name="OTHER")
-    results = [frame(openprotocol.RESULT, openprotocol.RESULT_FIELDS, b"0", number=number, tightening_status=1) for number in (7, 7, 8)]
+    started = openprotocol.write(openprotocol.STARTED, harness.CONTROLLER) + b"\0"
+    results = [openprotocol.write(openprotocol.RESULT, harness.result_fields(tightening_fields(number), number), byte_12=b"0") + b"\0"
+               for number in (7, 7, 8)]
     with socket.create_server(("127.0.0.1", 0)) as door:
         door.settimeout(harness.SECONDS)
         watch = Watch(place, "--connect", "127.0.0.1:%d" % door.getsockname()[1])

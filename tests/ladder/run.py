@@ -5,7 +5,7 @@
     run.py PROGRAM --large    64 MiB of journal, drawn in less than 500 MB
     run.py PROGRAM --draw     draws the pictures of docs anew, of each story one as text and one as SVG
 
-Histories are written in the line form of vectors/history.py."""
+Histories are written in the line form of tools/history.py."""
 
 import glob
 import os
@@ -18,14 +18,15 @@ import xml.etree.ElementTree
 
 ROOT = os.path.join(os.path.dirname(os.path.abspath(__file__)), "..", "..")
 TESTS = os.path.join(ROOT, "tests")
-sys.path[:0] = [os.path.join(ROOT, "tools"), os.path.join(TESTS, "vectors"), os.path.join(TESTS, "histories")]
+sys.path[:0] = [os.path.join(ROOT, "tools"), os.path.join(TESTS, "histories")]
 sys.dont_write_bytecode = True
 
 import generate  # noqa: E402
 import history  # noqa: E402
 import ladder_journal  # noqa: E402
 import ladder_rows  # noqa: E402
-from history import BYTES, HANG_UP, TICK, TIGHTENING, record  # noqa: E402
+import openprotocol  # noqa: E402
+from house_records import BYTES, HANG_UP, OPEN, TICK, record, split  # noqa: E402
 
 LADDER = os.path.join(ROOT, "tools", "ladder")
 STORIES = os.path.join(TESTS, "stories")
@@ -170,7 +171,7 @@ def test_seconds():
                 silent = now - at - ticked
                 expect("%s: seconds folded before %d s, %s" % (name, now, label), fold, silent if silent > 1 else 0)
                 at, fold = now, 0
-        done = len([kind for kind, _ in history.split(data)[0] if kind == history.TICK])
+        done = len([kind for kind, _ in split(data)[0] if kind == TICK])
         refused = sum(1 for label in labels(draw(data)) if label.startswith("tick: refused"))
         expect("%s: ticks done" % name, at + fold, done - refused)
 
@@ -250,7 +251,7 @@ def test_copies_seen_from_later():
 # ---- what was lost
 
 ACKNOWLEDGE, NO_MESSAGE = b"00200062            \0", b"x\0"  # the second ends a run that was begun, whatever it is
-MARK = record(history.OPEN + 15)  # refused with 4
+MARK = record(OPEN + 15)  # refused with 4
 TRIED = history.to_records('tightening identifier="TRIED"')
 
 
@@ -258,7 +259,7 @@ class Story:
     """A history drawn: what each record printed, and its rows."""
 
     def __init__(self, data):
-        self.records = history.split(data)[0]
+        self.records = split(data)[0]
         self.rows = [[] for _ in range(len(self.records) + 1)]  # by the record's number, from 1
         self.printed = [0] * (len(self.records) + 1)  # lines up to a record and with it
         with tempfile.NamedTemporaryFile() as file:
@@ -288,7 +289,8 @@ class Story:
 
 def results(lines, session):
     """The results that go to a session: each one's number, and whether it is the one that is tried."""
-    return [(int(line[-10:]), "TRIED" in line) for line in lines if line.startswith("%d S 02310061" % session)]
+    frames = [line[4:].replace("_", " ").encode("latin-1") for line in lines if re.match("%d S ....0061" % session, line)]
+    return [(fields["number"], fields["identifier"] == "TRIED") for fields in (openprotocol.read(frame).fields for frame in frames)]
 
 
 def dropped(lines):
@@ -432,8 +434,8 @@ def test_cut_record():
 
 
 def test_too_long():
-    longest = history.record(history.BYTES, b"x" * 8192)
-    longer = history.record(history.BYTES, b"x" * 8193)
+    longest = record(BYTES, b"x" * 8192)
+    longer = record(BYTES, b"x" * 8193)
     shown = labels(draw(made(SUBSCRIBED) + longest + longer + longest))
     expect("labels", shown[-2:], ["8192 bytes of a run that did not end",
                                   "end: a record of 8193 bytes, longer than 8192, ends the run: 16393 bytes not read"])

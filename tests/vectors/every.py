@@ -3,14 +3,14 @@
 Each case is house records and the lines that document 01 asks for, reckoned here from its
 rules for one session that talks alone, and from its arithmetic of ticks for several."""
 
-import struct
+import openprotocol
+from house_records import BYTES, NUMBER, OPEN, PAYLOADS, SCANNED, SETTINGS, TEXT, TICK, TIGHTENING, filled, record
+from openprotocol import ACCEPTED, IDENTIFIER, REFUSED, RESULT, STARTED, write
 
-import history
-
-CELL, CHANNEL, NAME, LAST = 12, 3, b"LINE4".ljust(25), 41
-NUMBER_GREATEST = 4294967295
+GOOD_SETTINGS = {"cell": 12, "channel": 3, "granted": 1, "name": filled("LINE4"), "last": 41}
+LAST = GOOD_SETTINGS["last"]
 DIGITS = b"0123456789"
-SPACES = b" " * 25
+SPACES = filled("")
 
 # Of each message: least and greatest length, greatest revision (none: not read).
 RULES = {1: (20, 20, 1), 3: (20, 20, None), 50: (21, 45, 1), 51: (20, 20, 2), 53: (20, 20, None), 54: (20, 20, None),
@@ -19,12 +19,9 @@ SUBSCRIBED, NOT_SUBSCRIBED = {51: 6, 60: 9}, {54: 7, 63: 10}
 SUBSCRIPTION = {51: 51, 54: 51, 60: 60, 63: 60}
 
 
-def message(mid, revision=b"001", twelve=b" ", data=b""):
-    return b"%04d%04d" % (20 + len(data), mid) + revision + twelve + b" " * 8 + data
-
-
-def framed(mid, data, revision=1, twelve=b" "):
-    return b"%04d%04d%03d" % (20 + len(data), mid, revision) + twelve + b" " * 8 + data
+def message(*header, **named):
+    """A message without its NUL."""
+    return openprotocol.message(*header, **named)[:-1]
 
 
 def is_text(text):
@@ -34,6 +31,14 @@ def is_text(text):
 def is_time(text):
     marks = dict(zip((4, 7, 10, 13, 16), b"--:::"))
     return all(byte == marks[place] if place in marks else byte in DIGITS for place, byte in enumerate(text))
+
+
+def is_good(kind, fields):
+    """Whether a record of that kind may have these fields."""
+    def good(item, value):
+        return value <= item.greatest if item.sort == NUMBER else is_text(value) if item.sort == TEXT else is_time(value)
+
+    return all(good(item, fields[name]) for name, item in PAYLOADS[kind].items.items())
 
 
 def read_header(run):
@@ -46,44 +51,22 @@ def read_header(run):
     return int(digits[4:]), (0 if revision == b"   " else int(revision)) or 1, twelve == b"1"
 
 
-def identifier_frame(subscription, identifier):
+def notice(mid, subscription, fields):
     revision, free = subscription
-    data = b"01" + identifier + (b"02%s03%s04%s" % (SPACES, SPACES, SPACES) if revision == 2 else b"")
-    return framed(52, data, revision, b"1" if free else b"0")
+    return write(mid, fields, revision, b"1" if free else b"0")
+
+
+def identifier_frame(subscription, identifier):
+    return notice(IDENTIFIER, subscription, {"identifier": identifier})
 
 
 def result_frame(subscription, fields, identifier, number):
-    """0061 of a tightening, its fields by the names of history.FIELDS."""
-    texts = [b"%04d" % CELL, b"%02d" % CHANNEL, NAME, identifier, b"%02d" % fields["job"], b"%03d" % fields["set"],
-             b"%04d" % fields["size"], b"%04d" % fields["counter"]]
-    texts += [b"%d" % fields[name] for name in ("status", "torque_status", "angle_status")]
-    texts += [b"%06d" % fields[name] for name in ("torque_min", "torque_max", "torque_target", "torque")]
-    texts += [b"%05d" % fields[name] for name in ("angle_min", "angle_max", "angle_target", "angle")]
-    texts += [fields["time"], fields["change"], b"%d" % fields["batch_status"], b"%010d" % number]
-    data = b"".join(b"%02d%s" % (place, text) for place, text in enumerate(texts, 1))
-    return framed(61, data, 1, b"1" if subscription[1] else b"0")
-
-
-LIMITS = {"job": 99, "set": 999, "size": 9999, "counter": 9999, "status": 1, "torque_status": 2, "angle_status": 2,
-          "batch_status": 2}
-LIMITS.update({name: 999999 for name in ("torque_min", "torque_max", "torque_target", "torque")})
-LIMITS.update({name: 99999 for name in ("angle_min", "angle_max", "angle_target", "angle")})
+    return notice(RESULT, subscription, {**GOOD_SETTINGS, **fields, "identifier": identifier, "number": number})
 
 
 def tightening_fields(**named):
-    fields = {name: value for name, _, value in history.FIELDS}
-    fields.update(named)
-    fields["identifier"] = fields["identifier"].ljust(25)
-    return fields
-
-
-def tightening_payload(fields):
-    return history.TIGHTENING_FORM.pack(*(fields[name] for name in history.NAMES))
-
-
-def tightening_good(fields):
-    return is_text(fields["identifier"]) and is_time(fields["time"]) and is_time(fields["change"]) \
-        and all(fields[name] <= limit for name, limit in LIMITS.items())
+    fields = PAYLOADS[TIGHTENING].usual(**named)
+    return {**fields, "identifier": filled(fields["identifier"])}
 
 
 class Case:
@@ -91,10 +74,14 @@ class Case:
 
     def __init__(self, granted=1):
         self.records, self.lines, self.last, self.in_force, self.granted = [], [], LAST, SPACES, granted
-        self.put(history.SETTINGS, history.SETTINGS_FORM.pack(CELL, CHANNEL, granted, NAME, LAST))
+        self.give(SETTINGS, {**GOOD_SETTINGS, "granted": granted})
 
     def put(self, kind, payload=b""):
-        self.records.append(history.record(kind, payload))
+        self.records.append(record(kind, payload))
+
+    def give(self, kind, fields):
+        """A record with these fields."""
+        self.put(kind, PAYLOADS[kind].pack(fields))
 
     def expect(self, frame, s=0):
         self.lines.append("%d S %s" % (s, frame.decode("latin-1").replace(" ", "_")))
@@ -112,7 +99,7 @@ class Alone(Case):
     def __init__(self, granted=1):
         super().__init__(granted)
         self.started, self.subscribed, self.waiting = False, {}, b""
-        self.put(history.OPEN)
+        self.put(OPEN)
 
     # ---- sent
 
@@ -126,7 +113,7 @@ class Alone(Case):
                 self.hear(part)
 
     def flush(self):
-        self.put(history.BYTES, self.waiting)
+        self.put(BYTES, self.waiting)
         self.waiting = b""
 
     def begin(self, *subscriptions):
@@ -134,7 +121,7 @@ class Alone(Case):
 
     def scan(self, text):
         self.flush()
-        self.put(history.SCANNED, text)
+        self.put(SCANNED, text)
         if len(text) == 25 and is_text(text):
             self.identified(text)
         else:
@@ -142,8 +129,8 @@ class Alone(Case):
 
     def tighten(self, fields):
         self.flush()
-        self.put(history.TIGHTENING, tightening_payload(fields))
-        if not tightening_good(fields):
+        self.give(TIGHTENING, fields)
+        if not is_good(TIGHTENING, fields):
             self.refused(7)
             return
         self.last += 1
@@ -154,10 +141,10 @@ class Alone(Case):
     # ---- heard
 
     def accept(self, mid):
-        self.expect(framed(5, b"%04d" % mid))
+        self.expect(write(ACCEPTED, {"mid": mid}))
 
     def turn_down(self, mid, error):
-        self.expect(framed(4, b"%04d%02d" % (mid, error)))
+        self.expect(write(REFUSED, {"mid": mid, "error": error}))
 
     def form_error(self, run, mid, revision):
         least, greatest, revisions = RULES[mid]
@@ -187,7 +174,7 @@ class Alone(Case):
             self.turn_down(1, error)
             return
         self.started = True
-        self.expect(framed(2, b"01%04d02%02d03%s" % (CELL, CHANNEL, NAME)))
+        self.expect(write(STARTED, GOOD_SETTINGS))
 
     def hear_good(self, run, mid, subscription):
         if mid == 3:
@@ -212,7 +199,7 @@ class Alone(Case):
             self.turn_down(50, 8)
         else:
             self.accept(50)
-            self.identified(data.ljust(25))
+            self.identified(filled(data))
 
     def identified(self, identifier):
         self.in_force = identifier
@@ -226,7 +213,7 @@ class Alone(Case):
 
 # ---- cases of one session
 
-FREE = (message(51, twelve=b"1"), message(60, twelve=b"1"))
+FREE = (message(51, byte_12=b"1"), message(60, byte_12=b"1"))
 
 
 def altered(text, values=range(256)):
@@ -268,9 +255,9 @@ def revisions():
             case.send(message(1, revision, twelve))
             if not case.started:
                 case.begin()
-            case.send(message(51, revision, twelve), message(60, revision, twelve), message(50, revision, twelve, b"D" + revision))
+            case.send(message(51, revision, twelve), message(60, revision, twelve), message(50, revision, twelve, data=b"D" + revision))
             if revision == b"002":  # a 0050 of that revision makes nothing known
-                case.scan(b"SCANNED".ljust(25))
+                case.scan(filled("SCANNED"))
             case.tighten(tightening_fields())
             case.send(message(3, revision, twelve))
     return case.named("every revision")
@@ -298,15 +285,16 @@ def tool_texts():
     for text in altered(b"IDENTIFIER OF THE TOOL 25"):
         case.scan(text)
         case.tighten(tightening_fields(identifier=text))
-    for name in ("time", "change"):
+    for name in ("time", "change_time"):
         for text in altered(b"2024-01-02:03:04:05"):
             case.tighten(tightening_fields(**{name: text}))
     case.tighten(tightening_fields())
     return case.named("every byte value in the tool's texts")
 
 
-def near(limit, bits):
-    """Numbers about a limit, and those that look good when bytes of them are left out."""
+def near(item):
+    """Numbers about the greatest, and those that look good when bytes of them are left out."""
+    limit, bits = item.greatest, 8 * item.size
     small = {0, 1, 9, 10, limit - 1, limit, limit + 1, limit * 2}
     far = {limit + (1 << shift) for shift in range(0, bits)} | {1 << shift for shift in range(bits)} | {(1 << bits) - 1}
     return sorted(number for number in small | far if 0 <= number < 1 << bits)
@@ -315,10 +303,9 @@ def near(limit, bits):
 def tool_numbers():
     case = Alone()
     case.begin(*FREE)
-    case.scan(b"IN FORCE".ljust(25))
-    bits = {"B": 8, "H": 16, "I": 32}
-    for name, form, _ in history.FIELDS:
-        for number in near(LIMITS[name], bits[form]) if name in LIMITS else ():
+    case.scan(filled("IN FORCE"))
+    for name, item in PAYLOADS[TIGHTENING].items.items():
+        for number in near(item) if item.sort == NUMBER else ():
             case.tighten(tightening_fields(**{name: number}))
     return case.named("numbers of the tool at their limits")
 
@@ -328,57 +315,47 @@ def settings():
     case = Case()
     good = {"cell": 1, "channel": 2, "granted": 1, "name": b"NAME OF THE CONTROLLER 25", "last": 0}
     tried = [dict(good, name=text) for text in altered(good["name"])]
-    tried += [dict(good, cell=number) for number in near(9999, 16)]
-    tried += [dict(good, channel=number) for number in range(256)] + [dict(good, granted=number) for number in range(256)]
-    tried += [dict(good, last=number) for number in near(NUMBER_GREATEST - 1, 32)]
+    for name, item in PAYLOADS[SETTINGS].items.items():
+        if item.sort == NUMBER:
+            tried += [dict(good, **{name: number}) for number in (range(256) if item.size == 1 else near(item))]
     for one in tried:
-        case.put(history.SETTINGS, history.SETTINGS_FORM.pack(*(one[name] for name in good)))
-        if one["cell"] > 9999 or one["channel"] > 99 or one["granted"] > 1 or not is_text(one["name"]):
+        case.give(SETTINGS, one)
+        if not is_good(SETTINGS, one):
             case.refused(9)
             continue
-        case.put(history.OPEN)
-        case.put(history.BYTES, message(1) + b"\0")
-        case.expect(framed(2, b"01%04d02%02d03%s" % (one["cell"], one["channel"], one["name"])))
+        case.put(OPEN)
+        case.put(BYTES, message(1) + b"\0")
+        case.expect(write(STARTED, one))
     return case.named("every byte value in the settings")
 
 
+def good_payloads():
+    return [(kind, items.pack(items.usual())) for kind, items in PAYLOADS.items()]
+
+
 def record_lengths():
-    """Good payloads of the three kinds with every length about them; only the whole record is taken."""
+    """Good payloads of all kinds with every length about them; only the whole record is taken."""
     case = Alone()
     case.begin(*FREE)
     case.flush()
-    fields = tightening_fields(identifier=b"T")
-    payload = tightening_payload(fields)
-    for size in [*range(700), *(len(payload) + 256 * times for times in range(3, 32))]:
-        if size == len(payload):
-            case.tighten(fields)
-        else:
-            case.put(history.TIGHTENING, (payload + b" " * size)[:size])
-            case.refused(7)
-    for size in [*range(600), *(25 + 256 * times for times in range(3, 32))]:
-        if size == 25:
-            case.scan(b"S".ljust(25))
-        else:
-            case.put(history.SCANNED, b"S".ljust(size)[:size])
-            case.refused(7)
-    for size in [*range(33), *range(34, 600), *(33 + 256 * times for times in range(3, 32))]:
-        case.put(history.SETTINGS, (history.SETTINGS_FORM.pack(CELL, CHANNEL, 1, NAME, 0) + b" " * size)[:size])
-        case.refused(9)
+    for kind, good in good_payloads():
+        for size in [*range(700), *(len(good) + 256 * times for times in range(3, 32))]:
+            if size != len(good):
+                case.put(kind, (good + b" " * size)[:size])
+                case.refused(9 if kind == SETTINGS else 7)
+    case.scan(filled("S"))
+    case.tighten(tightening_fields(identifier=b"T"))
     return case.named("every length of a record")
 
 
 def record_kinds():
     """Kinds that no call takes, with payloads of those that are taken and with none."""
     case = Case()
-    payloads = {history.TIGHTENING: tightening_payload(tightening_fields()), history.SCANNED: SPACES,
-                history.SETTINGS: history.SETTINGS_FORM.pack(CELL, CHANNEL, 1, NAME, 0)}
-    for kind, payload in payloads.items():
-        for other in [0, *range(4, 16), *range(65, 600), *(kind + 256 * times for times in range(3, 256)), 65535]:
-            case.put(other, payload)
-            case.refused(7)
-    for kind in [0, *range(4, 16), *range(65, 1100)]:
-        case.put(kind)
-        case.refused(7)
+    for kind, payload in [*good_payloads(), (0, b"")]:
+        for other in [*range(16), *range(65, 1100), *(kind + 256 * times for times in range(5, 256)), 65535]:
+            if other not in PAYLOADS:
+                case.put(other, payload)
+                case.refused(7)
     return case.named("kinds that no call takes")
 
 
@@ -387,36 +364,35 @@ def record_kinds():
 def four_subscribed(case, byte_12=b"0"):
     """All four started and subscribed, to identifiers in revision 2."""
     for s in range(4):
-        case.put(history.OPEN + s)
-        case.put(history.BYTES + s, b"".join(run + b"\0" for run in (message(1), message(51, b"002", byte_12),
-                                                                      message(60, b"001", byte_12))))
-        case.expect(framed(2, b"01%04d02%02d03%s" % (CELL, CHANNEL, NAME)), s)
-        case.expect(framed(5, b"0051"), s)
-        case.expect(framed(5, b"0060"), s)
+        case.put(OPEN + s)
+        case.put(BYTES + s, b"".join(run + b"\0" for run in (message(1), message(51, b"002", byte_12), message(60, b"001", byte_12))))
+        case.expect(write(STARTED, GOOD_SETTINGS), s)
+        case.expect(write(ACCEPTED, {"mid": 51}), s)
+        case.expect(write(ACCEPTED, {"mid": 60}), s)
 
 
 def keep_alive(case, sessions=range(4)):
     """A message that is answered in no way: an acknowledge of the wrong length."""
     for s in sessions:
-        case.put(history.BYTES + s, message(62, data=b"x") + b"\0")
+        case.put(BYTES + s, message(62, data=b"x") + b"\0")
 
 
 def fullest_output():
     """A 0050 that all four hear, a tightening to all four, and ticks with two copies to each."""
     case = Case()
     four_subscribed(case)
-    case.put(history.BYTES + 3, message(50, data=b"I" * 25) + b"\0")
-    case.expect(framed(5, b"0050"), 3)
+    case.put(BYTES + 3, message(50, data=b"I" * 25) + b"\0")
+    case.expect(write(ACCEPTED, {"mid": 50}), 3)
     for s in range(4):
         case.expect(identifier_frame((2, False), b"I" * 25), s)
     fields = tightening_fields(identifier=b"T" * 25)
-    case.put(history.TIGHTENING, tightening_payload(fields))
+    case.give(TIGHTENING, fields)
     for s in range(4):
         case.expect(result_frame((1, False), fields, fields["identifier"], LAST + 1), s)
     for tick in range(1, 122):
         if tick % 14 == 0:
             keep_alive(case)
-        case.put(history.TICK)
+        case.put(TICK)
         for s in range(4 if tick in (20, 40, 60, 80, 100) else 0):
             case.expect(identifier_frame((2, False), b"I" * 25), s)
             case.expect(result_frame((1, False), fields, fields["identifier"], LAST + 1), s)
@@ -430,20 +406,20 @@ def nothing_acknowledged():
     results = []
     for number in range(LAST + 1, LAST + 10):
         fields = tightening_fields(identifier=b"T%d" % number, torque=number)
-        case.put(history.TIGHTENING, tightening_payload(fields))
+        case.give(TIGHTENING, fields)
         results.append(result_frame((1, False), fields, fields["identifier"], number))
         for s in range(4 if number == LAST + 1 else 0):
             case.expect(results[0], s)
-    identifiers = [identifier_frame((2, False), text.ljust(25)) for text in (b"OPEN", b"REPLACED", b"WAITING")]
+    identifiers = [identifier_frame((2, False), filled(text)) for text in (b"OPEN", b"REPLACED", b"WAITING")]
     for number, text in enumerate((b"OPEN", b"REPLACED", b"WAITING")):
-        case.put(history.SCANNED, text.ljust(25))
+        case.put(SCANNED, filled(text))
         for s in range(4 if number == 0 else 0):
             case.expect(identifiers[0], s)
     queues = ([identifiers[0], identifiers[2]], results[:8])
     for tick in range(1, 1000):
         if tick % 14 == 0:
             keep_alive(case)
-        case.put(history.TICK)
+        case.put(TICK)
         for s in range(4):
             for queue in queues:
                 if tick % 20 == 0 and tick // 120 < len(queue):

@@ -3,7 +3,7 @@
 
     run.py PROGRAM [FILE ...]      without files: all of tests/vectors and tests/stories, and those of every.py
 
-Each file is a history in the line form of history.py. Lines that begin with "> " are
+Each file is a history in the line form of tools/history.py. Lines that begin with "> " are
 the output expected, in order; the program must print exactly these lines and no more.
 A file that expects nothing at all is wrong: it shows nothing."""
 
@@ -11,10 +11,12 @@ import os
 import subprocess
 import sys
 
-import every
-import history
-
 HERE = os.path.dirname(os.path.abspath(__file__))
+sys.path.insert(0, os.path.join(HERE, "..", "..", "tools"))
+
+import every  # noqa: E402
+import history  # noqa: E402
+
 STORIES = os.path.join(HERE, "..", "stories")
 
 

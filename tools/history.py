@@ -10,54 +10,28 @@ The line form, one or more records a line:
     open S            hangup S            tick [TIMES]
     bytes S "00200001001         \\0"      further strings are joined; "x"*100 repeats
     scan "IDENTIFIER"
-    tightening identifier="..." job=7 ...  fields not named have the values below
+    tightening identifier="..." job=7 ...  by the names of house_records.py; what is not named is as usual there
     record KIND HEX                        any other record, by its kind and payload
     tail HEX                               bytes behind the last whole record
 
 Names and identifiers are filled up with spaces. In strings \\0 is NUL, \\xHH any
 byte, \\" and \\\\ themselves. Lines that begin with # are comments; lines that begin
-with > are the output expected there (see run.py)."""
+with > are the output expected there (see tests/vectors/run.py)."""
 
+import itertools
 import re
-import struct
 import sys
 
-TIGHTENING, SCANNED, SETTINGS = 1, 2, 3
-OPEN, HANG_UP, BYTES, TICK = 16, 32, 48, 64
+from house_records import (BYTES, HANG_UP, NUMBER, OPEN, PAYLOADS, SCANNED, SETTINGS, TEXT, TICK, TIGHTENING, fields_of, record, record_of,
+                           split)
 
-# name, struct format, value if not named
-FIELDS = [
-    ("identifier", "25s", b""),
-    ("job", "B", 0),
-    ("set", "H", 1),
-    ("size", "H", 0),
-    ("counter", "H", 0),
-    ("status", "B", 1),
-    ("torque_status", "B", 1),
-    ("angle_status", "B", 1),
-    ("torque_min", "I", 0),
-    ("torque_max", "I", 0),
-    ("torque_target", "I", 0),
-    ("torque", "I", 0),
-    ("angle_min", "I", 0),
-    ("angle_max", "I", 0),
-    ("angle_target", "I", 0),
-    ("angle", "I", 0),
-    ("time", "19s", b"2024-01-02:03:04:05"),
-    ("change", "19s", b"2024-01-01:00:00:00"),
-    ("batch_status", "B", 0),
-]
-TIGHTENING_FORM = struct.Struct("<" + "".join(form for _, form, _ in FIELDS))
-SETTINGS_FORM = struct.Struct("<HBB25sI")
-NAMES = [name for name, _, _ in FIELDS]
+WORDS = {SETTINGS: "settings", SCANNED: "scan", TIGHTENING: "tightening"}  # with which a line of values begins
+IN_ORDER = (SETTINGS, SCANNED)  # all values stand there, without their names
 
 STRING = r'"(?:[^"\\]|\\.)*"'
 TOKEN = re.compile(rf"\s*([a-z_]+=(?:{STRING}|\S+)|{STRING}(?:\*\d+)?|\S+)")
+VALUE = re.compile(r"(?:([a-z_]+)=)?(.*)", re.S)
 ESCAPE = re.compile(rb"\\(x[0-9a-fA-F]{2}|.)", re.S)
-
-
-def record(kind, payload=b""):
-    return struct.pack("<HH", len(payload), kind) + payload
 
 
 def unescape(text):
@@ -81,10 +55,6 @@ def read_string(token):
     return unescape(token[1:-1]) * times
 
 
-def filled(text):
-    return text.ljust(25, b" ")
-
-
 def quote(data):
     out = []
     for byte in data:
@@ -99,18 +69,14 @@ def quote(data):
     return '"' + "".join(out) + '"'
 
 
-def read_tightening(tokens):
-    values = {name: value for name, _, value in FIELDS}
-    for token in tokens:
-        name, _, text = token.partition("=")
-        if name not in values:
-            raise ValueError("no field " + name)
-        if not isinstance(values[name], bytes):
-            values[name] = int(text)
-        else:
-            values[name] = read_string(text) if text.startswith('"') else text.encode("latin-1")
-    values["identifier"] = filled(values["identifier"])
-    return TIGHTENING_FORM.pack(*(values[name] for name in NAMES))
+def read_fields(kind, tokens):
+    """The values of a line by their names; one that has none is that of the item in its place."""
+    items, fields = PAYLOADS[kind].items, {}
+    for place, token in enumerate(tokens):
+        name, text = VALUE.fullmatch(token).groups()
+        item = items[name or list(items)[place]]
+        fields[item.name] = int(text) if item.sort == NUMBER else read_string(text) if text.startswith('"') else text.encode("latin-1")
+    return fields
 
 
 def line_to_records(line):
@@ -118,11 +84,9 @@ def line_to_records(line):
     if not line.strip() or line.lstrip()[0] in "#>":
         return []
     word, *rest = TOKEN.findall(line)
-    if word == "settings":
-        cell, channel, granted, name, last = rest
-        payload = SETTINGS_FORM.pack(int(cell), int(channel), int(granted),
-                                     filled(read_string(name)), int(last))
-        return [record(SETTINGS, payload)]
+    for kind in WORDS:
+        if word == WORDS[kind]:
+            return [record_of(kind, **read_fields(kind, rest))]
     if word == "open":
         return [record(OPEN + int(rest[0]))]
     if word == "hangup":
@@ -131,10 +95,6 @@ def line_to_records(line):
         return [record(TICK)] * (int(rest[0]) if rest else 1)
     if word == "bytes":
         return [record(BYTES + int(rest[0]), b"".join(read_string(part) for part in rest[1:]))]
-    if word == "scan":
-        return [record(SCANNED, filled(read_string(rest[0])))]
-    if word == "tightening":
-        return [record(TIGHTENING, read_tightening(rest))]
     if word == "record":
         return [record(int(rest[0]), bytes.fromhex("".join(rest[1:])))]
     if word == "tail":
@@ -144,18 +104,6 @@ def line_to_records(line):
 
 def to_records(text):
     return b"".join(part for line in text.splitlines() for part in line_to_records(line))
-
-
-def split(data):
-    """The records of a history as (kind, payload), and the bytes behind the last whole one."""
-    records, at = [], 0
-    while at + 4 <= len(data):
-        length, kind = struct.unpack_from("<HH", data, at)
-        if at + 4 + length > len(data):
-            break
-        records.append((kind, data[at + 4:at + 4 + length]))
-        at += 4 + length
-    return records, data[at:]
 
 
 def quoted_parts(data):
@@ -171,27 +119,19 @@ def quoted_parts(data):
     return " ".join(parts)
 
 
-def tightening_line(payload):
-    words = ["tightening"]
-    for (name, _, usual), value in zip(FIELDS, TIGHTENING_FORM.unpack(payload)):
-        if isinstance(value, bytes):
-            if name == "identifier":
-                value = value.rstrip(b" ")
-            if value != usual:
-                words.append(name + "=" + quote(value))
-        elif value != usual:
-            words.append("%s=%d" % (name, value))
+def fields_line(kind, fields):
+    words = [WORDS[kind]]
+    for item in PAYLOADS[kind].items.values():
+        value = fields[item.name].rstrip(b" ") if item.sort == TEXT else fields[item.name]
+        if kind in IN_ORDER or value != item.usual:
+            shown = "%d" % value if item.sort == NUMBER else quote(value)
+            words.append(shown if kind in IN_ORDER else item.name + "=" + shown)
     return " ".join(words)
 
 
 def record_line(kind, payload):
-    if kind == TIGHTENING and len(payload) == TIGHTENING_FORM.size:
-        return tightening_line(payload)
-    if kind == SCANNED and len(payload) == 25:
-        return "scan " + quote(payload.rstrip(b" "))
-    if kind == SETTINGS and len(payload) == SETTINGS_FORM.size:
-        cell, channel, granted, name, last = SETTINGS_FORM.unpack(payload)
-        return "settings %d %d %d %s %d" % (cell, channel, granted, quote(name.rstrip(b" ")), last)
+    if fields := fields_of(kind, payload):
+        return fields_line(kind, fields)
     if BYTES <= kind < TICK:
         return "bytes %d %s" % (kind - BYTES, quoted_parts(payload))
     if not payload and OPEN <= kind < HANG_UP:
@@ -205,18 +145,10 @@ def record_line(kind, payload):
 
 def to_lines(data):
     records, tail = split(data)
-    lines, ticks = [], 0
-    for kind, payload in records:
-        line = record_line(kind, payload)
-        if line == "tick":
-            ticks += 1
-            continue
-        if ticks:
-            lines.append("tick" if ticks == 1 else "tick %d" % ticks)
-            ticks = 0
-        lines.append(line)
-    if ticks:
-        lines.append("tick" if ticks == 1 else "tick %d" % ticks)
+    lines = []
+    for line, alike in itertools.groupby(record_line(*each) for each in records):
+        times = len(list(alike))
+        lines += ["tick %d" % times] if line == "tick" and times > 1 else times * [line]
     if tail:
         lines.append("tail " + tail.hex())
     return "".join(line + "\n" for line in lines)
