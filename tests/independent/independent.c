@@ -19,6 +19,8 @@ enum {
     HEADER_BYTES = 20,
     TEXT_BYTES = 25,       /* identifiers and the controller's name */
     TIME_BYTES = 19,
+    SETTINGS_BYTES = 33,   /* the payload of their record */
+    TIGHTENING_BYTES = 106,
     RESULT_BYTES = 211,    /* the data field of 0061 revision 1 */
     DOWNLOAD_GREATEST = FAULT == DOWNLOAD_OF_46 ? 46 : 45, /* length of an 0050 */
     RUN_KEPT = DOWNLOAD_GREATEST,                          /* bytes of a run that anyone reads */
@@ -63,8 +65,9 @@ enum {
 
 enum phase { CLOSED = 0, OPENED = 1, STARTED = 2 };
 
-/* The two kinds of notice, in the order in which a tick serves them. */
+/* The two kinds of notice, in the order in which a tick serves them, and what is held of each. */
 enum kind { IDENTIFIER = 0, TIGHTENING = 1, KINDS = 2 };
+static const size_t NOTICE_BYTES[KINDS] = { TEXT_BYTES, RESULT_BYTES };
 
 /* A subscription and the notices that it holds; notice 0 is the open one. */
 struct subscription {
@@ -85,16 +88,8 @@ struct session {
     uint8_t result[TIGHTENINGS_HELD][RESULT_BYTES];
 };
 
-struct settings {
-    unsigned cell;
-    unsigned channel;
-    bool granted;
-    uint8_t name[TEXT_BYTES];
-    uint32_t last; /* the last tightening number */
-};
-
 struct state {
-    struct settings settings;
+    uint8_t settings[SETTINGS_BYTES]; /* as in their record; the last tightening number counts on */
     uint8_t in_force[TEXT_BYTES];
     struct session session[SESSIONS];
 };
@@ -207,6 +202,74 @@ static void put_bytes(struct writer *writer, const uint8_t *bytes, size_t count)
     writer->at += count;
 }
 
+/* ---------------------------------------------------------------- fields */
+
+/* The fields of records and frames, in the order in which payloads have them: those of a settings
+   record, those of a tightening, of which the first is all that a scanned identifier's record has,
+   and what frames have besides. */
+enum field_name {
+    CELL, CHANNEL, GRANTED, NAME, LAST,
+    IDENTIFIER_TEXT, JOB, PARAMETER_SET, BATCH_SIZE, BATCH_COUNTER,
+    TIGHTENING_STATUS, TORQUE_STATUS, ANGLE_STATUS,
+    TORQUE_MIN, TORQUE_MAX, TORQUE_TARGET, TORQUE,
+    ANGLE_MIN, ANGLE_MAX, ANGLE_TARGET, ANGLE,
+    TIGHTENED_AT, SET_CHANGED_AT, BATCH_STATUS,
+    RESULT_NUMBER, BLANK
+};
+
+enum sort { NUMBER, TEXT, TIME, SPACES };
+
+/* Where the value of a field comes from: the settings, or what an event tells, which is an
+   identifier, or a tightening with its number behind it. */
+enum source { SETTINGS, EVENT, SOURCES };
+
+struct field {
+    enum sort sort;
+    enum source source;
+    unsigned offset;   /* in the source */
+    unsigned size;     /* there, in bytes */
+    uint32_t greatest; /* of a number that a record brings */
+};
+
+static const struct field FIELDS[] = {
+    [CELL] = { NUMBER, SETTINGS, 0, 2, 9999 },
+    [CHANNEL] = { NUMBER, SETTINGS, 2, 1, 99 },
+    [GRANTED] = { NUMBER, SETTINGS, 3, 1, 1 },
+    [NAME] = { TEXT, SETTINGS, 4, TEXT_BYTES, 0 },
+    [LAST] = { NUMBER, SETTINGS, 29, 4, LAST_NUMBER_GREATEST },
+    [IDENTIFIER_TEXT] = { TEXT, EVENT, 0, TEXT_BYTES, 0 },
+    [JOB] = { NUMBER, EVENT, 25, 1, 99 },
+    [PARAMETER_SET] = { NUMBER, EVENT, 26, 2, 999 },
+    [BATCH_SIZE] = { NUMBER, EVENT, 28, 2, 9999 },
+    [BATCH_COUNTER] = { NUMBER, EVENT, 30, 2, 9999 },
+    [TIGHTENING_STATUS] = { NUMBER, EVENT, 32, 1, 1 },
+    [TORQUE_STATUS] = { NUMBER, EVENT, 33, 1, 2 },
+    [ANGLE_STATUS] = { NUMBER, EVENT, 34, 1, 2 },
+    [TORQUE_MIN] = { NUMBER, EVENT, 35, 4, 999999 },
+    [TORQUE_MAX] = { NUMBER, EVENT, 39, 4, 999999 },
+    [TORQUE_TARGET] = { NUMBER, EVENT, 43, 4, 999999 },
+    [TORQUE] = { NUMBER, EVENT, 47, 4, 999999 },
+    [ANGLE_MIN] = { NUMBER, EVENT, 51, 4, 99999 },
+    [ANGLE_MAX] = { NUMBER, EVENT, 55, 4, 99999 },
+    [ANGLE_TARGET] = { NUMBER, EVENT, 59, 4, 99999 },
+    [ANGLE] = { NUMBER, EVENT, 63, 4, 99999 },
+    [TIGHTENED_AT] = { TIME, EVENT, 67, TIME_BYTES, 0 },
+    [SET_CHANGED_AT] = { TIME, EVENT, 86, TIME_BYTES, 0 },
+    [BATCH_STATUS] = { NUMBER, EVENT, 105, 1, 2 },
+    [RESULT_NUMBER] = { NUMBER, EVENT, TIGHTENING_BYTES, 4, 0 },
+    [BLANK] = { SPACES, EVENT, 0, 0, 0 },
+};
+
+static uint32_t number_in(const uint8_t *source, enum field_name name)
+{
+    return little_endian(source + FIELDS[name].offset, FIELDS[name].size);
+}
+
+static void put_number_in(uint8_t *source, enum field_name name, uint32_t value)
+{
+    put_little_endian(source + FIELDS[name].offset, FIELDS[name].size, value);
+}
+
 /* ---------------------------------------------------------------- house records */
 
 enum {
@@ -215,21 +278,7 @@ enum {
     KIND_SCANNED = 2,
     KIND_SETTINGS = 3,
     KIND_FRAME = 256,
-    KIND_CLOSE = 512,
-    SETTINGS_BYTES = 33,
-    TIGHTENING_BYTES = 106
-};
-
-/* A tightening as the tool reports it. */
-struct tightening {
-    const uint8_t *identifier;
-    uint32_t job, set, batch_size, batch_counter;
-    uint32_t status, torque_status, angle_status;
-    uint32_t batch_status;
-    uint32_t torque[4]; /* min, max, target, torque */
-    uint32_t angle[4];  /* min, max, target, angle */
-    const uint8_t *time;
-    const uint8_t *change_time;
+    KIND_CLOSE = 512
 };
 
 /* Is the slice exactly one record of this kind with a payload of this size? */
@@ -240,61 +289,19 @@ static bool is_record(const uint8_t *slice, size_t length, uint32_t kind, size_t
         && little_endian(slice + 2, 2) == kind;
 }
 
-static bool read_settings(const uint8_t *payload, struct settings *settings)
+/* Are the fields of a payload good, from the first to the last? */
+static bool fields_good(const uint8_t *payload, enum field_name first, enum field_name last)
 {
-    struct reader reader = { payload };
-    settings->cell = take_number(&reader, 2);
-    settings->channel = take_number(&reader, 1);
-    uint32_t granted = take_number(&reader, 1);
-    settings->granted = granted == 1;
-    memcpy(settings->name, take_bytes(&reader, TEXT_BYTES), TEXT_BYTES);
-    settings->last = take_number(&reader, 4);
-    return settings->cell <= 9999 && settings->channel <= 99 && granted <= 1
-        && is_text(settings->name, TEXT_BYTES);
-}
-
-static void write_settings(struct writer *writer, const struct settings *settings)
-{
-    put_number(writer, 2, settings->cell);
-    put_number(writer, 1, settings->channel);
-    put_number(writer, 1, settings->granted);
-    put_bytes(writer, settings->name, TEXT_BYTES);
-    put_number(writer, 4, settings->last);
-}
-
-static bool all_at_most(const uint32_t *values, size_t count, uint32_t greatest)
-{
-    for (size_t i = 0; i < count; i++)
-        if (values[i] > greatest)
+    for (unsigned name = first; name <= last; name++) {
+        const struct field *field = &FIELDS[name];
+        const uint8_t *bytes = payload + field->offset;
+        bool good = field->sort == NUMBER ? little_endian(bytes, field->size) <= field->greatest
+            : field->sort == TEXT ? is_text(bytes, field->size)
+            : is_time(bytes);
+        if (!good)
             return false;
+    }
     return true;
-}
-
-static bool read_tightening(const uint8_t *payload, struct tightening *result)
-{
-    struct reader reader = { payload };
-    result->identifier = take_bytes(&reader, TEXT_BYTES);
-    result->job = take_number(&reader, 1);
-    result->set = take_number(&reader, 2);
-    result->batch_size = take_number(&reader, 2);
-    result->batch_counter = take_number(&reader, 2);
-    result->status = take_number(&reader, 1);
-    result->torque_status = take_number(&reader, 1);
-    result->angle_status = take_number(&reader, 1);
-    for (size_t i = 0; i < 4; i++)
-        result->torque[i] = take_number(&reader, 4);
-    for (size_t i = 0; i < 4; i++)
-        result->angle[i] = take_number(&reader, 4);
-    result->time = take_bytes(&reader, TIME_BYTES);
-    result->change_time = take_bytes(&reader, TIME_BYTES);
-    result->batch_status = take_number(&reader, 1);
-    return is_text(result->identifier, TEXT_BYTES)
-        && result->job <= 99 && result->set <= 999
-        && result->batch_size <= 9999 && result->batch_counter <= 9999
-        && result->status <= 1 && result->torque_status <= 2 && result->angle_status <= 2
-        && all_at_most(result->torque, 4, 999999) && all_at_most(result->angle, 4, 99999)
-        && is_time(result->time) && is_time(result->change_time)
-        && result->batch_status <= 2;
 }
 
 /* ---------------------------------------------------------------- the table */
@@ -317,6 +324,12 @@ static_assert(SESSIONS_AT + SESSIONS * SESSION_TABLE_BYTES <= INDEPENDENT_TABLE_
 static unsigned held_at_most(enum kind kind)
 {
     return kind == IDENTIFIER ? IDENTIFIERS_HELD : TIGHTENINGS_HELD;
+}
+
+/* Where the notices that a session holds stand, the open one first. */
+static uint8_t *notices(struct session *session, enum kind kind)
+{
+    return kind == IDENTIFIER ? session->identifier[0] : session->result[0];
 }
 
 static unsigned revision_at_most(enum kind kind)
@@ -375,19 +388,12 @@ static bool load_run(struct reader *reader, struct session *session)
 }
 
 /* Of the notices' places only the first `count` are read; the counts are tested before. */
-static bool load_notices(struct reader *reader, struct session *session)
+static bool load_notices(struct reader *reader, struct session *session, enum kind kind)
 {
-    bool texts = true;
-    for (unsigned i = 0; i < session->subscription[IDENTIFIER].count; i++) {
-        memcpy(session->identifier[i], reader->at + i * TEXT_BYTES, TEXT_BYTES);
-        texts = texts && is_text(session->identifier[i], TEXT_BYTES);
-    }
-    reader->at += IDENTIFIERS_HELD * TEXT_BYTES;
-    for (unsigned i = 0; i < session->subscription[TIGHTENING].count; i++) {
-        memcpy(session->result[i], reader->at + i * RESULT_BYTES, RESULT_BYTES);
-        texts = texts && is_text(session->result[i], RESULT_BYTES);
-    }
-    return texts;
+    size_t held = session->subscription[kind].count * NOTICE_BYTES[kind];
+    const uint8_t *bytes = take_bytes(reader, held_at_most(kind) * NOTICE_BYTES[kind]);
+    memcpy(notices(session, kind), bytes, held);
+    return is_text(bytes, held);
 }
 
 static bool load_session(const uint8_t *bytes, struct session *session)
@@ -406,7 +412,8 @@ static bool load_session(const uint8_t *bytes, struct session *session)
         if (!load_subscription(&reader, &session->subscription[kind], (enum kind)kind,
                                session->phase))
             return false;
-    return load_notices(&reader, session);
+    return load_notices(&reader, session, IDENTIFIER)
+        && load_notices(&reader, session, TIGHTENING);
 }
 
 /* Reads the table; false where it is not well formed. */
@@ -415,7 +422,8 @@ static bool load(const uint8_t *table, struct state *state)
     struct reader reader = { table };
     if (memcmp(take_bytes(&reader, sizeof MARK), MARK, sizeof MARK) != 0)
         return false;
-    if (!read_settings(take_bytes(&reader, SETTINGS_BYTES), &state->settings))
+    memcpy(state->settings, take_bytes(&reader, SETTINGS_BYTES), SETTINGS_BYTES);
+    if (!fields_good(state->settings, CELL, LAST))
         return false;
     memcpy(state->in_force, take_bytes(&reader, TEXT_BYTES), TEXT_BYTES);
     if (!is_text(state->in_force, TEXT_BYTES))
@@ -441,18 +449,16 @@ static void save_session(uint8_t *bytes, const struct session *session)
         put_number(&writer, 1, part->count);
         put_number(&writer, 1, part->clock);
     }
-    for (unsigned i = 0; i < session->subscription[IDENTIFIER].count; i++)
-        memcpy(writer.at + i * TEXT_BYTES, session->identifier[i], TEXT_BYTES);
-    writer.at += IDENTIFIERS_HELD * TEXT_BYTES;
-    for (unsigned i = 0; i < session->subscription[TIGHTENING].count; i++)
-        memcpy(writer.at + i * RESULT_BYTES, session->result[i], RESULT_BYTES);
+    memcpy(writer.at, session->identifier, session->subscription[IDENTIFIER].count * TEXT_BYTES);
+    writer.at += sizeof session->identifier;
+    memcpy(writer.at, session->result, session->subscription[TIGHTENING].count * RESULT_BYTES);
 }
 
 static void save(uint8_t *table, const struct state *state)
 {
     struct writer writer = { table };
     put_bytes(&writer, MARK, sizeof MARK);
-    write_settings(&writer, &state->settings);
+    put_bytes(&writer, state->settings, SETTINGS_BYTES);
     put_bytes(&writer, state->in_force, TEXT_BYTES);
     for (unsigned s = 0; s < SESSIONS; s++)
         save_session(table + SESSIONS_AT + s * SESSION_TABLE_BYTES, &state->session[s]);
@@ -511,19 +517,6 @@ static void add_digits(struct frame *frame, size_t width, uint32_t value)
     frame->length += width;
 }
 
-/* A field with its two-digit number before it. */
-static void add_number_field(struct frame *frame, unsigned field, size_t width, uint32_t value)
-{
-    add_digits(frame, 2, field);
-    add_digits(frame, width, value);
-}
-
-static void add_text_field(struct frame *frame, unsigned field, const uint8_t *text, size_t count)
-{
-    add_digits(frame, 2, field);
-    add_bytes(frame, text, count);
-}
-
 /* Begins with the header; the length is put in when the frame is sent. */
 static struct frame begin_frame(unsigned mid, unsigned revision, char acknowledge)
 {
@@ -558,18 +551,64 @@ static void send_error(struct output *output, unsigned s, unsigned mid, unsigned
     send_frame(output, s, &frame);
 }
 
-/* Fields 01 to 03, with which 0002 and 0061 begin. */
-static void add_controller(struct frame *frame, const struct settings *settings)
+/* A row is a field and the width in which it is written; a layout is so many rows of a frame,
+   and whether each field has its two-digit number before it. */
+struct row {
+    enum field_name name;
+    unsigned width;
+};
+
+struct layout {
+    bool numbered;
+    const struct row *rows;
+    unsigned count;
+};
+
+static const struct row IDENTIFIER_ROWS[] = {
+    { IDENTIFIER_TEXT, 25 }, { BLANK, 25 }, { BLANK, 25 }, { BLANK, 25 }
+};
+
+static const struct row RESULT_ROWS[] = {
+    { CELL, 4 }, { CHANNEL, 2 }, { NAME, 25 }, { IDENTIFIER_TEXT, 25 },
+    { JOB, 2 }, { PARAMETER_SET, 3 }, { BATCH_SIZE, 4 }, { BATCH_COUNTER, 4 },
+    { TIGHTENING_STATUS, 1 }, { TORQUE_STATUS, 1 }, { ANGLE_STATUS, 1 },
+    { TORQUE_MIN, 6 }, { TORQUE_MAX, 6 }, { TORQUE_TARGET, 6 }, { TORQUE, 6 },
+    { ANGLE_MIN, 5 }, { ANGLE_MAX, 5 }, { ANGLE_TARGET, 5 }, { ANGLE, 5 },
+    { TIGHTENED_AT, 19 }, { SET_CHANGED_AT, 19 }, { BATCH_STATUS, 1 }, { RESULT_NUMBER, 10 }
+};
+
+static const struct layout STARTED_1 = { true, RESULT_ROWS, 3 }; /* cell, channel, name */
+static const struct layout IDENTIFIER_1 = { true, IDENTIFIER_ROWS, 1 };
+static const struct layout IDENTIFIER_2 = { true, IDENTIFIER_ROWS, 4 };
+static const struct layout RESULT_1 = { true, RESULT_ROWS, 23 };
+
+static void add_field(struct frame *frame, const struct row *row, const uint8_t *const *sources)
 {
-    add_number_field(frame, 1, 4, settings->cell);
-    add_number_field(frame, 2, 2, settings->channel);
-    add_text_field(frame, 3, settings->name, TEXT_BYTES);
+    const struct field *field = &FIELDS[row->name];
+    const uint8_t *bytes = sources[field->source] + field->offset;
+    if (field->sort == SPACES)
+        add_filling(frame, FAULT == PARTS_ZERO_FILLED ? '0' : ' ', row->width);
+    else if (field->sort == NUMBER)
+        add_digits(frame, row->width, little_endian(bytes, field->size));
+    else
+        add_bytes(frame, bytes, row->width);
 }
 
-static void send_started(struct output *output, unsigned s, const struct settings *settings)
+static void add_fields(struct frame *frame, const struct layout *layout,
+                       const uint8_t *settings, const uint8_t *event)
+{
+    const uint8_t *const sources[SOURCES] = { [SETTINGS] = settings, [EVENT] = event };
+    for (unsigned i = 0; i < layout->count; i++) {
+        if (layout->numbered)
+            add_digits(frame, 2, i + 1);
+        add_field(frame, &layout->rows[i], sources);
+    }
+}
+
+static void send_started(struct output *output, unsigned s, const uint8_t *settings)
 {
     struct frame frame = begin_frame(2, 1, ' ');
-    add_controller(&frame, settings);
+    add_fields(&frame, &STARTED_1, settings, NULL);
     send_frame(output, s, &frame);
 }
 
@@ -580,58 +619,6 @@ static void send_mirrored(struct output *output, unsigned s, const uint8_t *mess
     add_bytes(&frame, message, HEADER_BYTES);
     add_filling(&frame, 0, 1);
     put_record(output, KIND_FRAME + s, frame.bytes, frame.length);
-}
-
-static struct frame begin_notice(const struct subscription *part, unsigned mid)
-{
-    return begin_frame(mid, part->revision, part->free ? '1' : '0');
-}
-
-static void send_identifier(struct output *output, unsigned s, const struct subscription *part,
-                            const uint8_t *identifier)
-{
-    struct frame frame = begin_notice(part, 52);
-    add_text_field(&frame, 1, identifier, TEXT_BYTES);
-    if (part->revision >= 2)
-        for (unsigned field = 2; field <= 4; field++) {
-            add_digits(&frame, 2, field);
-            add_filling(&frame, FAULT == PARTS_ZERO_FILLED ? '0' : ' ', TEXT_BYTES);
-        }
-    send_frame(output, s, &frame);
-}
-
-static void send_result(struct output *output, unsigned s, const struct subscription *part,
-                        const uint8_t *result)
-{
-    struct frame frame = begin_notice(part, 61);
-    add_bytes(&frame, result, RESULT_BYTES);
-    send_frame(output, s, &frame);
-}
-
-/* The data field of 0061 revision 1, made once when the tightening comes. */
-static void make_result(uint8_t *result, const struct settings *settings,
-                        const struct tightening *tightening, const uint8_t *identifier)
-{
-    struct frame frame = begin_frame(61, 1, ' ');
-    add_controller(&frame, settings);
-    add_text_field(&frame, 4, identifier, TEXT_BYTES);
-    add_number_field(&frame, 5, 2, tightening->job);
-    add_number_field(&frame, 6, 3, tightening->set);
-    add_number_field(&frame, 7, 4, tightening->batch_size);
-    add_number_field(&frame, 8, 4, tightening->batch_counter);
-    add_number_field(&frame, 9, 1, tightening->status);
-    add_number_field(&frame, 10, 1, tightening->torque_status);
-    add_number_field(&frame, 11, 1, tightening->angle_status);
-    for (unsigned i = 0; i < 4; i++)
-        add_number_field(&frame, 12 + i, 6, tightening->torque[i]);
-    for (unsigned i = 0; i < 4; i++)
-        add_number_field(&frame, 16 + i, 5, tightening->angle[i]);
-    add_text_field(&frame, 20, tightening->time, TIME_BYTES);
-    add_text_field(&frame, 21, tightening->change_time, TIME_BYTES);
-    add_number_field(&frame, 22, 1, tightening->batch_status);
-    add_number_field(&frame, 23, 10, settings->last);
-    assert(frame.length == HEADER_BYTES + RESULT_BYTES);
-    memcpy(result, frame.bytes + HEADER_BYTES, RESULT_BYTES);
 }
 
 /* ---------------------------------------------------------------- notices */
@@ -646,25 +633,29 @@ static bool gets(const struct session *session, enum kind kind)
     return session->phase == STARTED && session->subscription[kind].subscribed;
 }
 
-/* Planted: a result with a blank identifier is stamped only now. */
-static void stamp_late(const struct state *state, uint8_t *result)
+/* Puts out a copy of a notice: an identifier, or the data field of a result. */
+static void send_notice(const struct state *state, unsigned s, enum kind kind,
+                        const uint8_t *notice, struct output *output)
 {
-    enum { IDENTIFIER_AT = 39 };
-    if (all_spaces(result + IDENTIFIER_AT, TEXT_BYTES))
-        memcpy(result + IDENTIFIER_AT, state->in_force, TEXT_BYTES);
+    const struct subscription *part = &state->session[s].subscription[kind];
+    struct frame frame = begin_frame(kind == IDENTIFIER ? 52 : 61, part->revision,
+                                     part->free ? '1' : '0');
+    if (kind == IDENTIFIER)
+        add_fields(&frame, part->revision >= 2 ? &IDENTIFIER_2 : &IDENTIFIER_1, state->settings,
+                   notice);
+    else
+        add_bytes(&frame, notice, RESULT_BYTES);
+    if (FAULT == STAMPED_WHEN_SENT && kind == TIGHTENING) { /* only now, where it is blank */
+        uint8_t *identifier = frame.bytes + HEADER_BYTES + 39;
+        if (all_spaces(identifier, TEXT_BYTES))
+            memcpy(identifier, state->in_force, TEXT_BYTES);
+    }
+    send_frame(output, s, &frame);
 }
 
-/* Puts out a copy of the open notice. */
 static void send_open(struct state *state, unsigned s, enum kind kind, struct output *output)
 {
-    struct session *session = &state->session[s];
-    const struct subscription *part = &session->subscription[kind];
-    if (FAULT == STAMPED_WHEN_SENT && kind == TIGHTENING)
-        stamp_late(state, session->result[0]);
-    if (kind == IDENTIFIER)
-        send_identifier(output, s, part, session->identifier[0]);
-    else
-        send_result(output, s, part, session->result[0]);
+    send_notice(state, s, kind, notices(&state->session[s], kind), output);
 }
 
 static void drop_open(struct session *session, enum kind kind)
@@ -673,10 +664,8 @@ static void drop_open(struct session *session, enum kind kind)
     part->count -= 1;
     if (FAULT != CLOCK_NOT_RESET || part->count == 0)
         part->clock = 0;
-    if (kind == IDENTIFIER)
-        memmove(session->identifier, session->identifier + 1, part->count * TEXT_BYTES);
-    else
-        memmove(session->result, session->result + 1, part->count * RESULT_BYTES);
+    memmove(notices(session, kind), notices(session, kind) + NOTICE_BYTES[kind],
+            part->count * NOTICE_BYTES[kind]);
 }
 
 /* Ends the open notice and sends the one behind it, if there is one. */
@@ -704,15 +693,12 @@ static void acknowledge(struct state *state, unsigned s, enum kind kind, struct 
 }
 
 /* Puts the newest notice at its place in the queue; it goes out at once if it is alone. */
-static void hold(struct state *state, unsigned s, enum kind kind, const uint8_t *content,
+static void hold(struct state *state, unsigned s, enum kind kind, const uint8_t *notice,
                  struct output *output)
 {
     struct session *session = &state->session[s];
     struct subscription *part = &session->subscription[kind];
-    if (kind == IDENTIFIER)
-        memcpy(session->identifier[part->count], content, TEXT_BYTES);
-    else
-        memcpy(session->result[part->count], content, RESULT_BYTES);
+    memcpy(notices(session, kind) + part->count * NOTICE_BYTES[kind], notice, NOTICE_BYTES[kind]);
     part->count += 1;
     if (FAULT == ARRIVAL_RESETS_CLOCK)
         part->clock = 0;
@@ -722,84 +708,66 @@ static void hold(struct state *state, unsigned s, enum kind kind, const uint8_t 
     }
 }
 
-/* An identifier, scanned or downloaded, for one session; always taken. */
-static void offer_identifier(struct state *state, unsigned s, const uint8_t *identifier,
-                             struct output *output)
+/* A notice for one session; is it taken? A newer identifier replaces the waiting one. */
+static bool offer(struct state *state, unsigned s, enum kind kind, const uint8_t *notice,
+                  struct output *output)
 {
-    struct session *session = &state->session[s];
-    struct subscription *part = &session->subscription[IDENTIFIER];
+    struct subscription *part = &state->session[s].subscription[kind];
     if (part->free && part->count == 0) {
-        send_identifier(output, s, part, identifier);
-        return;
-    }
-    if (part->count == IDENTIFIERS_HELD) {
-        if (FAULT == WAITING_NOT_REPLACED)
-            return;
-        part->count -= 1;
-    }
-    hold(state, s, IDENTIFIER, identifier, output);
-}
-
-/* A result for one session; is it taken? */
-static bool offer_result(struct state *state, unsigned s, const uint8_t *result,
-                         struct output *output)
-{
-    struct session *session = &state->session[s];
-    struct subscription *part = &session->subscription[TIGHTENING];
-    if (part->free && part->count == 0) {
-        send_result(output, s, part, result);
+        send_notice(state, s, kind, notice, output);
         return FAULT != FREE_SESSION_NOT_TAKEN;
     }
-    if (part->count == TIGHTENINGS_HELD)
-        return false;
-    hold(state, s, TIGHTENING, result, output);
+    if (part->count == held_at_most(kind)) {
+        if (kind == TIGHTENING)
+            return false;
+        if (FAULT == WAITING_NOT_REPLACED)
+            return true;
+        part->count -= 1;
+    }
+    hold(state, s, kind, notice, output);
     return true;
 }
 
-/* Makes the identifier the one in force and hands it to all who asked; answers who took it. */
-static uint64_t identifier_event(struct state *state, const uint8_t *identifier,
-                                 unsigned left_out, struct output *output)
+/* Hands a notice to all who asked for its kind; answers who took it. */
+static uint64_t offer_all(struct state *state, enum kind kind, const uint8_t *notice,
+                          unsigned left_out, struct output *output)
 {
     uint64_t taken = 0;
-    memcpy(state->in_force, identifier, TEXT_BYTES);
     for (unsigned i = 0; i < SESSIONS; i++) {
         unsigned s = in_turn(i);
-        if (s == left_out || !gets(&state->session[s], IDENTIFIER))
+        if (s == left_out || !gets(&state->session[s], kind))
             continue;
-        offer_identifier(state, s, identifier, output);
-        if (FAULT != FREE_SESSION_NOT_TAKEN || !state->session[s].subscription[IDENTIFIER].free)
+        if (offer(state, s, kind, notice, output))
             taken |= UINT64_C(1) << s;
     }
     return taken;
 }
 
-/* The tool's own identifier, or where that is all spaces, the one in force. */
-static const uint8_t *meant_identifier(const uint8_t *own, const uint8_t *in_force)
+/* An identifier, scanned or downloaded: it becomes the one in force. */
+static uint64_t identifier_event(struct state *state, const uint8_t *identifier,
+                                 unsigned left_out, struct output *output)
 {
-    return all_spaces(own, TEXT_BYTES) ? in_force : own;
+    memcpy(state->in_force, identifier, TEXT_BYTES);
+    return offer_all(state, IDENTIFIER, identifier, left_out, output);
 }
 
-static uint64_t tightening_event(struct state *state, const struct tightening *tightening,
+/* The data field of a result is made once, when the tightening comes: with the next number, and
+   the tool's own identifier or, where that is all spaces, the one in force. */
+static uint64_t tightening_event(struct state *state, const uint8_t *tightening,
                                  struct output *output)
 {
-    uint64_t taken = 0;
-    uint8_t result[RESULT_BYTES];
-    const uint8_t *identifier = meant_identifier(tightening->identifier, state->in_force);
-    if (FAULT == STAMPED_WHEN_SENT)
-        identifier = tightening->identifier;
-    state->settings.last += 1;
-    make_result(result, &state->settings, tightening, identifier);
-    for (unsigned i = 0; i < SESSIONS; i++) {
-        unsigned s = in_turn(i);
-        if (!gets(&state->session[s], TIGHTENING))
-            continue;
-        if (FAULT == STAMPED_WHEN_SENT && state->session[s].subscription[TIGHTENING].free)
-            stamp_late(state, result);
-        if (offer_result(state, s, result, output))
-            taken |= UINT64_C(1) << s;
-    }
-    if (FAULT == NUMBER_ONLY_WHEN_TAKEN && taken == 0)
-        state->settings.last -= 1;
+    uint8_t told[TIGHTENING_BYTES + 4];
+    struct frame result = { .length = 0 };
+    uint32_t number = number_in(state->settings, LAST) + 1;
+    memcpy(told, tightening, TIGHTENING_BYTES);
+    if (all_spaces(told, TEXT_BYTES) && FAULT != STAMPED_WHEN_SENT)
+        memcpy(told, state->in_force, TEXT_BYTES);
+    put_number_in(told, RESULT_NUMBER, number);
+    add_fields(&result, &RESULT_1, state->settings, told);
+    assert(result.length == RESULT_BYTES);
+    uint64_t taken = offer_all(state, TIGHTENING, result.bytes, SESSIONS, output);
+    if (FAULT != NUMBER_ONLY_WHEN_TAKEN || taken != 0)
+        put_number_in(state->settings, LAST, number);
     return taken;
 }
 
@@ -1005,7 +973,8 @@ static void download(struct state *state, unsigned s, const struct message *mess
 {
     const uint8_t *data = message->bytes + HEADER_BYTES;
     size_t count = message->length - HEADER_BYTES;
-    if (FAULT == GRANT_BEFORE_DATA && !state->settings.granted) {
+    bool granted = number_in(state->settings, GRANTED) == 1;
+    if (FAULT == GRANT_BEFORE_DATA && !granted) {
         send_error(output, s, MID_DOWNLOAD, NOT_GRANTED);
         return;
     }
@@ -1013,7 +982,7 @@ static void download(struct state *state, unsigned s, const struct message *mess
         send_error(output, s, MID_DOWNLOAD, INVALID_DATA);
         return;
     }
-    if (!state->settings.granted) {
+    if (!granted) {
         send_error(output, s, MID_DOWNLOAD, NOT_GRANTED);
         return;
     }
@@ -1189,7 +1158,7 @@ static void message_when_opened(struct state *state, unsigned s, const struct me
     }
     session->phase = STARTED;
     session->idle = 0;
-    send_started(output, s, &state->settings);
+    send_started(output, s, state->settings);
 }
 
 /* ---------------------------------------------------------------- runs */
@@ -1312,9 +1281,10 @@ uint64_t independent_start(uint8_t *table, size_t table_len,
     if (table_len < INDEPENDENT_TABLE_BYTES)
         return refuse(answer, TABLE_SHORT);
     if (!is_record(settings, settings_len, KIND_SETTINGS, SETTINGS_BYTES)
-        || !read_settings(settings + RECORD_HEADER_BYTES, &state.settings))
+        || !fields_good(settings + RECORD_HEADER_BYTES, CELL, LAST))
         return refuse(answer, SETTINGS_BAD);
-    if (FAULT == FULL_SETTINGS_REFUSED && state.settings.last == LAST_NUMBER_GREATEST)
+    memcpy(state.settings, settings + RECORD_HEADER_BYTES, SETTINGS_BYTES);
+    if (FAULT == FULL_SETTINGS_REFUSED && number_in(state.settings, LAST) == LAST_NUMBER_GREATEST)
         return refuse(answer, SETTINGS_BAD);
     memset(state.in_force, ' ', TEXT_BYTES);
     if (FAULT == START_KEEPS_IDENTIFIER) {
@@ -1409,16 +1379,15 @@ uint64_t independent_tick(uint8_t *table, size_t table_len,
     return finish(table, &state, output, &gathered, answer, 0, 0);
 }
 
-/* Numbers 7 and 8 for a tightening record; fills in what it reports. */
-static uint64_t judge_tightening(const struct state *state, const uint8_t *record, size_t length,
-                                 struct tightening *tightening)
+/* Numbers 7 and 8 for a tightening record. */
+static uint64_t judge_tightening(const struct state *state, const uint8_t *record, size_t length)
 {
-    bool used_up = state->settings.last == LAST_NUMBER_GREATEST;
+    bool used_up = number_in(state->settings, LAST) == LAST_NUMBER_GREATEST;
     if (!is_record(record, length, KIND_TIGHTENING, TIGHTENING_BYTES))
         return RECORD_BAD;
     if (FAULT == EIGHT_BEFORE_SEVEN && used_up)
         return NUMBERS_USED_UP;
-    if (!read_tightening(record + RECORD_HEADER_BYTES, tightening))
+    if (!fields_good(record + RECORD_HEADER_BYTES, IDENTIFIER_TEXT, BATCH_STATUS))
         return RECORD_BAD;
     return used_up ? NUMBERS_USED_UP : DONE;
 }
@@ -1426,7 +1395,7 @@ static uint64_t judge_tightening(const struct state *state, const uint8_t *recor
 static bool is_scanned(const uint8_t *record, size_t length)
 {
     return is_record(record, length, KIND_SCANNED, TEXT_BYTES)
-        && is_text(record + RECORD_HEADER_BYTES, TEXT_BYTES);
+        && fields_good(record + RECORD_HEADER_BYTES, IDENTIFIER_TEXT, IDENTIFIER_TEXT);
 }
 
 uint64_t independent_record(uint8_t *table, size_t table_len,
@@ -1436,7 +1405,6 @@ uint64_t independent_record(uint8_t *table, size_t table_len,
 {
     struct state state = { 0 };
     struct output gathered = { .written = 0 };
-    struct tightening tightening;
     uint64_t taken;
     if (answer_len < INDEPENDENT_ANSWER_BYTES)
         return ANSWER_SHORT;
@@ -1446,10 +1414,10 @@ uint64_t independent_record(uint8_t *table, size_t table_len,
     if (is_scanned(record, record_len)) {
         taken = identifier_event(&state, record + RECORD_HEADER_BYTES, SESSIONS, &gathered);
     } else {
-        number = judge_tightening(&state, record, record_len, &tightening);
+        number = judge_tightening(&state, record, record_len);
         if (number != DONE)
             return refuse(answer, number);
-        taken = tightening_event(&state, &tightening, &gathered);
+        taken = tightening_event(&state, record + RECORD_HEADER_BYTES, &gathered);
     }
     return finish(table, &state, output, &gathered, answer, 0, taken);
 }
