@@ -343,18 +343,13 @@ class History:
             text[where] = self.pick((0x2F, 0x3A, 0x2D, 0x30, 0x20, 0x39, 0x2C, 0x2E, self.between(0, 255)))
         return bytes(text)
 
-    def bad_payload(self, kind, fields):
+    def bad_payload(self, kind):
         """With one of the fields bad, or of another size where that is the last number of the settings, which can't be bad."""
+        fields = self.settings_fields() if kind == SETTINGS else self.tightening_fields()
         name = self.pick(list(fields))
         if name == "last":
             return self.wrong_size(PAYLOADS[kind].pack(fields))
         return PAYLOADS[kind].pack({**fields, name: self.bad_value(PAYLOADS[kind].items[name], fields[name])})
-
-    def bad_tightening(self):
-        return self.bad_payload(TIGHTENING, self.tightening_fields())
-
-    def bad_settings(self):
-        return self.bad_payload(SETTINGS, self.settings_fields())
 
     def wrong_size(self, payload):
         """One byte too few or too many, or so many that only the upper byte of the length is another."""
@@ -365,9 +360,9 @@ class History:
     def bad_record(self):
         sort = self.between(0, 9)
         if sort <= 3:
-            self.put(TIGHTENING, self.bad_tightening())
+            self.put(TIGHTENING, self.bad_payload(TIGHTENING))
         elif sort == 4:
-            self.put(SETTINGS, self.bad_settings())
+            self.put(SETTINGS, self.bad_payload(SETTINGS))
         elif sort == 5:
             self.put(SCANNED, self.bad_value(PAYLOADS[SCANNED].items["identifier"], self.text()))
         elif sort == 6:
@@ -727,7 +722,7 @@ class History:
         """A start in the middle of it all, or one that is refused."""
         self.scan()
         if self.chance(0.3):
-            self.put(SETTINGS, self.bad_settings())
+            self.put(SETTINGS, self.bad_payload(SETTINGS))
             return
         self.start()
         if self.chance(0.5):
@@ -743,7 +738,7 @@ class History:
             if sort < 0.6:
                 self.tightening()
             elif sort < 0.75:
-                self.put(TIGHTENING, self.bad_tightening())
+                self.put(TIGHTENING, self.bad_payload(TIGHTENING))
             elif sort < 0.85:
                 self.put(TIGHTENING, self.wrong_size(self.tightening_payload()))
             elif sort < 0.95:

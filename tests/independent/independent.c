@@ -19,12 +19,15 @@ enum {
     HEADER_BYTES = 20,
     TEXT_BYTES = 25,       /* identifiers and the controller's name */
     TIME_BYTES = 19,
+    SETTINGS_BYTES = 33,   /* the payload of their record */
+    TIGHTENING_BYTES = 106,
+    RESULT_BYTES = 211,    /* the data field of 0061 revision 1 */
     DOWNLOAD_GREATEST = FAULT == DOWNLOAD_OF_46 ? 46 : 45, /* length of an 0050 */
     RUN_KEPT = DOWNLOAD_GREATEST,                          /* bytes of a run that anyone reads */
     RUN_GREATEST = 9999,
     RUN_COUNTED =                                          /* longer runs count as this long */
         FAULT == RUN_LENGTH_16_BITS ? 65535 : RUN_GREATEST + 1,
-    FRAME_GREATEST = 232                                   /* bytes of an 0061 with its NUL */
+    FRAME_GREATEST = HEADER_BYTES + RESULT_BYTES + 1
 };
 
 #define LAST_NUMBER_GREATEST UINT32_C(4294967295)
@@ -60,18 +63,11 @@ enum {
 
 /* ---------------------------------------------------------------- state */
 
-enum {
-    SETTINGS_BYTES = 33,
-    TIGHTENING_BYTES = 106,
-    RESULT_BYTES = TIGHTENING_BYTES + 4 /* a tightening that has its number behind it */
-};
-
 enum phase { CLOSED = 0, OPENED = 1, STARTED = 2 };
 
-/* The two kinds of notice, in the order in which a tick serves them, and what their events tell:
-   25 bytes of text, or a result. */
+/* The two kinds of notice, in the order in which a tick serves them, and what is held of each. */
 enum kind { IDENTIFIER = 0, TIGHTENING = 1, KINDS = 2 };
-static const size_t EVENT_BYTES[KINDS] = { TEXT_BYTES, RESULT_BYTES };
+static const size_t NOTICE_BYTES[KINDS] = { TEXT_BYTES, RESULT_BYTES };
 
 /* A subscription and the notices that it holds; notice 0 is the open one. */
 struct subscription {
@@ -88,7 +84,8 @@ struct session {
     unsigned run_length; /* bytes since the last NUL, at most RUN_COUNTED */
     uint8_t run[RUN_KEPT];
     struct subscription subscription[KINDS];
-    uint8_t notice[KINDS][TIGHTENINGS_HELD][RESULT_BYTES]; /* what their events tell */
+    uint8_t identifier[IDENTIFIERS_HELD][TEXT_BYTES];
+    uint8_t result[TIGHTENINGS_HELD][RESULT_BYTES];
 };
 
 struct state {
@@ -222,7 +219,8 @@ enum field_name {
 
 enum sort { NUMBER, TEXT, TIME, SPACES };
 
-/* Where the value of a field comes from: the settings, or what an event tells. */
+/* Where the value of a field comes from: the settings, or what an event tells, which is an
+   identifier, or a tightening with its number behind it. */
 enum source { SETTINGS, EVENT, SOURCES };
 
 struct field {
@@ -310,14 +308,13 @@ static bool fields_good(const uint8_t *payload, enum field_name first, enum fiel
 
 /* Layout: a mark, the settings as in their record, the identifier in force, then
    the sessions one after the other, each with room for all that it can hold.
-   Of the notices only those held are written, whose bytes may be any; the places behind them
-   mean nothing. */
+   Of the notices only those held are written; the places behind them mean nothing. */
 static const uint8_t MARK[8] = { 'o', 'p', '-', 'i', 'n', 'd', 'e', 'p' };
 
 enum {
     SUBSCRIPTION_TABLE_BYTES = 5,
     SESSION_TABLE_BYTES = 4 + RUN_KEPT + KINDS * SUBSCRIPTION_TABLE_BYTES
-        + KINDS * TIGHTENINGS_HELD * RESULT_BYTES,
+        + IDENTIFIERS_HELD * TEXT_BYTES + TIGHTENINGS_HELD * RESULT_BYTES,
     SESSIONS_AT = sizeof MARK + SETTINGS_BYTES + TEXT_BYTES
 };
 
@@ -327,6 +324,12 @@ static_assert(SESSIONS_AT + SESSIONS * SESSION_TABLE_BYTES <= INDEPENDENT_TABLE_
 static unsigned held_at_most(enum kind kind)
 {
     return kind == IDENTIFIER ? IDENTIFIERS_HELD : TIGHTENINGS_HELD;
+}
+
+/* Where the notices that a session holds stand, the open one first. */
+static uint8_t *notices(struct session *session, enum kind kind)
+{
+    return kind == IDENTIFIER ? session->identifier[0] : session->result[0];
 }
 
 static unsigned revision_at_most(enum kind kind)
@@ -384,6 +387,15 @@ static bool load_run(struct reader *reader, struct session *session)
     return memchr(session->run, 0, run_kept(session)) == NULL;
 }
 
+/* Of the notices' places only the first `count` are read; the counts are tested before. */
+static bool load_notices(struct reader *reader, struct session *session, enum kind kind)
+{
+    size_t held = session->subscription[kind].count * NOTICE_BYTES[kind];
+    const uint8_t *bytes = take_bytes(reader, held_at_most(kind) * NOTICE_BYTES[kind]);
+    memcpy(notices(session, kind), bytes, held);
+    return is_text(bytes, held);
+}
+
 static bool load_session(const uint8_t *bytes, struct session *session)
 {
     struct reader reader = { bytes };
@@ -400,10 +412,8 @@ static bool load_session(const uint8_t *bytes, struct session *session)
         if (!load_subscription(&reader, &session->subscription[kind], (enum kind)kind,
                                session->phase))
             return false;
-    for (unsigned kind = 0; kind < KINDS; kind++)
-        memcpy(session->notice[kind], take_bytes(&reader, sizeof session->notice[kind]),
-               session->subscription[kind].count * RESULT_BYTES);
-    return true;
+    return load_notices(&reader, session, IDENTIFIER)
+        && load_notices(&reader, session, TIGHTENING);
 }
 
 /* Reads the table; false where it is not well formed. */
@@ -439,10 +449,9 @@ static void save_session(uint8_t *bytes, const struct session *session)
         put_number(&writer, 1, part->count);
         put_number(&writer, 1, part->clock);
     }
-    for (unsigned kind = 0; kind < KINDS; kind++) {
-        memcpy(writer.at, session->notice[kind], session->subscription[kind].count * RESULT_BYTES);
-        writer.at += sizeof session->notice[kind];
-    }
+    memcpy(writer.at, session->identifier, session->subscription[IDENTIFIER].count * TEXT_BYTES);
+    writer.at += sizeof session->identifier;
+    memcpy(writer.at, session->result, session->subscription[TIGHTENING].count * RESULT_BYTES);
 }
 
 static void save(uint8_t *table, const struct state *state)
@@ -550,7 +559,6 @@ struct row {
 };
 
 struct layout {
-    unsigned mid;
     bool numbered;
     const struct row *rows;
     unsigned count;
@@ -569,10 +577,10 @@ static const struct row RESULT_ROWS[] = {
     { TIGHTENED_AT, 19 }, { SET_CHANGED_AT, 19 }, { BATCH_STATUS, 1 }, { RESULT_NUMBER, 10 }
 };
 
-static const struct layout STARTED_1 = { 2, true, RESULT_ROWS, 3 };
-static const struct layout IDENTIFIER_1 = { 52, true, IDENTIFIER_ROWS, 1 };
-static const struct layout IDENTIFIER_2 = { 52, true, IDENTIFIER_ROWS, 4 };
-static const struct layout RESULT_1 = { 61, true, RESULT_ROWS, 23 };
+static const struct layout STARTED_1 = { true, RESULT_ROWS, 3 }; /* cell, channel, name */
+static const struct layout IDENTIFIER_1 = { true, IDENTIFIER_ROWS, 1 };
+static const struct layout IDENTIFIER_2 = { true, IDENTIFIER_ROWS, 4 };
+static const struct layout RESULT_1 = { true, RESULT_ROWS, 23 };
 
 static void add_field(struct frame *frame, const struct row *row, const uint8_t *const *sources)
 {
@@ -586,22 +594,22 @@ static void add_field(struct frame *frame, const struct row *row, const uint8_t 
         add_bytes(frame, bytes, row->width);
 }
 
-static void send_laid_out(struct output *output, unsigned s, const struct layout *layout,
-                          unsigned revision, char acknowledge, const uint8_t *const *sources)
+static void add_fields(struct frame *frame, const struct layout *layout,
+                       const uint8_t *settings, const uint8_t *event)
 {
-    struct frame frame = begin_frame(layout->mid, revision, acknowledge);
+    const uint8_t *const sources[SOURCES] = { [SETTINGS] = settings, [EVENT] = event };
     for (unsigned i = 0; i < layout->count; i++) {
         if (layout->numbered)
-            add_digits(&frame, 2, i + 1);
-        add_field(&frame, &layout->rows[i], sources);
+            add_digits(frame, 2, i + 1);
+        add_field(frame, &layout->rows[i], sources);
     }
-    send_frame(output, s, &frame);
 }
 
-static void send_started(struct output *output, unsigned s, const struct state *state)
+static void send_started(struct output *output, unsigned s, const uint8_t *settings)
 {
-    const uint8_t *const sources[SOURCES] = { [SETTINGS] = state->settings };
-    send_laid_out(output, s, &STARTED_1, 1, ' ', sources);
+    struct frame frame = begin_frame(2, 1, ' ');
+    add_fields(&frame, &STARTED_1, settings, NULL);
+    send_frame(output, s, &frame);
 }
 
 /* The keep-alive goes back as it came. */
@@ -625,32 +633,29 @@ static bool gets(const struct session *session, enum kind kind)
     return session->phase == STARTED && session->subscription[kind].subscribed;
 }
 
-static const struct layout *layout_of(enum kind kind, unsigned revision)
-{
-    if (kind == TIGHTENING)
-        return &RESULT_1;
-    return revision >= 2 ? &IDENTIFIER_2 : &IDENTIFIER_1;
-}
-
-/* Puts out a copy of a notice. */
+/* Puts out a copy of a notice: an identifier, or the data field of a result. */
 static void send_notice(const struct state *state, unsigned s, enum kind kind,
-                        const uint8_t *event, struct output *output)
+                        const uint8_t *notice, struct output *output)
 {
     const struct subscription *part = &state->session[s].subscription[kind];
-    const uint8_t *sources[SOURCES] = { [SETTINGS] = state->settings, [EVENT] = event };
-    uint8_t stamped[RESULT_BYTES];
-    if (FAULT == STAMPED_WHEN_SENT && kind == TIGHTENING && all_spaces(event, TEXT_BYTES)) {
-        memcpy(stamped, event, sizeof stamped);
-        memcpy(stamped, state->in_force, TEXT_BYTES);
-        sources[EVENT] = stamped;
+    struct frame frame = begin_frame(kind == IDENTIFIER ? 52 : 61, part->revision,
+                                     part->free ? '1' : '0');
+    if (kind == IDENTIFIER)
+        add_fields(&frame, part->revision >= 2 ? &IDENTIFIER_2 : &IDENTIFIER_1, state->settings,
+                   notice);
+    else
+        add_bytes(&frame, notice, RESULT_BYTES);
+    if (FAULT == STAMPED_WHEN_SENT && kind == TIGHTENING) { /* only now, where it is blank */
+        uint8_t *identifier = frame.bytes + HEADER_BYTES + 39;
+        if (all_spaces(identifier, TEXT_BYTES))
+            memcpy(identifier, state->in_force, TEXT_BYTES);
     }
-    send_laid_out(output, s, layout_of(kind, part->revision), part->revision,
-                  part->free ? '1' : '0', sources);
+    send_frame(output, s, &frame);
 }
 
-static void send_open(const struct state *state, unsigned s, enum kind kind, struct output *output)
+static void send_open(struct state *state, unsigned s, enum kind kind, struct output *output)
 {
-    send_notice(state, s, kind, state->session[s].notice[kind][0], output);
+    send_notice(state, s, kind, notices(&state->session[s], kind), output);
 }
 
 static void drop_open(struct session *session, enum kind kind)
@@ -659,7 +664,8 @@ static void drop_open(struct session *session, enum kind kind)
     part->count -= 1;
     if (FAULT != CLOCK_NOT_RESET || part->count == 0)
         part->clock = 0;
-    memmove(session->notice[kind][0], session->notice[kind][1], part->count * RESULT_BYTES);
+    memmove(notices(session, kind), notices(session, kind) + NOTICE_BYTES[kind],
+            part->count * NOTICE_BYTES[kind]);
 }
 
 /* Ends the open notice and sends the one behind it, if there is one. */
@@ -687,12 +693,12 @@ static void acknowledge(struct state *state, unsigned s, enum kind kind, struct 
 }
 
 /* Puts the newest notice at its place in the queue; it goes out at once if it is alone. */
-static void hold(struct state *state, unsigned s, enum kind kind, const uint8_t *event,
+static void hold(struct state *state, unsigned s, enum kind kind, const uint8_t *notice,
                  struct output *output)
 {
     struct session *session = &state->session[s];
     struct subscription *part = &session->subscription[kind];
-    memcpy(session->notice[kind][part->count], event, EVENT_BYTES[kind]);
+    memcpy(notices(session, kind) + part->count * NOTICE_BYTES[kind], notice, NOTICE_BYTES[kind]);
     part->count += 1;
     if (FAULT == ARRIVAL_RESETS_CLOCK)
         part->clock = 0;
@@ -702,13 +708,13 @@ static void hold(struct state *state, unsigned s, enum kind kind, const uint8_t 
     }
 }
 
-/* An event for one session; is it taken? A newer identifier replaces the waiting one. */
-static bool offer(struct state *state, unsigned s, enum kind kind, const uint8_t *event,
+/* A notice for one session; is it taken? A newer identifier replaces the waiting one. */
+static bool offer(struct state *state, unsigned s, enum kind kind, const uint8_t *notice,
                   struct output *output)
 {
     struct subscription *part = &state->session[s].subscription[kind];
     if (part->free && part->count == 0) {
-        send_notice(state, s, kind, event, output);
+        send_notice(state, s, kind, notice, output);
         return FAULT != FREE_SESSION_NOT_TAKEN;
     }
     if (part->count == held_at_most(kind)) {
@@ -718,18 +724,20 @@ static bool offer(struct state *state, unsigned s, enum kind kind, const uint8_t
             return true;
         part->count -= 1;
     }
-    hold(state, s, kind, event, output);
+    hold(state, s, kind, notice, output);
     return true;
 }
 
-/* Hands an event to all who asked for its kind; answers who took it. */
-static uint64_t offer_all(struct state *state, enum kind kind, const uint8_t *event,
+/* Hands a notice to all who asked for its kind; answers who took it. */
+static uint64_t offer_all(struct state *state, enum kind kind, const uint8_t *notice,
                           unsigned left_out, struct output *output)
 {
     uint64_t taken = 0;
     for (unsigned i = 0; i < SESSIONS; i++) {
         unsigned s = in_turn(i);
-        if (s != left_out && gets(&state->session[s], kind) && offer(state, s, kind, event, output))
+        if (s == left_out || !gets(&state->session[s], kind))
+            continue;
+        if (offer(state, s, kind, notice, output))
             taken |= UINT64_C(1) << s;
     }
     return taken;
@@ -743,18 +751,21 @@ static uint64_t identifier_event(struct state *state, const uint8_t *identifier,
     return offer_all(state, IDENTIFIER, identifier, left_out, output);
 }
 
-/* A tightening becomes a result: with the next number, and the tool's own identifier or, where
-   that is all spaces, the one in force. */
+/* The data field of a result is made once, when the tightening comes: with the next number, and
+   the tool's own identifier or, where that is all spaces, the one in force. */
 static uint64_t tightening_event(struct state *state, const uint8_t *tightening,
                                  struct output *output)
 {
-    uint8_t result[RESULT_BYTES];
+    uint8_t told[TIGHTENING_BYTES + 4];
+    struct frame result = { .length = 0 };
     uint32_t number = number_in(state->settings, LAST) + 1;
-    memcpy(result, tightening, TIGHTENING_BYTES);
-    if (all_spaces(result, TEXT_BYTES) && FAULT != STAMPED_WHEN_SENT)
-        memcpy(result, state->in_force, TEXT_BYTES);
-    put_number_in(result, RESULT_NUMBER, number);
-    uint64_t taken = offer_all(state, TIGHTENING, result, SESSIONS, output);
+    memcpy(told, tightening, TIGHTENING_BYTES);
+    if (all_spaces(told, TEXT_BYTES) && FAULT != STAMPED_WHEN_SENT)
+        memcpy(told, state->in_force, TEXT_BYTES);
+    put_number_in(told, RESULT_NUMBER, number);
+    add_fields(&result, &RESULT_1, state->settings, told);
+    assert(result.length == RESULT_BYTES);
+    uint64_t taken = offer_all(state, TIGHTENING, result.bytes, SESSIONS, output);
     if (FAULT != NUMBER_ONLY_WHEN_TAKEN || taken != 0)
         put_number_in(state->settings, LAST, number);
     return taken;
@@ -772,7 +783,8 @@ static void clear_session(struct session *session, enum phase next, enum fault k
     if (FAULT == NO_FAULT)
         return;
     if (FAULT == (int)keeping) {
-        memcpy(session->notice, before.notice, sizeof before.notice);
+        memcpy(session->identifier, before.identifier, sizeof before.identifier);
+        memcpy(session->result, before.result, sizeof before.result);
         for (unsigned kind = 0; kind < KINDS; kind++) {
             session->subscription[kind].count = before.subscription[kind].count;
             session->subscription[kind].clock = before.subscription[kind].clock;
@@ -1146,7 +1158,7 @@ static void message_when_opened(struct state *state, unsigned s, const struct me
     }
     session->phase = STARTED;
     session->idle = 0;
-    send_started(output, s, state);
+    send_started(output, s, state->settings);
 }
 
 /* ---------------------------------------------------------------- runs */

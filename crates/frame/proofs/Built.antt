@@ -21,7 +21,7 @@ use Rattle.frame.specs.declared.Content.the-variants.{Started, Refused, 
 use Rattle.frame.specs.declared.Frame.{Frame}
 use Rattle.frame.specs.declared.To.{To}
 use Rattle.frame.specs.Places.{place-size, result-of, event-in}
-use Rattle.frame.specs.Layout.{layout-of, items-told, placed, Given, data-in, served}
+use Rattle.frame.specs.Layout.{layout-of, items-told, placed, Payloads, data-in, served}
 use Rattle.frame.specs.Output.{Wrote, Real, Layable, frame-length, frame-of, reply-of, record-length, Writable, Sendable}
 
 -- the longest frame
@@ -85,7 +85,7 @@ notice-served (suc (suc kind)) revision h = absurd (omega arith)
 
 -- ==== a frame that says what another says
 
-module _ {f g : Frame} (e : f ≡ g) (b : Given) where
+module _ {f g : Frame} (e : f ≡ g) (b : Payloads) where
   pub sendable : {o : List ℕ} {to : To} → Sendable o to g b → Sendable o to f b
   sendable {o} {to} h = subst (λ (x : Frame). Sendable o to x b) (sym e) h
 
@@ -99,15 +99,15 @@ module _ {f g : Frame} (e : f ≡ g) (b : Given) where
 
 -- ==== what each is
 
-pub is-0002 : (b : Given) → frame-of (reply-of 2 Started) b ≡ frame-0002 (settings-of (b .settings))
+pub is-0002 : (b : Payloads) → frame-of (reply-of 2 Started) b ≡ frame-0002 (settings-of (b .settings))
 unfolding frame-0002 data-in settings-of
 is-0002 b = refl
 
-pub is-0004 : (b : Given) (mid error : ℕ) → frame-of (reply-of 4 (Refused mid error)) b ≡ frame-0004 mid error
+pub is-0004 : (b : Payloads) (mid error : ℕ) → frame-of (reply-of 4 (Refused mid error)) b ≡ frame-0004 mid error
 unfolding frame-0004 data-in data-from characters
 is-0004 b mid error = refl
 
-pub is-0005 : (b : Given) (mid : ℕ) → frame-of (reply-of 5 (Accepted mid)) b ≡ frame-0005 mid
+pub is-0005 : (b : Payloads) (mid : ℕ) → frame-of (reply-of 5 (Accepted mid)) b ≡ frame-0005 mid
 unfolding frame-0005 data-in data-from characters
 is-0005 b mid = refl
 

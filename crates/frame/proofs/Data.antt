@@ -14,7 +14,7 @@ use Rattle.text.proofs.Lists.{drop-next, all-at}
 use Rattle.text.proofs.Puts.{Left, left-all, left-put, left-none, left-as, put-then, put-as}
 use Rattle.frame.specs.declared.Placed.{Placed}
 use Rattle.frame.specs.declared.Content.{Content}
-use Rattle.frame.specs.Layout.{layout-of, items-told, row-at, placed, placed-width, Given, shown, said-by, data-in, served}
+use Rattle.frame.specs.Layout.{layout-of, items-told, row-at, placed, placed-width, Payloads, shown, said-by, data-in, served}
 use Rattle.frame.specs.Output.{Wrote, Servable, Layable}
 use Rattle.frame.proofs.Placing.{suits, placed-shown, width-placed, all-suit}
 
@@ -36,7 +36,7 @@ module _ (numbered : Bool) (rows : List Row) (k : ℕ) (h : k < length rows) whe
 
 -- ==== the loop: the rows from k on are left to be written
 
-module _ (content : Content) (b : Given) (o₀ : List ℕ) (at : ℕ) where
+module _ (content : Content) (b : Payloads) (o₀ : List ℕ) (at : ℕ) where
   abbrev rows : List Row
   rows = layout-of content .rows
 

@@ -16,7 +16,7 @@ use Rattle.model.specs.Layouts.{identifier-rows}
 use Rattle.model.specs.Kinds.{kinds}
 use Rattle.frame.specs.declared.Content.{Content}
 use Rattle.frame.specs.declared.Content.the-variants.{Started, Refused, Accepted, Notice}
-use Rattle.frame.specs.Layout.{layout-of, items-told, items-of, item-at, place-of, placed, placed-width, Given, bytes-of, part, shown, said-by}
+use Rattle.frame.specs.Layout.{layout-of, items-told, items-of, item-at, place-of, placed, placed-width, Payloads, bytes-of, part, shown, said-by}
 use Rattle.frame.specs.Output.{Real}
 
 -- ==== value i of a payload is read from the bytes of item i
@@ -65,7 +65,7 @@ as-text width (number size greatest) bs h = absurd (false≢true h)
 as-text width (text size) bs h = ap (λ (k : ℕ). take k bs) (eqb-true size width h)
 as-text width time bs h = ap (λ (k : ℕ). take k bs) (eqb-true (item-length time) width h)
 
-module _ (told : List Item) (b : Given) where
+module _ (told : List Item) (b : Payloads) where
   abbrev said-so : Sources
   said-so = record { settings = values settings-items (b .settings); told = values told (b .told) }
 

@@ -12,10 +12,10 @@ use Rattle.text.specs.Put.{Put}
 use Rattle.text.proofs.Puts.{put-as}
 use Rattle.frame.specs.declared.Placed.{Placed}
 use Rattle.frame.specs.declared.Placed.the-variants.{Number, Text, Blank, Known}
-use Rattle.frame.specs.Layout.{Given, bytes-of, part, placed-width, shown, served}
+use Rattle.frame.specs.Layout.{Payloads, bytes-of, part, placed-width, shown, served}
 use Rattle.frame.specs.Output.{Wrote, Readable, Servable}
 
-module _ (b : Given) where
+module _ (b : Payloads) where
   abbrev serves : Placed → Bool
   serves row = served (length (b .settings)) (length (b .told)) row
 

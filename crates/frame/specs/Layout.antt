@@ -61,15 +61,15 @@ placed-row content k = placed (items-told content) (row-at (layout-of content .r
 
 -- ==== what a frame is made of, as bytes: a settings record's payload, and what it tells
 
-pub record Given : Type 0 where
+pub record Payloads : Type 0 where
   pub settings : List ℕ
   pub told : List ℕ
 
-abbrev pub bytes-of : Given → ℕ → List ℕ
+abbrev pub bytes-of : Payloads → ℕ → List ℕ
 bytes-of b from = cond (eqb from settings) (b .settings) (b .told)
 
 -- so many bytes at a place
-abbrev pub part : Given → ℕ → ℕ → ℕ → List ℕ
+abbrev pub part : Payloads → ℕ → ℕ → ℕ → List ℕ
 part b from size place = take size (drop place (bytes-of b from))
 
 abbrev pub placed-width : Placed → ℕ
@@ -79,17 +79,17 @@ placed-width (Blank width) = width
 placed-width (Known width n) = width
 
 -- the characters of a field
-unfoldable pub shown : Given → Placed → List ℕ
+unfoldable pub shown : Payloads → Placed → List ℕ
 shown b (Number width from size place) = digits width (little (part b from size place))
 shown b (Text width from place) = part b from width place
 shown b (Blank width) = spaces width
 shown b (Known width n) = digits width n
 
 -- the data: of the values that the bytes hold
-abbrev pub said-by : Content → Given → Sources
+abbrev pub said-by : Content → Payloads → Sources
 said-by content b = record { settings = values settings-items (b .settings); told = values (items-told content) (b .told) }
 
-unfoldable pub data-in : Content → Given → List ℕ
+unfoldable pub data-in : Content → Payloads → List ℕ
 data-in content b = data-of (layout-of content) (said-by content b)
 
 -- ==== which rows so many bytes can serve

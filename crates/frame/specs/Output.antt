@@ -13,7 +13,7 @@ use Rattle.model.specs.Kinds.{kinds, kind-at, copy-most}
 use Rattle.model.specs.Frames.{frame}
 use Rattle.text.specs.Put.{Put}
 use Rattle.frame.specs.Places.{place-size}
-use Rattle.frame.specs.Layout.{layout-of, items-told, placed, Given, bytes-of, placed-width, data-in, served}
+use Rattle.frame.specs.Layout.{layout-of, items-told, placed, Payloads, bytes-of, placed-width, data-in, served}
 use Rattle.frame.specs.declared.Placed.{Placed}
 use Rattle.frame.specs.declared.Content.{Content}
 use Rattle.frame.specs.declared.Content.the-variants.{Started, Refused, Accepted, Notice}
@@ -29,11 +29,11 @@ pub record Wrote (o : List ℕ) (at n : ℕ) (bs : List ℕ) (next : ℕ) (o′ 
   pub put : Put o at bs next o′
 
 -- so many bytes at a place are there
-abbrev pub Readable : Given → ℕ → ℕ → ℕ → Type 0
+abbrev pub Readable : Payloads → ℕ → ℕ → ℕ → Type 0
 Readable b from size place = place + size ≤ length (bytes-of b from)
 
 -- a row can be written: its bytes are there, and an output of so many bytes has room for it
-pub record Servable (b : Given) (row : Placed) (at size : ℕ) : Type 0 where
+pub record Servable (b : Payloads) (row : Placed) (at size : ℕ) : Type 0 where
   pub sound : served (length (b .settings)) (length (b .told)) row ≡ true
   pub room : at + placed-width row ≤ size
 
@@ -45,7 +45,7 @@ Real (Accepted mid) = Unit {0}
 Real (Notice kind revision) = kind < length kinds
 
 -- the rows of a frame can be written
-pub record Layable (content : Content) (b : Given) (at size : ℕ) : Type 0 where
+pub record Layable (content : Content) (b : Payloads) (at size : ℕ) : Type 0 where
   pub real : Real content
   pub sound : all (served (length (b .settings)) (length (b .told))) (map (placed (items-told content)) (layout-of content .rows)) ≡ true
   pub room : at + data-length (layout-of content) ≤ size
@@ -56,7 +56,7 @@ pub record Layable (content : Content) (b : Given) (at size : ℕ) : Type 0 wher
 abbrev pub frame-length : Content → ℕ
 frame-length content = header-length + data-length (layout-of content)
 
-abbrev pub frame-of : Frame → Given → List ℕ
+abbrev pub frame-of : Frame → Payloads → List ℕ
 frame-of f b = frame (f .mid) (f .revision) (f .«byte_12») (data-in (f .content) b)
 
 abbrev pub reply-of : ℕ → Content → Frame
@@ -89,7 +89,7 @@ pub record Writable (out : List ℕ) (to : To) (size : ℕ) : Type 0 where
   pub numbered : to .session < 256
 
 -- a frame can go there
-pub record Sendable (out : List ℕ) (to : To) (f : Frame) (b : Given) : Type 0 where
+pub record Sendable (out : List ℕ) (to : To) (f : Frame) (b : Payloads) : Type 0 where
   pub output : Writable out to (record-length (frame-length (f .content)))
   pub real : Real (f .content)
   pub sound : all (served (length (b .settings)) (length (b .told))) (map (placed (items-told (f .content))) (layout-of (f .content) .rows)) ≡ true

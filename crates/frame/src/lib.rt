@@ -14,7 +14,7 @@ ghost use Rattle.model.specs.Frames.{header as header-bytes, frame-0002, frame-
 ghost use Rattle.text.specs.Put.{Put};
 ghost use Rattle.frame.specs.Header.{header-of};
 ghost use Rattle.frame.specs.Places.{result-items, event-in};
-ghost use Rattle.frame.specs.Layout.{Given, layout-of, row-at, placed, placed-row, extent-of, placed-width, part, shown, data-in};
+ghost use Rattle.frame.specs.Layout.{Payloads, layout-of, row-at, placed, placed-row, extent-of, placed-width, part, shown, data-in};
 ghost use Rattle.frame.specs.Output.{
   Wrote,
   Real,
