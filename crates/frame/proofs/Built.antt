@@ -1,21 +1,21 @@
--- Frames that were put together in a scratch array, and which of the model's frames each is. Assumes nothing.
+-- Frames in their output records, and which of the model's frames each is. Assumes nothing.
 use mathlib.Core.Path.{_≡_, refl, sym, ap, ap₂, subst, _∙_}
-use Prim.Native.Nat.{ℕ, zero, suc, _+_, _≤_, _<_}
+use Prim.Native.Nat.{ℕ, zero, suc, _+_, _-_, _≤_, _<_}
 use native.Mathlib.Omega.{arith}
 use mathlib.Core.Bool.{Bool, true, false, cond}
-use mathlib.Core.List.{List, [], _∷_, _++_, map}
+use mathlib.Core.List.{List, [], _∷_, _++_, map, append-assoc}
 use lib.Dec.{eqb}
 use lib.ListN.{length, take, length-append}
-use lib.Seq.{take-all, length-take-le}
+use lib.Seq.{take-all}
 use Rattle.model.specs.Limits.{header-length, identifier-length}
-use Rattle.model.specs.Bytes.{digit-0, digit-1, all, digits}
-use Rattle.model.specs.Records.{Value, said, settings-length, settings-items, values, settings-of, tightening-of, scanned-items}
+use Rattle.model.specs.Bytes.{digit-0, digit-1, all, digits, in-bytes}
+use Rattle.model.specs.Records.{record-head, said, settings-length, settings-items, values, settings-of, tightening-of, scanned-items}
 use Rattle.model.specs.Layouts.{identifier-rows, data-from, data-of, characters, data-length, layout-0052, rows-length}
 use Rattle.model.specs.Kinds.{kinds, kind-at}
-use Rattle.model.specs.Frames.{header, frame, frame-0002, frame-0004, frame-0005, event-frame, frame-record}
+use Rattle.model.specs.Frames.{header, frame, frame-0002, frame-0004, frame-0005, event-frame, frame-kind, frame-record}
 use Rattle.text.specs.Put.{Put}
 use Rattle.text.proofs.Numbers.{digits-length}
-use Rattle.text.proofs.Puts.{put-before, put-as, put-length, scratched}
+use Rattle.text.proofs.Puts.{put-then, put-before, put-as}
 use Rattle.frame.specs.declared.Content.{Content}
 use Rattle.frame.specs.declared.Content.the-variants.{Started, Refused, Accepted, Notice}
 use Rattle.frame.specs.declared.Frame.{Frame}
@@ -24,33 +24,48 @@ use Rattle.frame.specs.Places.{place-size, result-of, event-in}
 use Rattle.frame.specs.Layout.{layout-of, items-told, placed, Payloads, data-in, served}
 use Rattle.frame.specs.Output.{Wrote, Real, Layable, frame-length, frame-of, reply-of, record-length, Writable, Sendable}
 
--- the longest frame
-abbrev pub longest : ℕ
-longest = 231
-
--- ==== the scratch array
+-- ==== a frame in its output record
 
 header-size : (size mid revision byte-12 : ℕ) → length (header size mid revision byte-12) ≡ header-length
 unfolding header
 header-size size mid revision byte-12 = simp (length-append, digits-length)
 
--- the data is written first, and its end is the frame's length
-module _ {z z₁ z₂ d : List ℕ} {n end r : ℕ} (mid revision byte-12 : ℕ) (room : header-length + n ≤ length z)
-    (w : Wrote z header-length n d end z₁) (h : (r ≡ header-length) × Put z₁ 0 (header end mid revision byte-12) r z₂) where
-  pub built-within : end ≤ length z₂
-  built-within = let p = w .place in omega (arith, put-length (h .1), put-length (w .put))
+-- a frame of so many bytes, behind the head of its record and before its NUL
+pub recorded : (s n : ℕ) (bs : List ℕ) → length bs ≡ n
+    → ((in-bytes 2 (n + 1) ++ in-bytes 2 (frame-kind s)) ++ bs) ++ in-bytes 1 0 ≡ frame-record s bs
+unfolding frame-record in-bytes
+recorded s n bs e = rw (← e, length-append bs (0 ∷ []))
 
-  pub built-length : length (take end z₂) ≡ header-length + n
-  built-length = length-take-le end z₂ built-within ∙ w .place
+framed : (s mid revision byte-12 n : ℕ) (d : List ℕ) → n ≡ header-length + length d
+    → (((in-bytes 2 (n + 1) ++ in-bytes 2 (frame-kind s)) ++ header n mid revision byte-12) ++ d) ++ in-bytes 1 0
+    ≡ frame-record s (frame mid revision byte-12 d)
+unfolding frame
+framed s mid revision byte-12 n d e =
+    let h = header n mid revision byte-12 in
+    let l : length (h ++ d) ≡ n = length-append h d ∙ ap (λ (k : ℕ). k + length d) (header-size n mid revision byte-12) ∙ sym e in
+    ap (λ (x : List ℕ). x ++ in-bytes 1 0) (append-assoc (in-bytes 2 (n + 1) ++ in-bytes 2 (frame-kind s)) h d)
+    ∙ recorded s n (h ++ d) l ∙ ap (λ (k : ℕ). frame-record s (header k mid revision byte-12 ++ d)) e
 
-  pub built : take end z₂ ≡ frame mid revision byte-12 d
-  unfolding frame
-  built =
-      let e : end ≡ header-length + length d = w .put .place in
-      let p = w .place in
-      let l = length-append (header end mid revision byte-12) d in
-      let s = header-size end mid revision byte-12 in
-      scratched (omega arith) (put-before (w .put) (h .1) (h .0)) ∙ ap (λ (k : ℕ). header k mid revision byte-12 ++ d) e
+-- the data is written first, then the record's head, the header and the NUL
+pub wrote-frame : {o o₁ o₂ o₃ o₄ d : List ℕ} {at n end r₁ r₂ r₃ : ℕ} (s mid revision byte-12 : ℕ)
+    → Wrote o (at + record-head + header-length) n d end o₁
+    → Wrote o₁ at record-head (in-bytes 2 (end - (at + record-head) + 1) ++ in-bytes 2 (frame-kind s)) r₁ o₂
+    → Wrote o₂ (at + record-head) header-length (header (end - (at + record-head)) mid revision byte-12) r₂ o₃
+    → (r₃ ≡ end + 1) × Put o₃ end (in-bytes 1 0) r₃ o₄
+    → Wrote o at (record-length (header-length + n)) (frame-record s (frame mid revision byte-12 d)) r₃ o₄
+wrote-frame {o₂ = o₂} {o₃ = o₃} {d = d} {at = at} {n = n} {end = end} {r₂ = r₂} s mid revision byte-12 a b c e =
+    let p = a .place in
+    let q = a .put .place in
+    let g = b .place in
+    let h = c .place in
+    let i = e .0 in
+    let bytes = header (end - (at + record-head)) mid revision byte-12 in
+    record {
+      place = omega arith;
+      put =
+          put-as (framed s mid revision byte-12 (end - (at + record-head)) d (omega arith))
+          (put-then (put-before (a .put) (put-then (b .put) (subst (λ (k : ℕ). Put o₂ k bytes r₂ o₃) (sym g) (c .put))) (omega arith)) (e .1));
+    }
 
 -- ==== how long they are, and which bytes serve them
 
@@ -62,14 +77,6 @@ pub copy-short : (kind revision : ℕ) → kind < length kinds → frame-length 
 copy-short zero revision h = parts-short (eqb revision 1)
 copy-short (suc zero) revision h = omega arith
 copy-short (suc (suc kind)) revision h = absurd (omega arith)
-
-pub content-short : (content : Content) → Real content → frame-length content ≤ longest
-content-short Started h = omega arith
-content-short (Refused mid error) h = omega arith
-content-short (Accepted mid) h = omega arith
-content-short (Notice zero revision) h = let s = copy-short 0 revision h in omega arith
-content-short (Notice (suc zero) revision) h = omega arith
-content-short (Notice (suc (suc kind)) revision) h = absurd (omega arith)
 
 parts-served : (b : Bool)
     → all (served settings-length identifier-length) (map (placed scanned-items) (take (cond b 1 4) identifier-rows)) ≡ true

@@ -1,11 +1,11 @@
 // Frames: the header of a received one is read, and those that we send are written by their rows.
 ghost use mathlib.Core.Path.{_≡_};
 ghost use mathlib.Core.Bool.{true, cond, _||_};
-ghost use mathlib.Core.List.{[]};
+ghost use mathlib.Core.List.{[], _++_};
 ghost use Prim.Native.Nat.{_+_, _≤_, _<_};
 ghost use lib.ListN.{length, take, drop};
 ghost use Rattle.model.specs.Limits.{header-length};
-ghost use Rattle.model.specs.Bytes.{digit-0, digit-1, is-digit, is-space, all, little};
+ghost use Rattle.model.specs.Bytes.{digit-0, digit-1, is-digit, is-space, all, little, in-bytes};
 ghost use Rattle.model.specs.Runs.{is-flag as is-flag-byte, revision-of, is-message as is-message-run};
 ghost use Rattle.model.specs.Records.{record-head, settings-of, settings-length, scanned-items};
 ghost use Rattle.model.specs.Layouts.{controller-rows, identifier-rows, result-rows, data-length};
@@ -440,16 +440,13 @@ const FRAME_KIND: u64 = 256;
 
 const CLOSE_KIND: u64 = 512;
 
-// A frame, with its NUL.
-fn put_record(out: &mut [u8], to: To, frame: &[u8]) -> usize
-    requires { ⌜ Writable (now out) to (record-length (length (now frame))) ⌝ }
-    ensures { λ r. ⌜ (r ≡ to .at + record-length (length (now (frame .entry))))
-        × Put (now (out .entry)) (to .at) (frame-record (to .session) (now (frame .entry))) r (now (out .exit)) ⌝ }
+// What stands before the payload of a record.
+fn put_head(out: &mut [u8], at: usize, size: usize, kind: u64) -> usize
+    requires { ⌜ at + record-head ≤ length (now out) ⌝ }
+    ensures { λ r. ⌜ Wrote (now (out .entry)) at record-head (in-bytes 2 size ++ in-bytes 2 kind) r (now (out .exit)) ⌝ }
 {
-    let at = text::put_little(out, to.at, 2, (frame.len() + 1) as u64);
-    let at = text::put_little(out, at, 2, FRAME_KIND + to.session);
-    let at = text::copy(frame, out, at);
-    text::put_little(out, at, 1, 0)
+    let at = text::put_little(out, at, 2, size as u64);
+    text::put_little(out, at, 2, kind)
 }
 
 // The order to close the session.
@@ -458,8 +455,7 @@ pub fn put_close(out: &mut [u8], to: To) -> usize
     ensures { λ r. ⌜ (r ≡ to .at + record-head)
         × Put (now (out .entry)) (to .at) (close-record (to .session)) r (now (out .exit)) ⌝ }
 {
-    let at = text::put_little(out, to.at, 2, 0);
-    text::put_little(out, at, 2, CLOSE_KIND + to.session)
+    put_head(out, to.at, 0, CLOSE_KIND + to.session)
 }
 
 // ---- frames: what the header says, and the content
@@ -472,33 +468,31 @@ pub struct Frame {
 }
 
 // A frame's header.
-fn put_header(out: &mut [u8], size: u64, f: Frame) -> usize
-    requires { ⌜ header-length ≤ length (now out) ⌝ }
-    ensures { λ r. ⌜ (r ≡ header-length)
-        × Put (now (out .entry)) 0 (header-bytes size (f .mid) (f .revision) (f .«byte_12»)) r (now (out .exit)) ⌝ }
+fn put_header(out: &mut [u8], at: usize, size: u64, f: Frame) -> usize
+    requires { ⌜ at + header-length ≤ length (now out) ⌝ }
+    ensures { λ r. ⌜ Wrote (now (out .entry)) at header-length (header-bytes size (f .mid) (f .revision) (f .«byte_12»)) r (now (out .exit)) ⌝ }
 {
-    let at = text::put_digits(out, 0, NUMBER_DIGITS, size);
+    let at = text::put_digits(out, at, NUMBER_DIGITS, size);
     let at = text::put_digits(out, at, NUMBER_DIGITS, f.mid);
     let at = text::put_digits(out, at, REVISION_DIGITS, f.revision);
     let at = text::fill(out, at, 1, f.byte_12);
     text::fill(out, at, 8, b' ')
 }
 
-// The longest.
-const FRAME_LONGEST: usize = 231;
-
-// Any frame: it is put together in a scratch array, the data first, whose end is the frame's length, and copied to its output record.
+// Any frame, with its NUL: its data first, whose end is the frame's, and then what stands before it and behind it.
 fn put_frame(out: &mut [u8], to: To, f: Frame, settings: &[u8], told: &[u8]) -> usize
     requires { ⌜ Sendable (now out) to f (record { settings = now settings; told = now told }) ⌝ }
     ensures { λ r. ⌜ Wrote (now (out .entry)) (to .at) (record-length (frame-length (f .content)))
         (frame-record (to .session) (frame-of f (record { settings = now (settings .entry); told = now (told .entry) }))) r
         (now (out .exit)) ⌝ }
 {
-    let mut frame = [0u8; FRAME_LONGEST];
     let content = f.content;
-    let end = put_fields(&mut frame, HEADER_LENGTH, content, settings, told);
-    put_header(&mut frame, end as u64, f);
-    put_record(out, to, &frame[..end])
+    let start = to.at + model::RECORD_HEAD;
+    let end = put_fields(out, start + HEADER_LENGTH, content, settings, told);
+    let size = end - start;
+    put_head(out, to.at, size + 1, FRAME_KIND + to.session);
+    put_header(out, start, size as u64, f);
+    text::put_little(out, end, 1, 0)
 }
 
 // ---- replies: revision 1, and byte 12 a space
@@ -551,7 +545,9 @@ pub fn put_9999(out: &mut [u8], to: To, run: &[u8]) -> usize
     ensures { λ r. ⌜ (r ≡ to .at + record-length header-length)
         × Put (now (out .entry)) (to .at) (frame-record (to .session) (take header-length (now (run .entry)))) r (now (out .exit)) ⌝ }
 {
-    put_record(out, to, &run[0..HEADER_LENGTH])
+    let at = put_head(out, to.at, HEADER_LENGTH + 1, FRAME_KIND + to.session);
+    let at = text::copy(&run[0..HEADER_LENGTH], out, at);
+    text::put_little(out, at, 1, 0)
 }
 
 // ---- copies of notices

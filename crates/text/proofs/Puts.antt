@@ -1,13 +1,13 @@
 -- Writes one after another. Assumes nothing.
 use mathlib.Core.Path.{_≡_, refl, sym, ap, ap₂, subst, _∙_}
-use Prim.Native.Nat.{ℕ, _+_, _≤_}
+use Prim.Native.Nat.{ℕ, _+_}
 use native.Mathlib.Nat.{add-zero, add-assoc}
 use native.Mathlib.Omega.{arith}
 use mathlib.Core.List.{List, [], _++_, append-nil}
-use lib.ListN.{length, take, length-append, drop-of-length-le}
+use lib.ListN.{length, length-append, drop-of-length-le}
 use lib.Seq.{sets, length-sets, sets-eq}
 use Rattle.text.specs.Put.{Put}
-use Rattle.text.proofs.Lists.{sets-sets, sets-swap, take-sets}
+use Rattle.text.proofs.Lists.{sets-sets, sets-swap}
 
 pub put-nothing : (o : List ℕ) (at : ℕ) → Put o at [] at o
 put-nothing o at = record { output = refl; place = sym (add-zero at) }
@@ -79,7 +79,3 @@ pub scratch : {o o′ bs : List ℕ} {r : ℕ} → length o ≡ length bs → Pu
 scratch {o} {o′} {bs} e p =
     p .output ∙ sets-eq bs o 0 (omega arith) ∙ ap (λ (l : List ℕ). bs ++ l) (drop-of-length-le o {i = 0 + length bs} (omega arith))
     ∙ append-nil bs
-
--- or from its beginning on
-pub scratched : {o o′ bs : List ℕ} {r : ℕ} → length bs ≤ length o → Put o 0 bs r o′ → take r o′ ≡ bs
-scratched {o} {o′} {bs} h p = ap₂ take (p .place) (p .output) ∙ take-sets bs o 0 (omega arith)

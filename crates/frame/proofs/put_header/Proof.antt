@@ -13,12 +13,14 @@ returns c =
     let f = g .before .before .before .before in
     let i = f .before .before .before .before in
     let q = i .before .before .before .before in
-    let p = q .before .before .before .before in (
-      search needs,
-      put-as (simp append-assoc) (put-then (put-then
+    let p = q .before .before .before .before in
+    record {
+      place = search needs;
+      put =
+          put-as (simp append-assoc) (put-then (put-then
           (put-then (put-then (p .put-digits .ensures .1) (q .put-digits2 .ensures .1)) (i .put-digits3 .ensures .1)) (f .fill .ensures .1))
-          (g .fill2 .ensures .1)),
-    )
+          (g .fill2 .ensures .1));
+    }
 
 pub put-header-spec : {M : Type 1} → statement M
 put-header-spec =
