@@ -78,13 +78,15 @@ proved: tools
 	@echo "each of these public functions is proved to answer what its ensures says:"
 	@grep -oE '^ *pub (extern "C" )?fn [a-z0-9_]+' crates/*/src/*.rt | sed -E 's#crates/([a-z]+)/.*fn (.*)#  \1::\2#'
 
-# The layout, that nothing is assumed, and that the must-fail edits fit and are listed; then the gate itself, then the comparison over what
-# the gate built and left, three parts at a time, since the host's tests mostly wait. The gate's own last line is said again at the end: it
-# is the last line of a run in which nothing failed. What fails behind the gate says so in the last line.
+# The layout, that nothing is assumed, that the must-fail edits fit and are listed, and that the documents name what is there; then the
+# gate itself, then the comparison over what the gate built and left, three parts at a time, since the host's tests mostly wait. The gate's
+# own last line is said again at the end: it is the last line of a run in which nothing failed. What fails behind the gate says so in the
+# last line.
 test: tools
 	@rt fmt --check
 	@python3 tests/wrong/assumptions.py
 	@python3 tests/wrong/check.py
+	@python3 tests/docs/names.py
 	@said=$$(mktemp); trap 'rm -f "$$said"' EXIT; \
 	rt ci | tee "$$said"; \
 	rt staticlib serifladder | tail -n 1 || { echo "test: failed, rt staticlib serifladder"; exit 1; }; \
