@@ -21,7 +21,7 @@ help:
 	@echo "make install the library for C, the host, serifladder-replay, ladder, watch, unit file and man pages, to PREFIX=$(PREFIX)"
 	@echo "make uninstall removes them"
 	@echo "make proved  proves every crate and lists the public functions"
-	@echo "make soak    a longer comparison: COUNT=2000 histories, a million calls, every planted fault; the host under load and with faults planted"
+	@echo "make soak    a longer comparison: COUNT=2000 histories, a million calls, every planted fault; the host under load and with faults"
 	@echo "make bench   the library's time, instructions and stack beside those of two implementations in C"
 	@echo "make wrong   the wrong programs that the gate leaves out for its time: the prover must refuse each"
 	@echo "make twins   harmless twins of the gate's wrong programs: the prover must accept each"
@@ -99,7 +99,8 @@ built: tools
 	@rt staticlib serifladder | tail -n 1
 
 soak: built
-	@$(MAKE) --silent --no-print-directory -C tests soak COUNT=$(COUNT) LINKED_COUNT=$$(( $(COUNT) > 2000 ? $(COUNT) : 2000 )) LEAST_CALLS=1000000
+	@$(MAKE) --silent --no-print-directory -C tests soak COUNT=$(COUNT) LEAST_CALLS=1000000 \
+		LINKED_COUNT=$$(( $(COUNT) > 2000 ? $(COUNT) : 2000 ))
 
 bench: built
 	@$(MAKE) --silent --no-print-directory -C tests bench

@@ -49,7 +49,8 @@ def missing(name, known):
         return None if os.path.exists(os.path.join(ROOT, path)) else path
     function = FUNCTION.fullmatch(name)
     if function:
-        source = "".join(open(path, encoding="utf-8").read() for path in glob.glob(os.path.join(ROOT, "crates", function[1], "src", "*.rt")))
+        sources = glob.glob(os.path.join(ROOT, "crates", function[1], "src", "*.rt"))
+        source = "".join(open(path, encoding="utf-8").read() for path in sources)
         return None if re.search(r"\b%s\b" % function[2], source) else name
     if DEFINITION.fullmatch(name):
         return next((part for part in name.split(".") if part not in known), None)
@@ -58,7 +59,8 @@ def missing(name, known):
 
 def main():
     known, wrong, count = words(), 0, 0
-    for path in sys.argv[1:] or documents():
+    paths = sys.argv[1:] or documents()
+    for path in paths:
         for number, line in enumerate(open(path, encoding="utf-8"), 1):
             for name in re.findall(r"`([^`]+)`", line):
                 count += 1
@@ -67,7 +69,7 @@ def main():
                     wrong += 1
                     print("%s:%d: `%s`: there is no %s" % (os.path.relpath(path, ROOT), number, name, lacks))
     if not wrong:
-        print("docs: what stands in backquotes in %d documents, %d times, is there as far as it is a name" % (len(sys.argv[1:] or documents()), count))
+        print("docs: %d times something stands in backquotes in %d documents; as far as it is a name it is there" % (count, len(paths)))
     return wrong > 0
 
 

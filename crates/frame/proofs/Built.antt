@@ -1,5 +1,5 @@
 -- Frames in their output records, and which of the model's frames each is. Assumes nothing.
-use mathlib.Core.Path.{_≡_, refl, sym, ap, ap₂, subst, _∙_}
+use mathlib.Core.Path.{_≡_, refl, sym, ap, subst, _∙_}
 use Prim.Native.Nat.{ℕ, zero, suc, _+_, _-_, _≤_, _<_}
 use native.Mathlib.Omega.{arith}
 use mathlib.Core.Bool.{Bool, true, false, cond}
@@ -8,21 +8,20 @@ use lib.Dec.{eqb}
 use lib.ListN.{length, take, length-append}
 use lib.Seq.{take-all}
 use Rattle.model.specs.Limits.{header-length, identifier-length}
-use Rattle.model.specs.Bytes.{digit-0, digit-1, all, digits, in-bytes}
+use Rattle.model.specs.Bytes.{digit-0, digit-1, all, in-bytes}
 use Rattle.model.specs.Records.{record-head, said, settings-length, settings-items, values, settings-of, tightening-of, scanned-items}
-use Rattle.model.specs.Layouts.{identifier-rows, data-from, data-of, characters, data-length, layout-0052, rows-length}
+use Rattle.model.specs.Layouts.{identifier-rows, data-from, data-of, characters, layout-0052, rows-length}
 use Rattle.model.specs.Kinds.{kinds, kind-at}
 use Rattle.model.specs.Frames.{header, frame, frame-0002, frame-0004, frame-0005, event-frame, frame-kind, frame-record}
 use Rattle.text.specs.Put.{Put}
 use Rattle.text.proofs.Numbers.{digits-length}
 use Rattle.text.proofs.Puts.{put-then, put-before, put-as}
-use Rattle.frame.specs.declared.Content.{Content}
 use Rattle.frame.specs.declared.Content.the-variants.{Started, Refused, Accepted, Notice}
 use Rattle.frame.specs.declared.Frame.{Frame}
 use Rattle.frame.specs.declared.To.{To}
 use Rattle.frame.specs.Places.{place-size, result-of, event-in}
-use Rattle.frame.specs.Layout.{layout-of, items-told, placed, Payloads, data-in, served}
-use Rattle.frame.specs.Output.{Wrote, Real, Layable, frame-length, frame-of, reply-of, record-length, Writable, Sendable}
+use Rattle.frame.specs.Layout.{placed, Payloads, data-in, served, all-served}
+use Rattle.frame.specs.Output.{Wrote, frame-length, frame-of, reply-of, record-length, Sendable}
 
 -- ==== a frame in its output record
 
@@ -64,7 +63,8 @@ wrote-frame {o₂ = o₂} {o₃ = o₃} {d = d} {at = at} {n = n} {end = end} {r
       place = omega arith;
       put =
           put-as (framed s mid revision byte-12 (end - (at + record-head)) d (omega arith))
-          (put-then (put-before (a .put) (put-then (b .put) (subst (λ (k : ℕ). Put o₂ k bytes r₂ o₃) (sym g) (c .put))) (omega arith)) (e .1));
+          (put-then
+          (put-before (a .put) (put-then (b .put) (subst (λ (k : ℕ). Put o₂ k bytes r₂ o₃) (sym g) (c .put))) (omega arith)) (e .1));
     }
 
 -- ==== how long they are, and which bytes serve them
@@ -84,8 +84,7 @@ parts-served true = refl
 parts-served false = refl
 
 pub notice-served : (kind revision : ℕ) → kind < length kinds
-    → all (served settings-length (place-size kind)) (map (placed (items-told (Notice kind revision))) (layout-of (Notice kind revision) .rows))
-    ≡ true
+    → all-served (Notice kind revision) settings-length (place-size kind) ≡ true
 notice-served zero revision h = parts-served (eqb revision 1)
 notice-served (suc zero) revision h = refl
 notice-served (suc (suc kind)) revision h = absurd (omega arith)

@@ -1,12 +1,12 @@
 -- The data of a frame, row by row: the loop that writes it. Assumes nothing.
 use mathlib.Core.Path.{_≡_, refl, sym, ap, subst, _∙_}
-use Prim.Native.Nat.{ℕ, suc, _+_, _≤_, _<_}
+use Prim.Native.Nat.{ℕ, _+_, _≤_, _<_}
 use native.Mathlib.Nat.{add-zero}
 use native.Mathlib.Numerals.{add-one}
 use native.Mathlib.Omega.{arith}
-use mathlib.Core.Bool.{Bool, true}
-use mathlib.Core.List.{List, [], _∷_, _++_, map}
-use lib.ListN.{length, getD, drop, length-map, drop-of-length-le, List·getD-map}
+use mathlib.Core.Bool.{Bool}
+use mathlib.Core.List.{List, _++_, map}
+use lib.ListN.{length, drop, length-map, drop-of-length-le, List·getD-map}
 use Rattle.model.specs.Bytes.{all, digits}
 use Rattle.model.specs.Layouts.{Sources, Row, blank, width-of, characters, label-length, label, data-from, rows-length, data-length}
 use Rattle.text.specs.Put.{Put}
@@ -86,7 +86,8 @@ module _ (content : Content) (b : Payloads) (o₀ : List ℕ) (at : ℕ) where
                 let j = ap placed-width e ∙ width-placed (items-told content) (row-at rows k) in omega arith;
             left =
                 left-put (left-as (data-next numbered rows k h (said-by content b)) (l .left))
-                (put-then (put-as (ap (λ (n : ℕ). digits n (k + 1)) el) (q .1)) (put-as (ap (shown b) e ∙ placed-shown (items-told content) b (row-at rows k) ok) (v .put)));
+                (put-then (put-as (ap (λ (n : ℕ). digits n (k + 1)) el) (q .1))
+                (put-as (ap (shown b) e ∙ placed-shown (items-told content) b (row-at rows k) ok) (v .put)));
           }
 
     -- all are written

@@ -9,14 +9,13 @@ use lib.Dec.{eqb, ltb}
 use lib.ListN.{length, getD, take, drop}
 use borrow.Author.Tests.{ltb-true, eqb-true}
 use Rattle.model.specs.Bytes.{all, digits, little}
-use Rattle.model.specs.Records.{Item, number, text, time, item-length, payload-length, parts-from, Value, counted, said, value-of, values-of, values}
+use Rattle.model.specs.Records.{Item, number, text, time, item-length, parts-from, Value, counted, value-of, values-of, values}
 use Rattle.model.specs.Records.{number-in, text-in, number-at, text-at, settings-items, scanned-items}
 use Rattle.model.specs.Layouts.{Sources, settings, source, Row, number as number-row, text as text-row, blank, known, width-of, characters}
 use Rattle.model.specs.Layouts.{identifier-rows}
-use Rattle.model.specs.Kinds.{kinds}
 use Rattle.frame.specs.declared.Content.{Content}
 use Rattle.frame.specs.declared.Content.the-variants.{Started, Refused, Accepted, Notice}
-use Rattle.frame.specs.Layout.{layout-of, items-told, items-of, item-at, place-of, placed, placed-width, Payloads, bytes-of, part, shown, said-by}
+use Rattle.frame.specs.Layout.{layout-of, items-told, items-of, item-at, place-of, placed, placed-width, Payloads, bytes-of, shown}
 use Rattle.frame.specs.Output.{Real}
 
 -- ==== value i of a payload is read from the bytes of item i

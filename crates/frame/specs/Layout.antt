@@ -1,10 +1,10 @@
 -- The layouts of the frames that we write, where the values stand as bytes. 01, "Frames we write". Assumes nothing: these are definitions.
 use Prim.Native.Nat.{ℕ, _+_}
-use mathlib.Core.Bool.{Bool, true, false, cond, _&&_}
-use mathlib.Core.List.{List, []}
-use lib.Dec.{leb, ltb, eqb}
+use mathlib.Core.Bool.{Bool, true, cond, _&&_}
+use mathlib.Core.List.{List, [], map}
+use lib.Dec.{leb, eqb}
 use lib.ListN.{length, getD, take, drop}
-use Rattle.model.specs.Bytes.{spaces, digits, little}
+use Rattle.model.specs.Bytes.{all, spaces, digits, little}
 use Rattle.model.specs.Records.{Item, time, item-length, payload-length, values, settings-items}
 use Rattle.model.specs.Layouts.{Sources, settings, Row, number, text, blank, known, Layout, label-length, data-of}
 use Rattle.model.specs.Layouts.{layout-0002, layout-0004, layout-0005}
@@ -65,6 +65,9 @@ pub record Payloads : Type 0 where
   pub settings : List ℕ
   pub told : List ℕ
 
+abbrev pub payloads : List ℕ → List ℕ → Payloads
+payloads settings told = record { settings = settings; told = told }
+
 abbrev pub bytes-of : Payloads → ℕ → List ℕ
 bytes-of b from = cond (eqb from settings) (b .settings) (b .told)
 
@@ -99,3 +102,7 @@ served s t (Number width from size place) = leb (place + size) (cond (eqb from s
 served s t (Text width from place) = leb (place + width) (cond (eqb from settings) s t)
 served s t (Blank width) = true
 served s t (Known width n) = true
+
+-- and that they can serve all of a frame's
+abbrev pub all-served : Content → ℕ → ℕ → Bool
+all-served content s t = all (served s t) (map (placed (items-told content)) (layout-of content .rows))

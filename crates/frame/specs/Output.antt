@@ -3,17 +3,17 @@
 use mathlib.Core.Path.{_≡_}
 use Prim.Native.Nat.{ℕ, suc, _+_, _≤_, _<_}
 use mathlib.Core.Bool.{true, cond}
-use mathlib.Core.List.{List, map}
+use mathlib.Core.List.{List}
 use lib.ListN.{length}
 use Rattle.model.specs.Limits.{header-length}
-use Rattle.model.specs.Bytes.{space, digit-0, digit-1, all}
+use Rattle.model.specs.Bytes.{space, digit-0, digit-1}
 use Rattle.model.specs.Records.{record-head, settings-length}
 use Rattle.model.specs.Layouts.{data-length}
 use Rattle.model.specs.Kinds.{kinds, kind-at, copy-most}
 use Rattle.model.specs.Frames.{frame}
 use Rattle.text.specs.Put.{Put}
 use Rattle.frame.specs.Places.{place-size}
-use Rattle.frame.specs.Layout.{layout-of, items-told, placed, Payloads, bytes-of, placed-width, data-in, served}
+use Rattle.frame.specs.Layout.{layout-of, Payloads, bytes-of, placed-width, data-in, served, all-served}
 use Rattle.frame.specs.declared.Placed.{Placed}
 use Rattle.frame.specs.declared.Content.{Content}
 use Rattle.frame.specs.declared.Content.the-variants.{Started, Refused, Accepted, Notice}
@@ -47,7 +47,7 @@ Real (Notice kind revision) = kind < length kinds
 -- the rows of a frame can be written
 pub record Layable (content : Content) (b : Payloads) (at size : ℕ) : Type 0 where
   pub real : Real content
-  pub sound : all (served (length (b .settings)) (length (b .told))) (map (placed (items-told content)) (layout-of content .rows)) ≡ true
+  pub sound : all-served content (length (b .settings)) (length (b .told)) ≡ true
   pub room : at + data-length (layout-of content) ≤ size
 
 -- ==== frames
@@ -92,7 +92,7 @@ pub record Writable (out : List ℕ) (to : To) (size : ℕ) : Type 0 where
 pub record Sendable (out : List ℕ) (to : To) (f : Frame) (b : Payloads) : Type 0 where
   pub output : Writable out to (record-length (frame-length (f .content)))
   pub real : Real (f .content)
-  pub sound : all (served (length (b .settings)) (length (b .told))) (map (placed (items-told (f .content))) (layout-of (f .content) .rows)) ≡ true
+  pub sound : all-served (f .content) (length (b .settings)) (length (b .told)) ≡ true
 
 -- a copy of the notice in a place can go there: it may be as long as its kind has them, and what it is made of is whole
 pub record Lent (out : List ℕ) (to : To) (asked : Asked) (st p : List ℕ) : Type 0 where

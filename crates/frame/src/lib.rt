@@ -14,7 +14,7 @@ ghost use Rattle.model.specs.Frames.{header as header-bytes, frame-0002, frame-
 ghost use Rattle.text.specs.Put.{Put};
 ghost use Rattle.frame.specs.Header.{header-of};
 ghost use Rattle.frame.specs.Places.{result-items, event-in};
-ghost use Rattle.frame.specs.Layout.{Payloads, layout-of, row-at, placed, placed-row, extent-of, placed-width, part, shown, data-in};
+ghost use Rattle.frame.specs.Layout.{payloads, layout-of, row-at, placed, placed-row, extent-of, placed-width, part, shown, data-in};
 ghost use Rattle.frame.specs.Output.{
   Wrote,
   Real,
@@ -355,8 +355,8 @@ pub struct Part {
 }
 
 fn number(p: Part, settings: &[u8], told: &[u8]) -> u64
-    requires { ⌜ Readable (record { settings = now settings; told = now told }) (p .from) (p .size) (p .place) × (p .size ≤ 8) ⌝ }
-    ensures { λ r. ⌜ r ≡ little (part (record { settings = now (settings .entry); told = now (told .entry) }) (p .from) (p .size) (p .place)) ⌝ }
+    requires { ⌜ Readable (payloads (now settings) (now told)) (p .from) (p .size) (p .place) × (p .size ≤ 8) ⌝ }
+    ensures { λ r. ⌜ r ≡ little (part (payloads (now (settings .entry)) (now (told .entry))) (p .from) (p .size) (p .place)) ⌝ }
 {
     if p.from == SETTINGS {
         return text::little(settings, p.place, p.size);
@@ -372,10 +372,10 @@ fn put_bytes(out: &mut [u8], at: usize, size: usize, place: usize, source: &[u8]
 }
 
 fn put_text(out: &mut [u8], at: usize, p: Part, settings: &[u8], told: &[u8]) -> usize
-    requires { ⌜ Readable (record { settings = now settings; told = now told }) (p .from) (p .size) (p .place)
+    requires { ⌜ Readable (payloads (now settings) (now told)) (p .from) (p .size) (p .place)
         × (at + p .size ≤ length (now out)) ⌝ }
     ensures { λ r. ⌜ Wrote (now (out .entry)) at (p .size)
-        (part (record { settings = now (settings .entry); told = now (told .entry) }) (p .from) (p .size) (p .place)) r (now (out .exit)) ⌝ }
+        (part (payloads (now (settings .entry)) (now (told .entry))) (p .from) (p .size) (p .place)) r (now (out .exit)) ⌝ }
 {
     if p.from == SETTINGS {
         return put_bytes(out, at, p.size, p.place, settings);
@@ -385,9 +385,9 @@ fn put_text(out: &mut [u8], at: usize, p: Part, settings: &[u8], told: &[u8]) ->
 
 // The characters of a field.
 fn put_value(out: &mut [u8], at: usize, row: Placed, settings: &[u8], told: &[u8]) -> usize
-    requires { ⌜ Servable (record { settings = now settings; told = now told }) row at (length (now out)) ⌝ }
+    requires { ⌜ Servable (payloads (now settings) (now told)) row at (length (now out)) ⌝ }
     ensures { λ r. ⌜ Wrote (now (out .entry)) at (placed-width row)
-        (shown (record { settings = now (settings .entry); told = now (told .entry) }) row) r (now (out .exit)) ⌝ }
+        (shown (payloads (now (settings .entry)) (now (told .entry))) row) r (now (out .exit)) ⌝ }
 {
     match row {
         Placed::Number(width, from, size, place) => {
@@ -409,9 +409,9 @@ fn put_value(out: &mut [u8], at: usize, row: Placed, settings: &[u8], told: &[u8
 
 // The fields of a frame, each with its number before it where they are numbered.
 fn put_fields(out: &mut [u8], at: usize, content: Content, settings: &[u8], told: &[u8]) -> usize
-    requires { ⌜ Layable content (record { settings = now settings; told = now told }) at (length (now out)) ⌝ }
+    requires { ⌜ Layable content (payloads (now settings) (now told)) at (length (now out)) ⌝ }
     ensures { λ r. ⌜ Wrote (now (out .entry)) at (data-length (layout-of content))
-        (data-in content (record { settings = now (settings .entry); told = now (told .entry) })) r (now (out .exit)) ⌝ }
+        (data-in content (payloads (now (settings .entry)) (now (told .entry)))) r (now (out .exit)) ⌝ }
 {
     let extent = measure(content);
     let label = extent.label;
@@ -481,9 +481,9 @@ fn put_header(out: &mut [u8], at: usize, size: u64, f: Frame) -> usize
 
 // Any frame, with its NUL: its data first, whose end is the frame's, and then what stands before it and behind it.
 fn put_frame(out: &mut [u8], to: To, f: Frame, settings: &[u8], told: &[u8]) -> usize
-    requires { ⌜ Sendable (now out) to f (record { settings = now settings; told = now told }) ⌝ }
+    requires { ⌜ Sendable (now out) to f (payloads (now settings) (now told)) ⌝ }
     ensures { λ r. ⌜ Wrote (now (out .entry)) (to .at) (record-length (frame-length (f .content)))
-        (frame-record (to .session) (frame-of f (record { settings = now (settings .entry); told = now (told .entry) }))) r
+        (frame-record (to .session) (frame-of f (payloads (now (settings .entry)) (now (told .entry))))) r
         (now (out .exit)) ⌝ }
 {
     let content = f.content;

@@ -1,20 +1,20 @@
 -- Clean texts: whatever a start or a tool record brings in was tested, and a run is cut at its NUL, so that nothing of it has one.
 -- Assumes nothing.
-use Prim.Native.Nat.{ℕ, zero, suc, _+_, _≤_, _<_}
+use Prim.Native.Nat.{ℕ, suc, _+_, _≤_}
 use mathlib.Core.Path.{_≡_, refl, sym, _∙_, subst}
 use mathlib.Core.Bool.{Bool, true, false, cond, not, _&&_, _||_, and-eq-true-iff}
 use mathlib.Core.List.{List, [], _∷_, _++_}
 use mathlib.Core.Option.{Option, none, some}
 use native.Mathlib.Omega.{arith}
 use lib.Dec.{leb, eqb}
-use lib.ListN.{length, getD, take, drop, length-take, length-drop}
+use lib.ListN.{length, take, drop, length-take, length-drop}
 use lib.Seq.{take-all, take-take, length-take-le}
 use borrow.Author.Tests.{leb-true, eqb-true, eqb-false}
 use Rattle.model.specs.Limits.{header-length, identifier-length, message-longest, run-kept}
 use Rattle.model.specs.Bytes.{NUL, dash, colon, is-digit, is-text, is-space, all, places, decimal}
 use Rattle.model.specs.Tests.{first}
-use Rattle.model.specs.Records.{is-record, payload, Item, number, text, time, item-length, payload-length, parts-from, parts, values-of}
-use Rattle.model.specs.Records.{good-in-time, is-time-from, good-item, good-parts, good-payload, good-record, value-of, values}
+use Rattle.model.specs.Records.{is-record, payload, Item, number, text, time, item-length, payload-length, parts-from, parts}
+use Rattle.model.specs.Records.{good-in-time, is-time-from, good-item, good-parts, good-payload, good-record, value-of, values-of, values}
 use Rattle.model.specs.Records.{settings-kind, tightening-kind, scanned-kind, Settings, settings-items, settings-of, read-settings}
 use Rattle.model.specs.Records.{tightening-items, tightening-of, identifier-in, scanned-items, Tool, scanned, tightening, read-tool}
 use Rattle.model.specs.Runs.{Run, longer, Piece, cut, Message, is-flag, is-message, message-of, read-run}

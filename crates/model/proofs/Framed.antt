@@ -161,7 +161,8 @@ module _ (b : Sources) (h : Fits b) where
     nul-data i [] = tt
     nul-data i (row ∷ rows) =
         nul-append (label numbered i ++ characters b row) (data-from numbered (suc i) rows b)
-        (nul-append (label numbered i) (characters b row) (nul-digits (label-length numbered) i) (nul-characters row)) (nul-data (suc i) rows)
+        (nul-append (label numbered i) (characters b row) (nul-digits (label-length numbered) i) (nul-characters row))
+        (nul-data (suc i) rows)
 
     length-data : (i : ℕ) (rows : List Row) → all slim-row rows ≡ true → length (data-from numbered i rows b) ≤ 27 * length rows
     unfolding data-from
@@ -234,7 +235,8 @@ module _ (st : Settings) (clean : CleanSettings st) (revision : ℕ) (no-acknowl
   unfolding event-frame
   framed-event e h =
       framed-layout (sources st (told-of e)) (record { settings = clean; told = fit-told e h }) ((kind-at (kind-of e)) .notice) revision
-      (cond no-acknowledge digit-1 digit-0) (((kind-at (kind-of e)) .layout) revision) (byte-12-shown no-acknowledge) (slim-notice e revision)
+      (cond no-acknowledge digit-1 digit-0) (((kind-at (kind-of e)) .layout) revision) (byte-12-shown no-acknowledge)
+      (slim-notice e revision)
 
   pub notice-event : (e : Event) → is-notice (event-frame st revision no-acknowledge e) ≡ true
   unfolding event-frame frame header digits

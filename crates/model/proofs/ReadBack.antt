@@ -10,7 +10,8 @@ use lib.Seq.{take-at, drop-at}
 use borrow.Author.Tests.{ltb-true, eqb-true}
 use Rattle.model.specs.Bytes.{space, all, digits, decimal, decimal-from}
 use Rattle.model.specs.Records.{Value, counted, number-at, text-at}
-use Rattle.model.specs.Layouts.{Sources, source, Row, number, text, blank, known, width-of, characters, label-length, label, data-from}
+use Rattle.model.specs.Layouts.{Sources, source, Row, number, text, blank, known, width-of, characters, label-length, label}
+use Rattle.model.specs.Layouts.{data-from}
 use Rattle.model.specs.FieldsRead.{read-field, read-fields, value-in, legible}
 use Rattle.model.proofs.Framed.{length-digits}
 
@@ -77,8 +78,10 @@ module _ (b : Sources) where
     data-append (x ∷ xs) ys i =
         ap (λ (l : List ℕ). label numbered i ++ characters b x ++ l)
         (data-append xs ys (suc i)
-        ∙ ap (λ (n : ℕ). data-from numbered (suc i) xs b ++ data-from numbered n ys b) (suc-add i (length xs) ∙ sym (add-suc i (length xs))))
-        ∙ sym (append-assoc (label numbered i ++ characters b x) (data-from numbered (suc i) xs b) (data-from numbered (i + suc (length xs)) ys b))
+        ∙ ap (λ (n : ℕ). data-from numbered (suc i) xs b ++ data-from numbered n ys b)
+        (suc-add i (length xs) ∙ sym (add-suc i (length xs))))
+        ∙ sym (append-assoc (label numbered i ++ characters b x) (data-from numbered (suc i) xs b)
+        (data-from numbered (i + suc (length xs)) ys b))
 
     -- so by fewer rows a reader gets the values of these out of data that has more
     pub read-fewer : (xs ys : List Row) → all (legible b) xs ≡ true

@@ -3,7 +3,7 @@ use mathlib.Core.Path.{_≡_, refl, sym, ap}
 use Prim.Native.Nat.{ℕ, zero, suc, _<_}
 use native.Mathlib.Omega.{arith}
 use Rattle.model.specs.Limits.{identifier-length}
-use Rattle.model.specs.Layouts.{Row, blank, identifier-rows}
+use Rattle.model.specs.Layouts.{blank, identifier-rows}
 use Rattle.model.specs.Records.{scanned-items}
 use Rattle.frame.specs.Layout.{row-at, placed}
 use Rattle.frame.proofs.identifier_row.Statement.{statement}

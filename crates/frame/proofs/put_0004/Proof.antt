@@ -16,4 +16,6 @@ returns c =
     sent (p .before .before .before .before .reply .ensures) _ _ _ (is-0004 _ _ _) (p .put-frame .ensures)
 
 pub put-0004-spec : {M : Type 1} → statement M
-put-0004-spec = tie.close (tie.spec (λ c κs. search needs) (λ c. search needs) (λ c. search needs) put-frame-requires (λ c. search needs) returns)
+put-0004-spec =
+    tie.close
+    (tie.spec (λ c κs. search needs) (λ c. search needs) (λ c. search needs) put-frame-requires (λ c. search needs) returns)

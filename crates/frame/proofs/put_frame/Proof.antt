@@ -1,6 +1,5 @@
 -- `frame::put_frame` meets its contract: the data first, then what stands before it and behind it. Assumes nothing.
 use borrow.Author.Needs.{needs}
-use native.Mathlib.Omega.{arith}
 use Rattle.frame.proofs.Built.{wrote-frame}
 use Rattle.frame.proofs.put_frame.Statement.{statement}
 use Rattle.frame.proofs.put_frame.Tie as tie

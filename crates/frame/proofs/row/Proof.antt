@@ -46,7 +46,8 @@ row-spec =
     (λ c. search needs)
     (λ c. search needs)
     (λ c κs. asked (c .before .content3 .given .1) (c .before .before .before .pre))
-    (λ c. c .controller-row .ensures ∙ sym (ap (λ (x : Content). placed-row x (c .before .before .before .args .k)) (c .before .enum-told .given .1)))
+    (λ c. c .controller-row .ensures
+    ∙ sym (ap (λ (x : Content). placed-row x (c .before .before .before .args .k)) (c .before .enum-told .given .1)))
     returns-3
     returns-4
     (λ c. c .notice-row .ensures
