@@ -32,42 +32,36 @@ returns-3 : tie.Need-returns-3
 returns-3 c =
     let a = c .before .before .before .before .before .before .before .before .before .before .before .before .before .before .before
     .args in
-    as-call
-    (hang-up-call (a .kind) (a .slice .now)
+    as-call (hang-up-call (a .kind) (a .slice .now)
     (c .before .before .before .before .before .before .before .before .before .before .before .if1 .left)
     (sym (c .before .before .before .before .before .before .before .before .before .before .is-within .ensures)
     ∙ c .before .before .before .before .before .before .before .before .before .if2 .left)
     (sym (c .before .before .before .before .before .before .before .before .is-within2 .ensures)
-    ∙ c .before .before .before .before .before .before .before .if3 .taken))
-    (c .before .before .before .before .hang-up .ensures)
+    ∙ c .before .before .before .before .before .before .before .if3 .taken)) (c .before .before .before .before .hang-up .ensures)
 
 returns-4 : tie.Need-returns-4
 returns-4 c =
     let s = c .before .before .before .before .before .before .before .before .before .before .before .before .before .before .before
     .before in
-    as-call
-    (tick-call (s .args .kind) (s .args .slice .now)
+    as-call (tick-call (s .args .kind) (s .args .slice .now)
     (c .before .before .before .before .before .before .before .before .before .before .before .before .if1 .left)
     (sym (c .before .before .before .before .before .before .before .before .before .before .before .is-within .ensures)
     ∙ c .before .before .before .before .before .before .before .before .before .before .if2 .left)
     (sym (c .before .before .before .before .before .before .before .before .before .is-within2 .ensures)
     ∙ c .before .before .before .before .before .before .before .before .if3 .left) (s .pre)
-    (c .before .before .before .before .before .before .before .if4 .taken))
-    (c .before .before .before .before .tick .ensures)
+    (c .before .before .before .before .before .before .before .if4 .taken)) (c .before .before .before .before .tick .ensures)
 
 returns-5 : tie.Need-returns-5
 returns-5 c =
     let s = c .before .before .before .before .before .before .before .before .before .before .before .before .before .before .before
     .before in
-    as-call
-    (tool-call (s .args .kind) (s .args .slice .now)
+    as-call (tool-call (s .args .kind) (s .args .slice .now)
     (c .before .before .before .before .before .before .before .before .before .before .before .before .if1 .left)
     (sym (c .before .before .before .before .before .before .before .before .before .before .before .is-within .ensures)
     ∙ c .before .before .before .before .before .before .before .before .before .before .if2 .left)
     (sym (c .before .before .before .before .before .before .before .before .before .is-within2 .ensures)
     ∙ c .before .before .before .before .before .before .before .before .if3 .left) (s .pre)
-    (c .before .before .before .before .before .before .before .if4 .left))
-    (c .before .before .before .before .tool-record .ensures)
+    (c .before .before .before .before .before .before .before .if4 .left)) (c .before .before .before .before .tool-record .ensures)
 
 pub call-spec : {M : Type 1} → statement M
 call-spec =

@@ -35,7 +35,6 @@ returns c =
     let a = c .before .before .before .before .args in
     let l = c .before .loop in
     let k = shown-length (a .frame .now) in
-    let within = l .inv .0 in
     record {
       output = all-written (a .at + l .i) (ap shown (drop-of-length-le (a .frame .now) {i = l .i} (c .loop-test .left))) (l .inv .2);
       place = omega arith;
@@ -43,7 +42,6 @@ returns c =
 
 pub shown-spec : {M : Type 1} → statement M
 shown-spec =
-    tie.close (tie.spec Inv-loop μ-loop
-    (λ c. (omega arith, refl, rw add-zero))
-    (λ c. search needs) (λ c κs. search needs) (λ c. search needs) (λ c. search needs) (λ c. search needs) (λ c. search needs) loop-again
-    (λ c. search needs) (λ c. search needs) returns)
+    tie.close (tie.spec Inv-loop μ-loop (λ c. (omega arith, refl, rw add-zero)) (λ c. search needs) (λ c κs. search needs)
+    (λ c. search needs) (λ c. search needs) (λ c. search needs) (λ c. search needs) loop-again (λ c. search needs) (λ c. search needs)
+    returns)

@@ -64,5 +64,4 @@ returns-3 c =
 pub is-formed-spec : {M : Type 1} → statement M
 is-formed-spec =
     tie.close (tie.spec Inv-loop μ-loop (λ c. search needs) (λ c. search needs) (λ c. search needs) (λ c κs. search needs) returns
-    (λ c. refl)
-    (λ c κs. search needs) is-formed-requires-2 returns-2 (λ c. search needs) (λ c. search needs) loop-again returns-3)
+    (λ c. refl) (λ c κs. search needs) is-formed-requires-2 returns-2 (λ c. search needs) (λ c. search needs) loop-again returns-3)

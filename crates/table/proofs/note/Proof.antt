@@ -28,7 +28,6 @@ module _ (c : tie.Else1) where
   second : c .before .before .before .args .kind ≡ 1
   second =
       let h = c .if1 .left in
-      let few = c .before .before .before .pre .1 in
       omega (arith, h)
 
 little-requires : tie.Need-little-requires
