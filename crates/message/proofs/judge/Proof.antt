@@ -11,21 +11,14 @@ use Rattle.message.proofs.judge.Tie as tie
 returns-2 : tie.Need-returns-2
 returns-2 c =
     let r = c .before .before in
-    ordered _ _ _ _ _ _ (search needs) (r .row-of .ensures) (sym (c .if1 .taken) ∙ c .before .starts-again .ensures)
-    refl
-    refl
-    refl
-    refl
+    ordered _ _ _ _ _ _ (search needs) (r .row-of .ensures) (sym (c .if1 .taken) ∙ c .before .starts-again .ensures) refl refl refl refl
 
 returns-3 : tie.Need-returns-3
 returns-3 c =
     let a = c .before .before in
     let r = a .before .before in
     ordered _ _ _ _ _ _ (search needs) (r .row-of .ensures) (sym (a .if1 .left) ∙ a .before .starts-again .ensures)
-    (sym (not-true _ (c .if2 .taken)) ∙ c .before .within .ensures)
-    refl
-    refl
-    refl
+    (sym (not-true _ (c .if2 .taken)) ∙ c .before .within .ensures) refl refl refl
 
 returns-4 : tie.Need-returns-4
 returns-4 c =
@@ -34,8 +27,7 @@ returns-4 c =
     let r = a .before .before in
     ordered _ _ _ _ _ _ (search needs) (r .row-of .ensures) (sym (a .if1 .left) ∙ a .before .starts-again .ensures)
     (sym (not-false _ (s .if2 .left)) ∙ s .before .within .ensures) (sym (not-true _ (c .if3 .taken)) ∙ c .before .within2 .ensures)
-    refl
-    refl
+    refl refl
 
 returns-5 : tie.Need-returns-5
 returns-5 c =
@@ -45,8 +37,7 @@ returns-5 c =
     let r = a .before .before in
     ordered _ _ _ _ _ _ (search needs) (r .row-of .ensures) (sym (a .if1 .left) ∙ a .before .starts-again .ensures)
     (sym (not-false _ (s .if2 .left)) ∙ s .before .within .ensures) (sym (not-false _ (v .if3 .left)) ∙ v .before .within2 .ensures)
-    (sym (not-true _ (c .if4 .taken)) ∙ c .before .is-text .ensures)
-    refl
+    (sym (not-true _ (c .if4 .taken)) ∙ c .before .is-text .ensures) refl
 
 returns-6 : tie.Need-returns-6
 returns-6 c =
