@@ -70,16 +70,14 @@ module _ (z p x : List ℕ) (n : ℕ) (lz : length z ≡ result-length) (lp : le
       let l : 0 + length bs ≡ number-length = zero-add _ ∙ in-bytes-length number-length n in
       ap (λ (q : List ℕ). little (take number-length q)) (drop-sets bs y tightening-length 0)
       ∙ ap (λ (k : ℕ). little (take k (sets (drop tightening-length y) 0 bs))) (sym l)
-      ∙ ap little (take-sets bs (drop tightening-length y) 0 (simp length-drop (omega (arith, long, l))))
-      ∙ four n ln
+      ∙ ap little (take-sets bs (drop tightening-length y) 0 (simp length-drop (omega (arith, long, l)))) ∙ four n ln
 
   kept-identifier : take identifier-length (drop 0 kept) ≡ x
   kept-identifier =
       let y = sets z 0 p in
       let l : 0 + length x ≡ identifier-length = zero-add _ ∙ lx in
       take-sets-before (in-bytes number-length n) (sets y 0 x) tightening-length identifier-length (lit≤ tt)
-      ∙ ap (λ (k : ℕ). take k (sets y 0 x)) (sym l)
-      ∙ take-sets x y 0 (omega (arith, length-sets z 0 p))
+      ∙ ap (λ (k : ℕ). take k (sets y 0 x)) (sym l) ∙ take-sets x y 0 (omega (arith, length-sets z 0 p))
 
   kept-rest : take rest-length (drop identifier-length kept) ≡ take rest-length (drop identifier-length p)
   kept-rest =
@@ -117,10 +115,8 @@ pub result-put : (z p x : List ℕ) (n : ℕ) {p₁ p₂ p₃ : List ℕ} {r₁ 
     → (g : Shared) → x ≡ identifier-of (identifier-in p) (g .in-force) → n ≡ g .last + 1
     → tightened (result-of p₃) ≡ reported g (tightening (identifier-in p) (tightening-of p))
 result-put z p x n a b c lz lp lx ln g ex en =
-    ap (λ (q : List ℕ). tightened (result-of q))
-    (c .output ∙ ap (λ (q : List ℕ). sets q tightening-length (in-bytes number-length n))
-    (b .output ∙ ap (λ (q : List ℕ). sets q 0 x) (a .output)))
-    ∙ result-kept z p x n lz lp lx ln g ex en
+    ap (λ (q : List ℕ). tightened (result-of q)) (c .output ∙ ap (λ (q : List ℕ). sets q tightening-length (in-bytes number-length n))
+    (b .output ∙ ap (λ (q : List ℕ). sets q 0 x) (a .output))) ∙ result-kept z p x n lz lp lx ln g ex en
 
 -- there is a number left
 pub next-number : (n : ℕ) → n < suc number-greatest → (n ≡ number-greatest → ⊥) → n + 1 < suc number-greatest

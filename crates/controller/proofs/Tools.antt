@@ -85,8 +85,7 @@ module _ (record-kind : RecordKind) (slice : List ℕ) (e : tool-in record-kind 
         ≡ takers tightenings 0 (decode t .sessions)
         → Reports slice t o at taken t′ o′
     tightening-reported r k q m h w n =
-        as-reported (tool-in Tightening slice) (read k)
-        (ap (λ (e : Event). happens e ∷ []) (m
+        as-reported (tool-in Tightening slice) (read k) (ap (λ (e : Event). happens e ∷ []) (m
         ∙ ap (λ (bs : List ℕ). reported (decode t .shared) (tightening (identifier-in bs) (tightening-of bs))) q))
         n (omega (arith, event-within tightenings (omega arith))) w
 

@@ -96,7 +96,6 @@ module _ {room : Room} where
   goes-so : (becomes : model.Subscription × List Notice) (ns : List Notice) (r : Step) → Stepped room becomes ns r → Goes becomes ns r
   goes-so becomes ns r s =
       let e : after r ns ≡ shifted (r .shift) ns = rw (s .holds .held) (take-length (shifted (r .shift) ns)) in
-      let n = s .holds .held in
       record { acts = rw e (s .acts); clock = s .holds .clock; few = omega arith }
 
   pub goes : (x : Subscription) (ns : List Notice) → Holds room x ns → (d : Deed)

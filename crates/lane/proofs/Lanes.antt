@@ -105,8 +105,6 @@ pub holds : (read : List ℕ → Notice) (kind : ℕ) (l : List ℕ) → Lane ki
     → Holds (room-of kind) (control-of l) (notices-in read kind (control-of l .held) l)
 holds read kind l h =
     let s = storable kind l h in
-    let c = s .clock in
-    let f = s .held in
     let n = held-length read kind (control-of l .held) l in
     record { held = sym n; clock = omega arith; fits = omega arith }
 

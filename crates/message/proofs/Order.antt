@@ -23,8 +23,7 @@ use Rattle.message.proofs.Effect as effect
 -- the error, by whether it starts again, has a length and a revision of its row, and data that is text, and by its own error
 abbrev pub in-order : Bool → Bool → Bool → Bool → Option Error → Option Error
 in-order again sized revised texts own =
-    cond again (some already-started)
-    (cond (not sized) (some wrong-length)
+    cond again (some already-started) (cond (not sized) (some wrong-length)
     (cond (not revised) (some wrong-revision) (cond (not texts) (some wrong-data) own)))
 
 -- a number of eight bytes is among a message's revisions when it is from the oldest of its row to the newest

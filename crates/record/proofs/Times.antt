@@ -13,8 +13,7 @@ module _ (l : List ℕ) (i : ℕ) where
       → is-time-from (i + 1) (drop i l) ≡ good-in-time (i + 1) (getD l i 0) && is-time-from (i + 1 + 1) (drop (i + 1) l)
   time-next h =
       let e : suc (i + 1) ≡ i + 1 + 1 = omega arith in
-      ap (is-time-from (i + 1)) (drop-next l i 0 h)
-      ∙ ap (λ (n : ℕ). good-in-time (i + 1) (getD l i 0) && is-time-from n (drop (i + 1) l)) e
+      ap (is-time-from (i + 1)) (drop-next l i 0 h) ∙ ap (λ (n : ℕ). good-in-time (i + 1) (getD l i 0) && is-time-from n (drop (i + 1) l)) e
 
   -- a loop that tests a byte a turn: what is left of the test is all of it
   pub time-goes-on : {b : Bool} → i < length l → good-in-time (i + 1) (getD l i 0) ≡ true → is-time-from (i + 1) (drop i l) ≡ b

@@ -48,7 +48,6 @@ pub record Parts (r : List ℕ) : Type 0 where
 pub parts : (r : List ℕ) → Good r → Parts r
 unfolding region-formed
 parts r g =
-    let s = g .size in
     let tested = all (λ (formed : Bool). formed) (lanes lane-formed r) in
     let e = and-eq-true-iff (head-formed (head-area r)) (run-formed (run-area r) && tested) .0 (g .formed) in
     let f = and-eq-true-iff (run-formed (run-area r)) tested .0 (e .1) in
@@ -121,11 +120,11 @@ module _ (r ys : List ℕ) (s : length r ≡ region-size) (a k : ℕ) (len : len
       areas-same f lane-at lane-size r new 0 (length kinds)
       (λ j p q. let b = behind-run j q in area-after a k r ys len in-it (lane-at j) (lane-size j) (omega arith))
 
-module _ (r ys : List ℕ) (g : Good r) where
-  pub head-replaced : (x : Session) → head.Area ys → head-of ys ≡ x
+module _ {r ys : List ℕ} (g : Good r) where
+  pub head-replaced : {x : Session} → head.Area ys → head-of ys ≡ x
       → Changes r x (run-of (run-area r)) (subscriptions-in r) (putMid 0 head-size r ys)
   unfolding subscriptions-in
-  head-replaced x h e =
+  head-replaced h e =
       let s = g .size in
       let f : 0 + head-size ≤ length r = omega arith in
       let same = area-same 0 head-size r ys (h .size) f in
@@ -146,10 +145,10 @@ module _ (r ys : List ℕ) (g : Good r) where
         bytes = ap bytes-of run;
       }
 
-  pub run-replaced : (n : Run) → run.Area ys → run-of ys ≡ n
+  pub run-replaced : {n : Run} → run.Area ys → run-of ys ≡ n
       → Becomes r (head-of (head-area r)) n (subscriptions-in r) (putMid 8 run-size r ys)
   unfolding subscriptions-in
-  run-replaced n h e =
+  run-replaced h e =
       let s = g .size in
       let f : 8 + run-size ≤ length r = omega arith in
       let same = area-same 8 run-size r ys (h .size) f in
@@ -170,19 +169,21 @@ module _ (r ys : List ℕ) (g : Good r) where
   -- it is over: its bytes stand as they stood
   pub run-over : run.Over (run-area r) ys → run-bytes (putMid 8 run-size r ys) ≡ run-bytes r
   run-over o =
-      let s = g .size in
       ap bytes-of (area-same 8 run-size r ys (o .area .size) (omega arith)) ∙ o .bytes
 
 -- ==== a lane was replaced, as lending `&mut region[a..a + z]` has it
 
-module _ (r : List ℕ) (kind : ℕ) (few : kind < length kinds) (a z : ℕ) (ea : a ≡ lane-at kind) (ez : z ≡ lane-size kind) where
+module _ (r : List ℕ) {kind a z : ℕ} (few : kind < length kinds) (ea : a ≡ lane-at kind) (ez : z ≡ lane-size kind) where
   pub lane-lies : length r ≡ region-size → a + z ≤ length r
   lane-lies s = let e = lane-ends kind few in omega arith
 
   pub lane-part : midOf a (a + z - a) r ≡ lane-in kind r
   lane-part = rw (add-sub-cancel-left a z, ea, ez)
 
-  module _ (ys : List ℕ) (s : length r ≡ region-size) (lane : Lane kind ys) where
+  pub lane-lent : Good r → Lane kind (midOf a (a + z - a) r)
+  lane-lent g = rw lane-part (lane-good r kind few g)
+
+  module _ {ys : List ℕ} (s : length r ≡ region-size) (lane : Lane kind ys) where
     abbrev replaced : List ℕ
     replaced = putMid a (a + z - a) r ys
 

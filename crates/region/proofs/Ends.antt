@@ -69,9 +69,9 @@ changes-then a b = record {
 }
 
 -- the lanes were cleared
-pub lanes-cleared : (r r′ : List ℕ) → Good r → LanesCleared r r′
+pub lanes-cleared : {r r′ : List ℕ} → Good r → LanesCleared r r′
     → Changes r (head-of (head-area r)) (run-of (run-area r)) no-subscriptions r′
-lanes-cleared r r′ g c = record {
+lanes-cleared {r} {r′} g c = record {
   becomes = record {
     good =
         good-of r′ (c .size ∙ g .size) (ap head-formed (c .head) ∙ parts r g .head .formed)
@@ -110,10 +110,10 @@ nothing-dealt r kind few g = record {
 
 -- ==== a start
 
-pub started-there : (r h n r′ : List ℕ) → length r ≡ region-size → head-of h ≡ cleared → head.Area h → run.Area n
+pub started-there : (r : List ℕ) {h n r′ : List ℕ} → length r ≡ region-size → head-of h ≡ cleared → head.Area h → run.Area n
     → LanesCleared (putMid 8 run-size (putMid 0 head-size r h) n) r′ → Good r′ × (session-of r′ ≡ model.closed)
 unfolding session-of
-started-there r h n r′ s e g k c =
+started-there r {h} {n} {r′} s e g k c =
     let r₁ = putMid 0 head-size r h in
     let r₂ = putMid 8 run-size r₁ n in
     let l : length r₁ ≡ region-size = replaced-size r h s 0 head-size (g .size) (lit≤ tt) ∙ s in
@@ -131,7 +131,7 @@ started-there r h n r′ s e g k c =
 abbrev pub held : Decision → List ℕ → List Subscription
 held d r = cond (d .begins) no-subscriptions (subscriptions-in r)
 
-module _ (d : Decision) (r r₁ r₂ : List ℕ) (sends : Bool) (few : d .kind < length kinds)
+module _ (d : Decision) {r r₁ r₂ : List ℕ} {sends : Bool} (few : d .kind < length kinds)
     (c : Changes r (d .next) empty-run (held d r) r₁) (e : DealtTo (d .kind) (deed-of (d .deed)) r₁ sends r₂) where
   abbrev kind : ℕ
   kind = d .kind
@@ -169,11 +169,9 @@ module _ (d : Decision) (r r₁ r₂ : List ℕ) (sends : Bool) (few : d .kind <
 
   now : session-of r₂ ≡ meaning (d .next) empty-run (set xs kind (y .0))
   now =
-      means (e .changes .becomes)
-      ∙ ap₂ (λ (z : Session) (n : Run). meaning z n
+      means (e .changes .becomes) ∙ ap₂ (λ (z : Session) (n : Run). meaning z n
       (set (subscriptions-in r₁) kind ((act (room-of kind) (deed-of (d .deed)) (subscription-in kind r₁)) .0)))
-      (c .becomes .head) (c .becomes .runs)
-      ∙ ap (meaning (d .next) empty-run) (sym (e .changes .becomes .subscriptions) ∙ subs₂)
+      (c .becomes .head) (c .becomes .runs) ∙ ap (meaning (d .next) empty-run) (sym (e .changes .becomes .subscriptions) ∙ subs₂)
 
   pub carries-out : CarriesOut d r sends r₂
   carries-out =
@@ -191,15 +189,14 @@ module _ (d : Decision) (r r₁ r₂ : List ℕ) (sends : Bool) (few : d .kind <
       }
 
 -- step by step: the run is over, what it held is gone or not, and it is then as the decision says
-pub changed-so : (d : Decision) (r r₁ r₂ r₃ : List ℕ) → Changes r (head-of (head-area r)) empty-run (subscriptions-in r) r₁
+pub changed-so : (d : Decision) {r r₁ r₂ r₃ : List ℕ} → Changes r (head-of (head-area r)) empty-run (subscriptions-in r) r₁
     → Changes r₁ (head-of (head-area r₁)) (run-of (run-area r₁)) (cond (d .begins) no-subscriptions (subscriptions-in r₁)) r₂
     → Changes r₂ (d .next) (run-of (run-area r₂)) (subscriptions-in r₂) r₃ → Changes r (d .next) empty-run (held d r) r₃
-changed-so d r r₁ r₂ r₃ a b c =
+changed-so d {r} {r₂ = r₂} {r₃} a b c =
     let empty : run-of (run-area r₂) ≡ empty-run = b .becomes .runs ∙ a .becomes .runs in
     let subs : subscriptions-in r₂ ≡ held d r =
     b .becomes .subscriptions ∙ ap (cond (d .begins) no-subscriptions) (a .becomes .subscriptions) in
-    changes-then a (changes-then b
-    (subst (λ (l : List Subscription). Changes r₂ (d .next) empty-run l r₃) subs
+    changes-then a (changes-then b (subst (λ (l : List Subscription). Changes r₂ (d .next) empty-run l r₃) subs
     (subst (λ (n : Run). Changes r₂ (d .next) n (subscriptions-in r₂) r₃) empty c)))
 
 -- ==== the run is over
@@ -216,48 +213,56 @@ known-by : (b : Bool) (bs : List ℕ) → b ≡ is-known (announced b bs)
 known-by false bs = refl
 known-by true bs = refl
 
-module _ (granted : Bool) (bs r place : List ℕ) (x : Session) (ex : x ≡ head-of (head-area r)) (idle : x .idle < idle-limit)
-    (standing : Standing) (stands : standing-of standing ≡ stood x granted (subscriptions-in r)) where
+-- the decision on a run that is over: whose it is, how that one stands, and what is ruled
+pub record Judged (granted : Bool) (bs r place : List ℕ) (d : Decision) (place′ : List ℕ) : Type 0 where
+  pub who : Session
+  pub here : who ≡ head-of (head-area r)
+  pub idle : who .idle < idle-limit
+  pub standing : Standing
+  pub stands : standing-of standing ≡ stood who granted (subscriptions-in r)
+  pub ruled : Ruled who standing (longer (run-of (run-area r)) bs) place d place′
+
+module _ {granted : Bool} {bs r place : List ℕ} {d : Decision} {place′ : List ℕ} (o : Judged granted bs r place d place′) where
   abbrev n : Run
   n = longer (run-of (run-area r)) bs
 
-  module _ (d : Decision) (place′ : List ℕ) (ruled : Ruled x standing n place d place′) where
-    pub kind-known : d .kind < length kinds
-    kind-known = rw (ruled .decides) (decided-kind x standing (header-of (n .kept) (n .count)) (drop header-length (n .kept)))
+  pub kind-known : d .kind < length kinds
+  kind-known = rw (o .ruled .decides) (decided-kind (o .who) (o .standing) (header-of (n .kept) (n .count)) (drop header-length (n .kept)))
 
-    pub idle-few : d .next .idle < idle-limit
-    idle-few = rw (ruled .decides) (decided-idle x idle standing (header-of (n .kept) (n .count)) (drop header-length (n .kept)))
+  pub idle-few : d .next .idle < idle-limit
+  idle-few =
+      rw (o .ruled .decides) (decided-idle (o .who) (o .idle) (o .standing) (header-of (n .kept) (n .count)) (drop header-length (n .kept)))
 
-    pub header-there : d .reply ≡ reply.Mirrored → header-length ≤ length (n .kept)
-    header-there q = mirrored-whole x standing n (ap (λ (z : Decision). z .reply) (sym (ruled .decides)) ∙ q)
+  header-there : d .reply ≡ reply.Mirrored → header-length ≤ length (n .kept)
+  header-there q = mirrored-whole (o .who) (o .standing) n (ap (λ (z : Decision). z .reply) (sym (o .ruled .decides)) ∙ q)
 
-    pub run-ends : (whole sends : Bool) (r′ : List ℕ) → CarriesOut d r sends r′
-        → (d .reply ≡ reply.Mirrored → take header-length (n .kept) ≡ take header-length (ended-in whole bs r′))
+  so : (st : Settings) → st .granted ≡ granted → standing-of (o .standing) ≡ standing-in st (o .who .phase) (subscriptions-in r)
+  so st eg = o .stands ∙ ap (λ (b : Bool). stood (o .who) b (subscriptions-in r)) (sym eg)
+
+  module _ {sends : Bool} {r′ : List ℕ} (c : CarriesOut d r sends r′) where
+    run-ends : (whole : Bool) → (d .reply ≡ reply.Mirrored → take header-length (n .kept) ≡ take header-length (ended-in whole bs r′))
         → (d .reply ≡ reply.Mirrored → header-length ≤ length (ended-in whole bs r′))
         → RunEnds granted bs r place (ended-by d whole sends) r′ place′
-    run-ends whole sends r′ c same long = record {
+    run-ends whole same long = record {
       good = c .good;
       size = c .size;
       kind = kind-known;
       ready = c .ready;
       whole = long;
       steps = λ st eg.
-          ap (step (shared-begun st 0) (receives (ending bs))) (means-so r x ex)
-          ∙ decide-right st (run-of (run-area r)) (subscriptions-in r) (ending bs) refl standing x (so st eg)
-          ∙ ap (λ (z : Decision). carried-out st (take header-length (n .kept)) z (subscriptions-in r)) (sym (ruled .decides))
+          ap (step (shared-begun st 0) (receives (ending bs))) (means-so r (o .who) (o .here))
+          ∙ decide-right st (run-of (run-area r)) (subscriptions-in r) (ending bs) refl (o .standing) (o .who) (so st eg)
+          ∙ ap (λ (z : Decision). carried-out st (take header-length (n .kept)) z (subscriptions-in r)) (sym (o .ruled .decides))
           ∙ ap₂ (λ (q : model.Session × List Emission) (es : List Emission). (q .0, es ++ q .1)) (c .carries st)
           (replies-same st _ _ (d .reply) same);
       knows = λ st eg.
-          let told = ap (announces (shared-begun st 0) (ending bs)) (means-so r x ex)
-          ∙ identify-right st (run-of (run-area r)) (subscriptions-in r) (ending bs) refl standing x (so st eg)
-          ∙ ap (λ (z : Decision). announced (z .identifies) (drop header-length (n .kept))) (sym (ruled .decides)) in (
+          let told = ap (announces (shared-begun st 0) (ending bs)) (means-so r (o .who) (o .here))
+          ∙ identify-right st (run-of (run-area r)) (subscriptions-in r) (ending bs) refl (o .standing) (o .who) (so st eg)
+          ∙ ap (λ (z : Decision). announced (z .identifies) (drop header-length (n .kept))) (sym (o .ruled .decides)) in (
             known-by (d .identifies) (drop header-length (n .kept)) ∙ ap is-known (sym told),
-            ruled .knows ∙ ap (λ (z : Option (List ℕ)). known-in z place) (sym told),
+            o .ruled .knows ∙ ap (λ (z : Option (List ℕ)). known-in z place) (sym told),
           );
     }
-      where
-        so : (st : Settings) → st .granted ≡ granted → standing-of standing ≡ standing-in st (x .phase) (subscriptions-in r)
-        so st eg = stands ∙ ap (λ (b : Bool). stood x b (subscriptions-in r)) (sym eg)
 
 -- ==== where its bytes are
 
@@ -281,10 +286,8 @@ module _ (a : List ℕ) (area : run.Area a) where
   unfolding run-of
   longer-none =
       let c = counted a area in
-      ap₂ {C = Run} (λ (bs : List ℕ) (n : ℕ). record { kept = bs; count = n })
-      (ap (take run-kept) (append-nil (run-of a .kept))
-      ∙ take-all run-kept (run-of a .kept) (omega (arith, length-take (min run-kept (little (take 2 a))) (drop 2 a))))
-      (omega arith)
+      ap₂ {C = Run} (λ (bs : List ℕ) (n : ℕ). record { kept = bs; count = n }) (ap (take run-kept) (append-nil (run-of a .kept))
+      ∙ take-all run-kept (run-of a .kept) (omega (arith, length-take (min run-kept (little (take 2 a))) (drop 2 a)))) (omega arith)
 
   pub kept-header : header-length ≤ length (run-of a .kept) → take header-length (run-of a .kept) ≡ take header-length (bytes-of a)
   unfolding run-of
@@ -302,38 +305,28 @@ run-empty a e = ap (λ (n : ℕ). record { kept = take (min run-kept n) (drop 2 
 
 -- ==== it is over, and what is decided on it is carried out
 
-module _ (granted : Bool) (bs r place : List ℕ) (x : Session) (ex : x ≡ head-of (head-area r)) (idle : x .idle < idle-limit)
-    (standing : Standing) (stands : standing-of standing ≡ stood x granted (subscriptions-in r)) (d : Decision) (place′ : List ℕ)
-    (ruled : Ruled x standing (longer (run-of (run-area r)) bs) place d place′) (sends : Bool) (r′ : List ℕ)
-    (c : CarriesOut d r sends r′) where
+module _ {granted : Bool} {bs r place : List ℕ} {d : Decision} {place′ : List ℕ} (o : Judged granted bs r place d place′) {sends : Bool}
+    {r′ : List ℕ} (c : CarriesOut d r sends r′) where
   -- where it stands whole in the slice
   pub ends-whole : run-of (run-area r) ≡ empty-run → RunEnds granted bs r place (ended-by d true sends) r′ place′
   ends-whole e =
       let n : longer (run-of (run-area r)) bs ≡ longer empty-run bs = ap (λ (z : Run). longer z bs) e in
-      run-ends granted bs r place x ex idle standing stands d place′ ruled true sends r′ c
-      (λ q. ap (λ (z : Run). take header-length (z .kept)) n ∙ whole-header bs)
-      (λ q. whole-long bs (subst (λ (z : Run). header-length ≤ length (z .kept)) n
-      (header-there granted bs r place x ex idle standing stands d place′ ruled q)))
+      run-ends o c true (λ q. ap (λ (z : Run). take header-length (z .kept)) n ∙ whole-header bs)
+      (λ q. whole-long bs (subst (λ (z : Run). header-length ≤ length (z .kept)) n (header-there o q)))
 
-module _ (granted : Bool) (r place : List ℕ) (x : Session) (ex : x ≡ head-of (head-area r)) (idle : x .idle < idle-limit)
-    (standing : Standing) (stands : standing-of standing ≡ stood x granted (subscriptions-in r)) (d : Decision) (place′ : List ℕ)
-    (ruled : Ruled x standing (longer (run-of (run-area r)) []) place d place′) (sends : Bool) (r′ : List ℕ)
-    (c : CarriesOut d r sends r′) where
+module _ {granted : Bool} {r place : List ℕ} {d : Decision} {place′ : List ℕ} (o : Judged granted [] r place d place′) {sends : Bool}
+    {r′ : List ℕ} (c : CarriesOut d r sends r′) where
   -- where it is kept
   pub ends-kept : run.Area (run-area r) → RunEnds granted [] r place (ended-by d false sends) r′ place′
   ends-kept area =
       let n = longer-none (run-area r) area in
-      let long : d .reply ≡ reply.Mirrored → header-length ≤ length (run-of (run-area r) .kept) =
-      λ q. subst (λ (z : Run). header-length ≤ length (z .kept)) n
-      (header-there granted [] r place x ex idle standing stands d place′ ruled q) in
-      run-ends granted [] r place x ex idle standing stands d place′ ruled false sends r′ c
-      (λ q. ap (λ (z : Run). take header-length (z .kept)) n ∙ kept-header (run-area r) area (long q)
-      ∙ ap (take header-length) (sym (c .bytes)))
+      run-ends o c false (λ q. ap (λ (z : Run). take header-length (z .kept)) n ∙ kept-header (run-area r) area
+      (subst (λ (z : Run). header-length ≤ length (z .kept)) n (header-there o q)) ∙ ap (take header-length) (sym (c .bytes)))
       (λ q. rw (c .bytes) (bytes-long (run-area r) area))
 
 -- ==== a run that began earlier ends: first it gets longer, and then it is over
 
-module _ (bs r r₁ : List ℕ) (x : Session) (ex : x ≡ head-of (head-area r))
+module _ (bs : List ℕ) {r r₁ : List ℕ} {x : Session} (ex : x ≡ head-of (head-area r))
     (b : Becomes r x (longer (run-of (run-area r)) bs) (subscriptions-in r) r₁) where
   abbrev run₀ : Run
   run₀ = run-of (run-area r)
@@ -358,9 +351,9 @@ module _ (bs r r₁ : List ℕ) (x : Session) (ex : x ≡ head-of (head-area r))
   tells-same st Opened = refl
   tells-same st Started = rw again
 
-  pub ends-longer : (granted : Bool) (place : List ℕ) (e : Ended) (r′ place′ : List ℕ) → e .whole ≡ false
+  pub ends-longer : {granted : Bool} {place : List ℕ} {e : Ended} {r′ place′ : List ℕ} → e .whole ≡ false
       → RunEnds granted [] r₁ place e r′ place′ → RunEnds granted bs r place e r′ place′
-  ends-longer granted place e r′ place′ kept w =
+  ends-longer {place = place} {e} {r′} {place′} kept w =
       let was = means-so r x ex in
       let is = means b in
       record {
@@ -385,6 +378,5 @@ module _ (bs r r₁ : List ℕ) (x : Session) (ex : x ≡ head-of (head-area r))
         knows = λ st eg.
             subst (λ (z : Option (List ℕ)). Knows z place (e .identified) place′)
             (ap (announces (shared-begun st 0) (ending [])) is ∙ sym (tells-same st (x .phase))
-            ∙ ap (announces (shared-begun st 0) (ending bs)) (sym was))
-            (w .knows st eg);
+            ∙ ap (announces (shared-begun st 0) (ending bs)) (sym was)) (w .knows st eg);
       }

@@ -24,7 +24,6 @@ pub padded-there : (bs : List ℕ) {place place₁ place₂ : List ℕ} {n next 
     → length bs ≤ identifier-length → Put place 0 bs n place₁ → Put place₁ n (replicate (25 - n) 0x20) next place₂
     → place₂ ≡ padded identifier-length bs
 padded-there bs {place} {place₁} {place₂} {n} {next} size few p q =
-    let z = p .place in
     let l : n ≡ length bs = omega arith in
     let w = put-then p q in
     let all-of-it : length place ≡ length (bs ++ replicate (25 - n) 0x20) =
@@ -37,7 +36,7 @@ data-few run bs l e = rw (e, length-drop header-length run) (omega arith)
 
 -- ==== the decision
 
-module _ (x : Session) (standing : Standing) (run : Run) (place : List ℕ) (d : Decision)
+module _ {x : Session} {standing : Standing} {run : Run} {place : List ℕ} {d : Decision}
     (decides : d ≡ decision x standing (header-of (run .kept) (run .count)) (drop header-length (run .kept))) where
   pub ruled-silent : d .identifies ≡ false → Ruled x standing run place d place
   ruled-silent e = record {
@@ -45,9 +44,9 @@ module _ (x : Session) (standing : Standing) (run : Run) (place : List ℕ) (d :
     knows = sym (ap (λ (b : Bool). known-in (announced b (drop header-length (run .kept))) place) e);
   }
 
-  pub ruled-known : (place′ bs : List ℕ) → d .identifies ≡ true → bs ≡ drop header-length (run .kept)
+  pub ruled-known : {place′ bs : List ℕ} → d .identifies ≡ true → bs ≡ drop header-length (run .kept)
       → place′ ≡ padded identifier-length bs → Ruled x standing run place d place′
-  ruled-known place′ bs e eb ep = record {
+  ruled-known e eb ep = record {
     decides = decides;
     knows = ep ∙ ap (padded identifier-length) eb ∙ sym (ap (λ (b : Bool). known-in (announced b (drop header-length (run .kept))) place)
         e);

@@ -55,7 +55,7 @@ unlike-opened e = let z : _≡_ {A = ℕ} 0 1 = cc in omega arith
 
 -- ==== a tick to one that stays
 
-module _ (x : Session) (r r₁ : List ℕ) (c : Changes r x (run-of (run-area r)) (subscriptions-in r) r₁) where
+module _ {x : Session} {r r₁ : List ℕ} (c : Changes r x (run-of (run-area r)) (subscriptions-in r) r₁) where
   -- it is not started: nothing more is done
   quiet-steps : (p : Phase) → (p ≡ Started → ⊥) → (st : Settings)
       → ticked-in p st (x .idle) (run-of (run-area r)) (subscriptions-in r)
@@ -64,21 +64,20 @@ module _ (x : Session) (r r₁ : List ℕ) (c : Changes r x (run-of (run-area r)
   quiet-steps Opened n st = refl
   quiet-steps Started n st = absurd (n refl)
 
-  pub stays-quiet : (p : Phase) → x .phase ≡ p → (p ≡ Started → ⊥) → TickStays x r (replicate (length kinds) false) r₁
-  stays-quiet p e n =
+  pub stays-quiet : {p : Phase} → x .phase ≡ p → (p ≡ Started → ⊥) → TickStays x r (replicate (length kinds) false) r₁
+  stays-quiet e n =
       let b = c .becomes in
       record {
         good = b .good;
         size = b .size;
         ready = none-ready (length kinds) (subscriptions-in r₁) (length-subscriptions r₁);
         steps = λ st.
-            quiet-steps (x .phase) (λ q. n (sym e ∙ q)) st
-            ∙ ap₂ (λ (m : model.Session) (es : List Emission). (m, es)) (sym (means b))
+            quiet-steps (x .phase) (λ q. n (sym e ∙ q)) st ∙ ap₂ (λ (m : model.Session) (es : List Emission). (m, es)) (sym (means b))
             (sym (none-due st 0 (length kinds) (subscriptions-in r₁)));
       }
 
-  pub stays-started : (due : List Bool) (r₂ : List ℕ) → x .phase ≡ Started → DealtToAll (λ kind. beats) r₁ due r₂ → TickStays x r due r₂
-  stays-started due r₂ e d =
+  pub stays-started : {due : List Bool} {r₂ : List ℕ} → x .phase ≡ Started → DealtToAll (λ kind. beats) r₁ due r₂ → TickStays x r due r₂
+  stays-started {due} {r₂} e d =
       let xs = subscriptions-in r in
       let b = c .becomes in
       let f = d .changes .becomes in
@@ -138,7 +137,7 @@ module _ (r : List ℕ) (x : Session) (ex : x ≡ head-of (head-area r)) (few : 
 pub kind-in : (kind : ℕ) (p : List ℕ) → kind < length kinds → kind-of (event-in kind p) ≡ kind
 kind-in kind p h = eqb-true _ kind (each-below (length kinds) (λ (k : ℕ). eqb (kind-of (event-in k p)) k) refl kind h)
 
-module _ (kind : ℕ) (p r : List ℕ) (few : kind < length kinds) (x : Session) (ex : x ≡ head-of (head-area r)) where
+module _ {kind : ℕ} (p r : List ℕ) (few : kind < length kinds) {x : Session} (ex : x ≡ head-of (head-area r)) where
   abbrev n : Notice
   n = notice-in kind p
 
@@ -154,8 +153,8 @@ module _ (kind : ℕ) (p r : List ℕ) (few : kind < length kinds) (x : Session)
   not-takes Opened h = refl
   not-takes Started h = absurd (h refl)
 
-  pub takes-none : (ph : Phase) → x .phase ≡ ph → (ph ≡ Started → ⊥) → Good r → Takes kind p r (record { taken = false; tell = false }) r
-  takes-none ph e h g =
+  pub takes-none : {ph : Phase} → x .phase ≡ ph → (ph ≡ Started → ⊥) → Good r → Takes kind p r (record { taken = false; tell = false }) r
+  takes-none e h g =
       let other : x .phase ≡ Started → ⊥ = λ q. h (sym e ∙ q) in
       let now = means-so r x ex in
       record {
@@ -168,9 +167,9 @@ module _ (kind : ℕ) (p r : List ℕ) (few : kind < length kinds) (x : Session)
             ∙ ap (λ (m : model.Session). (m, [])) (sym now);
       }
 
-  pub takes-one : (told-so : Told) (r′ : List ℕ) → x .phase ≡ Started → DealtTo kind (news n) r (told-so .tell) r′
+  pub takes-one : {told-so : Told} {r′ : List ℕ} → x .phase ≡ Started → DealtTo kind (news n) r (told-so .tell) r′
       → told-so .taken ≡ notices.takes (room-of kind) (subscription-in kind r) → Takes kind p r told-so r′
-  takes-one t r′ e d takes-it =
+  takes-one {told-so = t} {r′} e d takes-it =
       let xs = subscriptions-in r in
       let s = getD xs kind unsubscribed in
       let is : s ≡ subscription-in kind r = subscription-at r kind few in

@@ -48,21 +48,18 @@ module _ {X : Type 0} (l : List X) (k : ℕ) (d y : X) (h : k < length l) where
 
 -- ==== a deed to one lane
 
-module _ (r : List ℕ) (kind : ℕ) (deed : Deed) (few : kind < length kinds) (g : Good r) where
-  pub dealt-to : (a z : ℕ) (b : Bool) (ys : List ℕ) → a ≡ lane-at kind → z ≡ lane-size kind
-      → Deals (notice-in kind) kind deed (midOf a (a + z - a) r) b ys
-      → DealtTo kind deed r b (putMid a (a + z - a) r ys)
-  dealt-to a z b ys ea ez d =
-      let is : lane-of kind (midOf a (a + z - a) r) ≡ subscription-in kind r = ap (lane-of kind) (lane-part r kind few a z ea ez) in
-      let c = lane-replaced r kind few a z ea ez ys (g .size) (d .lane) g in
-      let new : lane-of kind ys ≡ (act (room-of kind) deed (subscription-in kind r)) .0 =
-      d .becomes ∙ ap (λ (x : Subscription). (act (room-of kind) deed x) .0) is in
-      record {
-        changes =
-            subst (λ (y : Subscription). Changes r (head-of (head-area r)) (run-of (run-area r)) (set (subscriptions-in r) kind y)
-            (putMid a (a + z - a) r ys)) new c;
-        sends = d .sends ∙ ap (λ (x : Subscription). any ((act (room-of kind) deed x) .1)) is;
-      }
+pub dealt-to : {r : List ℕ} {kind a z : ℕ} {deed : Deed} {b : Bool} {ys : List ℕ} → kind < length kinds → Good r → a ≡ lane-at kind
+    → z ≡ lane-size kind → Deals (notice-in kind) kind deed (midOf a (a + z - a) r) b ys → DealtTo kind deed r b (putMid a (a + z - a) r ys)
+dealt-to {r} {kind} {a} {z} {deed} {ys = ys} few g ea ez d =
+    let is : lane-of kind (midOf a (a + z - a) r) ≡ subscription-in kind r = ap (lane-of kind) (lane-part r few ea ez) in
+    let new : lane-of kind ys ≡ (act (room-of kind) deed (subscription-in kind r)) .0 =
+    d .becomes ∙ ap (λ (x : Subscription). (act (room-of kind) deed x) .0) is in
+    record {
+      changes =
+          subst (λ (y : Subscription). Changes r (head-of (head-area r)) (run-of (run-area r)) (set (subscriptions-in r) kind y)
+          (putMid a (a + z - a) r ys)) new (lane-replaced r few ea ez (g .size) (d .lane) g);
+      sends = d .sends ∙ ap (λ (x : Subscription). any ((act (room-of kind) deed x) .1)) is;
+    }
 
 -- ==== to every lane
 
@@ -98,9 +95,9 @@ module _ (deed : ℕ → Deed) where
     dues = refl;
   }
 
-  module _ (r₀ r : List ℕ) (due : List Bool) (k : ℕ) (w : Dealing r₀ r due k) where
-    pub dealing-next : (b : Bool) (r′ : List ℕ) → k < length kinds → DealtTo k (deed k) r b r′ → Dealing r₀ r′ (set due k b) (k + 1)
-    dealing-next b r′ h d =
+  module _ {r₀ r : List ℕ} {due : List Bool} {k : ℕ} (w : Dealing r₀ r due k) where
+    pub dealing-next : {b : Bool} {r′ : List ℕ} → k < length kinds → DealtTo k (deed k) r b r′ → Dealing r₀ r′ (set due k b) (k + 1)
+    dealing-next {b} {r′} h d =
         let xs = subscriptions-in r in
         let few = there r k h in
         let fd : k < length due = rw (w .count) h in
@@ -123,19 +120,16 @@ module _ (deed : ℕ → Deed) where
           };
           subscriptions =
               ap (λ (l : List Subscription). take (k + 1) l ++ row (acting deed) (k + 1) (drop (k + 1) l)) new
-              ∙ row-next xs k unsubscribed _ few (acting deed) (ap (λ (x : Subscription). (acting deed k x) .0) is)
-              ∙ w .subscriptions;
+              ∙ row-next xs k unsubscribed _ few (acting deed) (ap (λ (x : Subscription). (acting deed k x) .0) is) ∙ w .subscriptions;
           dues =
               ap (λ (l : List Subscription). take (k + 1) (set due k b) ++ dues deed (k + 1) (drop (k + 1) l)) new
-              ∙ dues-next deed due xs k b _ fd few (d .sends ∙ ap (λ (x : Subscription). any ((acting deed k x) .1)) is)
-              ∙ w .dues;
+              ∙ dues-next deed due xs k b _ fd few (d .sends ∙ ap (λ (x : Subscription). any ((acting deed k x) .1)) is) ∙ w .dues;
         }
 
     pub dealt-to-all : length kinds ≤ k → DealtToAll deed r₀ due r
     dealt-to-all h =
         let xs = subscriptions-in r in
         let n = length-subscriptions r in
-        let c = w .count in
         let none : drop k xs ≡ [] = drop-of-length-le xs {i = k} (omega arith) in
         let all-of-them : xs ≡ row (acting deed) 0 (subscriptions-in r₀) =
         sym (append-nil xs) ∙ ap₂ (λ (a z : List Subscription). a ++ row (acting deed) k z) (sym (take-all k xs (omega arith))) (sym none)
@@ -145,8 +139,7 @@ module _ (deed : ℕ → Deed) where
               subst (λ (l : List Subscription). Changes r₀ (head-of (head-area r₀)) (run-of (run-area r₀)) l r) all-of-them (w .changes);
           sends =
               sym (append-nil due) ∙ ap₂ (λ (a : List Bool) (z : List Subscription). a ++ dues deed k z)
-              (sym (take-all k due (omega arith))) (sym none)
-              ∙ w .dues;
+              (sym (take-all k due (omega arith))) (sym none) ∙ w .dues;
         }
 
 -- ==== every lane is cleared
@@ -163,7 +156,7 @@ clearing-none r =
     record { within = omega arith; size = refl; head = refl; run = refl; lane = λ j h. absurd (omega arith) }
 
 -- the lanes as they stand, after the one of kind k was replaced by ys
-module _ (r : List ℕ) (k : ℕ) (h : k < length kinds) (a z : ℕ) (ea : a ≡ lane-at k) (ez : z ≡ lane-size k) (ys : List ℕ)
+module _ (r : List ℕ) {k a z : ℕ} (h : k < length kinds) (ea : a ≡ lane-at k) (ez : z ≡ lane-size k) {ys : List ℕ}
     (s : length r ≡ region-size) (c : lane.Lane k ys) where
   abbrev as-it-stands : ℕ → List ℕ → List ℕ
   as-it-stands kind l = l
@@ -171,36 +164,35 @@ module _ (r : List ℕ) (k : ℕ) (h : k < length kinds) (a z : ℕ) (ea : a ≡
   lane-now : (j : ℕ) → j < length kinds → lane-in j (putMid a (a + z - a) r ys) ≡ getD (set (lanes as-it-stands r) k ys) j []
   lane-now j b =
       sym (areas-at as-it-stands lane-at lane-size (length kinds) j (putMid a (a + z - a) r ys) [] b)
-      ∙ ap (λ (m : List (List ℕ)). getD m j []) (lanes-put r k h a z ea ez ys s c as-it-stands)
+      ∙ ap (λ (m : List (List ℕ)). getD m j []) (lanes-put r h ea ez s c as-it-stands)
 
   lane-same : lane-in k (putMid a (a + z - a) r ys) ≡ ys
   lane-same =
-      lane-now k h ∙ getD-set-same (lanes as-it-stands r) k ys []
-      (rw (length-areas as-it-stands lane-at lane-size 0 (length kinds) r) h)
+      lane-now k h ∙ getD-set-same (lanes as-it-stands r) k ys [] (rw (length-areas as-it-stands lane-at lane-size 0 (length kinds) r) h)
 
   lane-other : (j : ℕ) → j < length kinds → (j ≡ k → ⊥) → lane-in j (putMid a (a + z - a) r ys) ≡ lane-in j r
   lane-other j b other =
       lane-now j b ∙ getD-set-other (lanes as-it-stands r) k j ys [] other ∙ areas-at as-it-stands lane-at lane-size (length kinds) j r [] b
 
-module _ (r₀ r : List ℕ) (k : ℕ) (w : Clearing r₀ r k) where
-  pub clearing-next : (a z : ℕ) (ys : List ℕ) → length r₀ ≡ region-size → k < length kinds → a ≡ lane-at k → z ≡ lane-size k
+module _ {r₀ r : List ℕ} {k : ℕ} (w : Clearing r₀ r k) where
+  pub clearing-next : {a z : ℕ} {ys : List ℕ} → length r₀ ≡ region-size → k < length kinds → a ≡ lane-at k → z ≡ lane-size k
       → lane.Cleared k ys → Clearing r₀ (putMid a (a + z - a) r ys) (k + 1)
-  clearing-next a z ys s h ea ez c =
+  clearing-next {a} {z} {ys} s h ea ez c =
       let l = w .size ∙ s in
       record {
         within = omega arith;
-        size = lane-size-kept r k h a z ea ez ys l (c .lane) ∙ w .size;
-        head = head-kept r k h a z ea ez ys l (c .lane) ∙ w .head;
-        run = run-kept r k h a z ea ez ys l (c .lane) ∙ w .run;
+        size = lane-size-kept r h ea ez l (c .lane) ∙ w .size;
+        head = head-kept r h ea ez l (c .lane) ∙ w .head;
+        run = run-kept r h ea ez l (c .lane) ∙ w .run;
         lane = λ j b. go l j b (eqb j k) refl;
       }
     where
       go : length r ≡ region-size → (j : ℕ) → j < k + 1 → (b : Bool) → eqb j k ≡ b → lane.Cleared j (lane-in j (putMid a (a + z - a) r ys))
-      go l j b true e = rw (eqb-true j k e) (subst (lane.Cleared k) (sym (lane-same r k h a z ea ez ys l (c .lane))) c)
+      go l j b true e = rw (eqb-true j k e) (subst (lane.Cleared k) (sym (lane-same r h ea ez l (c .lane))) c)
       go l j b false e =
           let other = eqb-false j k e in
           let few : j < k = omega (arith, other) in
-          subst (lane.Cleared j) (sym (lane-other r k h a z ea ez ys l (c .lane) j (omega arith) other)) (w .lane j few)
+          subst (lane.Cleared j) (sym (lane-other r h ea ez l (c .lane) j (omega arith) other)) (w .lane j few)
 
   pub all-cleared : length kinds ≤ k → LanesCleared r₀ r
   unfolding subscriptions-in
@@ -233,10 +225,9 @@ module _ (r : List ℕ) where
   told-at : (k : ℕ) → k < length kinds → getD told k false ≡ is-subscribed (subscription-in k r)
   told-at k h = List·getD-map is-subscribed (subscriptions-in r) k unsubscribed ∙ ap is-subscribed (subscription-at r k h)
 
-  pub telling-next : (known : List Bool) (k : ℕ) (b : Bool) → Telling known k → k < length kinds → b ≡ is-subscribed (subscription-in k r)
+  pub telling-next : {known : List Bool} {k : ℕ} {b : Bool} → Telling known k → k < length kinds → b ≡ is-subscribed (subscription-in k r)
       → Telling (set known k b) (k + 1)
-  telling-next known k b w h e =
-      let c = w .count in
+  telling-next {known} {k} {b} w h e =
       record {
         within = omega arith;
         count = length-set known k b ∙ w .count;
@@ -247,9 +238,8 @@ module _ (r : List ℕ) where
             ∙ ap (λ (z : List Bool). take k known ++ z) (sym (drop-cons told k false (rw length-told h))) ∙ w .so-far;
       }
 
-  pub all-told : (known : List Bool) (k : ℕ) → Telling known k → length kinds ≤ k → known ≡ told
-  all-told known k w h =
-      let c = w .count in
+  pub all-told : {known : List Bool} {k : ℕ} → Telling known k → length kinds ≤ k → known ≡ told
+  all-told {known} {k} w h =
       let n = length-told in
       sym (append-nil known) ∙ ap₂ _++_ (sym (take-all k known (omega arith))) (sym (drop-of-length-le told {i = k} (omega arith)))
       ∙ w .so-far

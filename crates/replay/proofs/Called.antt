@@ -125,8 +125,7 @@ module _ {c : Call} {t o : List ℕ} {r : Answer} {t′ o′ : List ℕ} (out : 
         below = subst (Below session-count) (sym (g .silent .1)) tt;
         formed = formed-after (q .1 .number) (ap (λ (a : model.Answer). a .number) answer) f;
         world = λ z.
-            out .meaning ∙ ap (λ (x : Said). uncounted (x .0)) same
-            ∙ g .world (eqb-true (q .1 .number) 0 z);
+            out .meaning ∙ ap (λ (x : Said). uncounted (x .0)) same ∙ g .world (eqb-true (q .1 .number) 0 z);
       }
 
   as-called : (b : Bool) → table-formed t ≡ b → (b ≡ true → decode t ≡ erase-world w) → As c b (step (with-formed b) w c) r t′ o′

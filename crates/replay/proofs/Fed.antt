@@ -30,8 +30,7 @@ fed-next m s y left rest a going e d g =
     let l : List ℕ = drop (b .consumed) left in
     elim (eqb (b .number) 0 && not (eqb (length l) 0)) [ true ↦ fed m z s l | false ↦ z ]) e
     ∙ ap (λ (l : List ℕ). elim (eqb (a .number) 0 && not (eqb (length l) 0)) [ true ↦ fed m z s l | false ↦ z ]) (sym d)
-    ∙ chosen (eqb (a .number) 0 && not (eqb (length rest) 0)) (fed m z s rest) z
-    ∙ ap (λ (b : Bool). cond b (fed m z s rest) z) (sym g)
+    ∙ chosen (eqb (a .number) 0 && not (eqb (length rest) 0)) (fed m z s rest) z ∙ ap (λ (b : Bool). cond b (fed m z s rest) z) (sym g)
   where
     chosen : (b : Bool) (x z : State) → elim b [ true ↦ x | false ↦ z ] ≡ cond b x z
     chosen true x z = refl

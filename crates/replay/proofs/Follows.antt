@@ -51,7 +51,6 @@ behind-put {l = l} {l′ = l′} {text = text} {at = at} {free = free} {r = r} h
   where
     stands : take r l′ ≡ take free l ++ text
     stands =
-        let n = p .place in
         ap₂ take (p .place) (p .output) ∙ take-sets text l free (omega arith)
 
     go : (b : Bool) → leb (at + output-least) (length l) ≡ b → free ≡ cond b at 0 → Behind (length l) (take at l) text (take r l′)

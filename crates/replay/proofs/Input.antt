@@ -50,8 +50,6 @@ is-whole bs h = go (leb record-head (length bs)) (leb n payload-longest) (leb (r
 size-append : (xs ys : List ℕ) → 0 < whole-size xs → whole-size (xs ++ ys) ≡ whole-size xs
 size-append xs ys h =
     let w = is-whole xs h in
-    let few = w .fits in
-    let short = w .short in
     let n : little (places 1 2 (xs ++ ys)) ≡ little (places 1 2 xs) = ap little (take-append-le 2 xs ys (omega arith)) in
     let a = length-append xs ys in
     sym (size-whole (xs ++ ys) (omega arith) (omega arith)) ∙ ap (λ (k : ℕ). record-head + k) n ∙ sym (w .size)
@@ -103,13 +101,11 @@ module _ (xs ys : List ℕ) where
       let w = waits-next xs size refl p few in
       record {
         whole =
-            slices-first (xs ++ ys) size same p
-            ∙ ap₂ _∷_ (take-append-le size xs ys few) (ap records behind ∙ rest .whole)
+            slices-first (xs ++ ys) size same p ∙ ap₂ _∷_ (take-append-le size xs ys few) (ap records behind ∙ rest .whole)
             ∙ ap (λ (l : List ℕ). (take size xs ∷ records (drop size xs)) ++ records (l ++ ys)) w
             ∙ ap (λ (ss : List (List ℕ)). ss ++ records (waits xs ++ ys)) (sym (slices-first xs size refl p));
         left =
-            sym (waits-next (xs ++ ys) size same p (omega arith)) ∙ ap waits behind ∙ rest .left
-            ∙ ap (λ (l : List ℕ). waits (l ++ ys)) w;
+            sym (waits-next (xs ++ ys) size same p (omega arith)) ∙ ap waits behind ∙ rest .left ∙ ap (λ (l : List ℕ). waits (l ++ ys)) w;
         cut = ap whole-size (sym w) ∙ rest .cut;
       }
 
@@ -122,8 +118,6 @@ split-within (suc n) xs ys h = go (λ (l : List ℕ). split-within n l ys) (whol
     go shorter (suc k) e =
         let p : 0 < whole-size xs = omega arith in
         let f = is-whole xs p in
-        let size = f .size in
-        let fits = f .fits in
         let d = length-drop (whole-size xs) xs in
         split-first xs ys p (omega arith) (shorter (drop (whole-size xs) xs) (omega arith))
 
@@ -133,6 +127,10 @@ split xs ys = split-within (length xs) xs ys (omega arith)
 all-given-append : (x : State) (rs ss : List (List ℕ)) → all-given x (rs ++ ss) ≡ all-given (all-given x rs) ss
 all-given-append x [] ss = refl
 all-given-append x (r ∷ rs) ss = all-given-append (given x r) rs ss
+
+-- what waits is no more than there was
+pub waits-within : {left have : ℕ} (input : List ℕ) → have ≤ length input → left ≡ length (waits (take have input)) → left ≤ have
+waits-within {have = have} input h e = omega (arith, e, waits-few (take have input), length-take-le have input h)
 
 -- what waits, moved to the front
 pub waits-moved : {moved : List ℕ} (have left : ℕ) (input : List ℕ) → have ≤ length input → left ≡ length (waits (take have input))

@@ -92,8 +92,7 @@ slices-first bs size e h =
     let rest = drop (whole-size bs) bs in
     let p : 0 < whole-size bs = omega arith in
     let d = length-drop (whole-size bs) bs in
-    rw e
-    (slices-enough (length bs) (suc (length bs)) bs (omega arith) (omega arith) ∙ slices-next bs (length bs) p
+    rw e (slices-enough (length bs) (suc (length bs)) bs (omega arith) (omega arith) ∙ slices-next bs (length bs) p
     ∙ ap (λ (ss : List (List ℕ)). take (whole-size bs) bs ∷ ss) (slices-enough (length bs) (length rest) rest (omega arith) (omega arith)))
 
 pub is-short : (bs : List ℕ) → length bs < record-head → false ≡ too-long bs

@@ -80,8 +80,7 @@ frame-line s frame h =
     let closing : List ℕ = space ∷ 0x43 ∷ [] in
     let sending : List ℕ = space ∷ 0x53 ∷ space ∷ [] in
     ap (λ (b : Bool). d ++ cond b closing (sending ++ shown (take (length r - suc record-head) (drop record-head r))))
-    (ne-eqb (length r) record-head (λ e. omega arith))
-    ∙ ap (λ (l : List ℕ). d ++ sending ++ shown l) (frame-body s frame)
+    (ne-eqb (length r) record-head (λ e. omega arith)) ∙ ap (λ (l : List ℕ). d ++ sending ++ shown l) (frame-body s frame)
     ∙ ap (λ (x : List ℕ). x ++ sending ++ shown frame) (frame-session s frame h)
 
 close-line : (s : ℕ) → s < session-count → line-in (close-record s) ≡ digits 1 s ++ space ∷ 0x43 ∷ []
@@ -135,8 +134,7 @@ unfolding text-of
 told-as q r o′ answer bytes fits below =
     let n = ap length (sym bytes) ∙ length-take (r .written) o′ in
     ap₂ (λ (number : ℕ) (ls : List (List ℕ)). printed (cond (eqb number 0) ls ((0x52 ∷ space ∷ digits 1 number) ∷ [])))
-    (ap (λ (a : model.Answer). a .number) answer)
-    (ap lines-in bytes ∙ lines-in-output (q .2) below (omega arith))
+    (ap (λ (a : model.Answer). a .number) answer) (ap lines-in bytes ∙ lines-in-output (q .2) below (omega arith))
 
 -- THE LINES: what is printed for a call are the lines of what the model says of it
 pub told : {c : Call} {t o : List ℕ} {r : Answer} {t′ o′ : List ℕ} → Outcome c t o r t′ o′

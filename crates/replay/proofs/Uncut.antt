@@ -129,8 +129,7 @@ module _ (x : State) (s b : ℕ) (bs : List ℕ) where
           world = ap (λ (y : State). y .world) ends ∙ sym (ap (λ (r : Upshot). r .world) all);
           lines =
               ap (λ (y : State). y .lines) ends ∙ first-lines ∙ ap (λ (ls : List (List ℕ)). x .lines ++ ls) (sym (append-nil
-              (map line-of es)))
-              ∙ sym (ap (λ (r : Upshot). x .lines ++ (map line-of (r .emissions) ++ [])) all);
+              (map line-of es))) ∙ sym (ap (λ (r : Upshot). x .lines ++ (map line-of (r .emissions) ++ [])) all);
         }
 
     uncut-on : (z : ℕ) (zs : List ℕ) → z ∷ zs ≡ drop (the-step .1 .consumed) (b ∷ bs)

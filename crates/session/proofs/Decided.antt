@@ -83,8 +83,7 @@ module _ (mid revision : ℕ) (no-acknowledge : Bool) where
 
 pub decided-kind : (x : Session) (standing : Standing) (h : Header) (bs : List ℕ) → decision x standing h bs .kind < length kinds
 decided-kind x standing h bs =
-    on-any OfAKind x (λ b mid n. omega arith) (omega arith)
-    (λ mid revision no-acknowledge error.
+    on-any OfAKind x (λ b mid n. omega arith) (omega arith) (λ mid revision no-acknowledge error.
     either OfAKind (no-error error) (entry-kind mid revision no-acknowledge (entry-of mid) refl) (omega arith))
     standing h bs
 
@@ -106,8 +105,7 @@ effect-idle mid revision no-acknowledge (some mirrors) = omega arith
 pub decided-idle : (x : Session) → x .idle < idle-limit → (standing : Standing) (h : Header) (bs : List ℕ)
     → decision x standing h bs .next .idle < idle-limit
 decided-idle x few standing h bs =
-    on-any Few x (λ b mid n. few) (omega arith)
-    (λ mid revision no-acknowledge error.
+    on-any Few x (λ b mid n. few) (omega arith) (λ mid revision no-acknowledge error.
     either Few (no-error error) (effect-idle mid revision no-acknowledge (effect-listed (entry-of mid))) (omega arith))
     standing h bs
 

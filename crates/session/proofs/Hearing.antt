@@ -50,10 +50,8 @@ module _ (x : Session) (standing : Standing) (bs : List ℕ) where
       → d ≡ decision x standing h bs
   unfolding decision
   in-phase {h} {size} {mid} {revision} {no-acknowledge} {error} eh ee ep ed =
-      ed
-      ∙ ap (λ (q : Phase). decided q x mid revision no-acknowledge error) (sym ep)
-      ∙ ap (decided (x .phase) x mid revision no-acknowledge) ee
-      ∙ rw eh
+      ed ∙ ap (λ (q : Phase). decided q x mid revision no-acknowledge error) (sym ep)
+      ∙ ap (decided (x .phase) x mid revision no-acknowledge) ee ∙ rw eh
 
 -- ==== where nothing is done to any kind, the subscriptions are as they were, and nothing is sent
 
@@ -157,8 +155,7 @@ module _ (st : Settings) (m : runs.Message) (idle : ℕ) (subs : List Subscripti
     by-mid false e = alone st Opened idle subs []
     by-mid true e =
         ap (begin (shared-begun st 0) idle m) (same-error (opened-standing (shared-begun st 0)) s (m .mid) (m .size) (m .revision)
-        (m .data-field) refl unstarted (eqb-true (m .mid) 1 e))
-        ∙ begins found
+        (m .data-field) refl unstarted (eqb-true (m .mid) 1 e)) ∙ begins found
 
     hears-opened : hear-opened (shared-begun st 0) idle m ≡ opened-so (decided-opened x (m .mid) found)
     hears-opened = by-mid (eqb (m .mid) 1) refl

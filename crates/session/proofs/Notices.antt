@@ -103,8 +103,6 @@ module _ (most revision clock held : ℕ) (n m : Notice) (ns : List Notice) wher
       → Behind (cond full (record { take = take.Not; next = held-so held }) (record { take = take.Waits held; next = held-so (held + 1) }))
   by-room true p h =
       let l = leb-true most held p in
-      let q = h .held in
-      let f = h .fits in
       rw (le-ltb (suc (length ns)) most (omega arith)) record { acts = refl; takes = refl; holds = h; place = omega arith }
   by-room false p h =
       let l = leb-false most held p in

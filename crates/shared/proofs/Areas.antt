@@ -55,7 +55,6 @@ area-still a at k ys h e f g =
 pub force-put : (a x : List ℕ) → Area a → length x ≡ identifier-length → Holds (settings-part a) x (last-of a) (sets a in-force-at x)
 unfolding settings-part in-force-of last-of
 force-put a x h e =
-    let s = h .size in
     let r : in-force-at + identifier-length ≤ length a = omega arith in
     record {
       area = area-still a in-force-at identifier-length x h e (lit≤ tt) (lit≤ tt);
@@ -70,7 +69,6 @@ pub last-put : (a : List ℕ) (n : ℕ) → Area a → n < suc number-greatest
     → Holds (settings-part a) (in-force-of a) n (sets a last-at (in-bytes number-length n))
 unfolding settings-part in-force-of last-of
 last-put a n h f =
-    let s = h .size in
     let r : last-at + number-length ≤ length a = omega arith in
     let e = in-bytes-length number-length n in
     record {
@@ -95,7 +93,6 @@ mark-put a s = record {
 settings-put : (a p : List ℕ) → Area a → length p ≡ settings-length → Holds p (in-force-of a) (last-of a) (sets a settings-at p)
 unfolding settings-part in-force-of last-of
 settings-put a p h e =
-    let s = h .size in
     let r : settings-at + settings-length ≤ length a = omega arith in
     record {
       area = area-still a settings-at settings-length p h e (lit≤ tt) (lit≤ tt);

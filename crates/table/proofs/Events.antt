@@ -1,5 +1,5 @@
 -- An event: who takes it, and what it leaves to all sessions. Assumes nothing.
-use mathlib.Core.Path.{_≡_, refl, sym, ap, ap₂, subst, _∙_}
+use mathlib.Core.Path.{_≡_, sym, ap, ap₂, subst, _∙_}
 use Prim.Native.Nat.{ℕ, suc, _+_, _*_, _^_, _≤_, _<_}
 use native.Mathlib.Nat.{add-zero, add-suc, suc-add, pow-suc, pow-le-pow-right}
 use native.Mathlib.Numerals.{add-one}
@@ -29,7 +29,7 @@ use Rattle.table.proofs.Regions.{front-regions, front-table, table-mean
 
 -- ==== who takes it
 
-at-most : (b : Bool) (n : ℕ) → cond b n 0 ≤ n
+pub at-most : (b : Bool) (n : ℕ) → cond b n 0 ≤ n
 at-most true n = omega arith
 at-most false n = omega arith
 
@@ -50,64 +50,52 @@ takers-below kind t =
     let e : 2 ^ (0 + length (regions session-of t)) ≡ 2 ^ session-count = ap (λ (n : ℕ). 2 ^ (0 + n)) (length-regions session-of t) in
     omega arith
 
--- the bit of each session is twice the last one's, and both it and the sum are small
+-- a loop that adds them up: the bit of the next session, and what is left to add is all of it
+pub record Summing (kind : ℕ) (t₀ t : List ℕ) (s bit taken : ℕ) : Type 0 where
+  pub power : bit ≡ 2 ^ s
+  pub sum : taken + takers kind s (drop s (decode t .sessions)) ≡ takers kind 0 (decode t₀ .sessions)
+
 pub sum-fits : 2 ^ session-count ≤ 65_536
 sum-fits = lit≤ tt
 
-pub bit-next : (bit s : ℕ) → bit ≡ 2 ^ s → bit * 2 ≡ 2 ^ (s + 1)
-bit-next bit s e = ap (λ (n : ℕ). n * 2) e ∙ sym (pow-suc 2 s) ∙ ap (λ (n : ℕ). 2 ^ n) (sym (add-one s))
+-- the others are as they were when one has had its turn: y takes the place of the one at s
+takers-next : (l : List Session) (s : ℕ) (y : Session) → s < length l → (kind : ℕ)
+    → takers kind s (drop s l) ≡ cond (takes kind (getD l s closed)) (2 ^ s) 0 + takers kind (s + 1) (drop (s + 1) (set l s y))
+takers-next l s y h kind = rw (add-one s, drop-set-lt (suc s) l s y (omega arith)) (ap (takers kind s) (drop-cons l s closed h))
 
-bit-fits : (bit s : ℕ) → bit ≡ 2 ^ s → s < session-count → bit ≤ 65_536
-bit-fits bit s e h =
-    let n : s ≤ session-count = omega arith in
-    let two : 0 < 2 = omega arith in
-    omega (arith, e, pow-le-pow-right two n, sum-fits)
+module _ {kind : ℕ} {t₀ t : List ℕ} {s bit taken : ℕ} (w : Summing kind t₀ t s bit taken) where
+  -- both the bit and the sum are small
+  pub bit-small : s < session-count → bit ≤ 65_536
+  bit-small few =
+      let n : s ≤ session-count = omega arith in
+      let two : 0 < 2 = omega arith in
+      omega (arith, w .power, pow-le-pow-right two n, sum-fits)
 
-share-fits : (b : Bool) (bit : ℕ) → bit ≤ 65_536 → cond b bit 0 ≤ 65_536
-share-fits true bit h = h
-share-fits false bit h = omega arith
+  module _ (b : Bool) {share : ℕ} (es : share ≡ cond b bit 0) (few : s < session-count) where
+    pub adds : taken + share ≤ 131_072
+    adds = omega (arith, w .sum, es, takers-below kind t₀, sum-fits, at-most b bit, bit-small few)
 
-pub doubles : (bit s : ℕ) → bit ≡ 2 ^ s → s < session-count → bit * 2 ≤ 131_072
-doubles bit s e h = omega (arith, bit-fits bit s e h)
+    pub sums-next : {t₁ o o₁ : List ℕ} {at to : ℕ} (e : Event) → Went t o at (alone s (event e) ∷ []) to t₁ o₁
+        → b ≡ takes kind (session-at (decode t) s) → Summing kind t₀ t₁ (s + 1) (bit * 2) (taken + share)
+    sums-next {t₁} e v eb =
+        let l = decode t .sessions in
+        let h : s < length l = rw (so-many-sessions t) few in
+        let y = (step (decode t .shared) (event e) (session-at (decode t) s)) .0 in
+        let new : decode t₁ .sessions ≡ set l s y =
+        ap (λ (z : World). z .sessions) (v .table .meaning ∙ ap uncounted (next-to (decode t) s (event e) h)) in
+        let mine : share ≡ cond (takes kind (session-at (decode t) s)) (2 ^ s) 0 =
+        es ∙ ap₂ (λ (z : Bool) (n : ℕ). cond z n 0) eb (w .power) in
+        let others = ap (λ (z : List Session). takers kind (s + 1) (drop (s + 1) z)) new in
+        record {
+          power = rw (add-one s, pow-suc 2 s) (ap (λ (n : ℕ). n * 2) (w .power));
+          sum = omega (arith, takers-next l s y h kind, others, mine, w .sum);
+        }
 
-pub adds : (kind : ℕ) (t₀ : List ℕ) (taken rest share bit s : ℕ) (b : Bool) → taken + rest ≡ takers kind 0 (decode t₀ .sessions)
-    → share ≡ cond b bit 0 → bit ≡ 2 ^ s → s < session-count → taken + share ≤ 131_072
-adds kind t₀ taken rest share bit s b e es eb h =
-    omega (arith, e, es, takers-below kind t₀, sum-fits, share-fits b bit (bit-fits bit s eb h))
-
--- the others are as they were when one has had its turn: x stood at s, and y takes its place
-module _ (l : List Session) (s : ℕ) (x y : Session) (h : s < length l) (at-s : getD l s closed ≡ x) where
-  behind : drop (s + 1) (set l s y) ≡ drop (suc s) l
-  behind = ap (λ (n : ℕ). drop n (set l s y)) (add-one s) ∙ drop-set-lt (suc s) l s y (omega arith)
-
-  takers-next : (kind : ℕ) → takers kind s (drop s l) ≡ cond (takes kind x) (2 ^ s) 0 + takers kind (s + 1) (drop (s + 1) (set l s y))
-  takers-next kind =
-      ap (takers kind s) (drop-cons l s closed h ∙ ap (λ (z : Session). z ∷ drop (suc s) l) at-s)
-      ∙ ap (λ (n : ℕ). cond (takes kind x) (2 ^ s) 0 + n) (sym (ap₂ (takers kind) (add-one s) behind))
-
--- a loop that adds them up: what is left to add is all of it
-pub taken-next : (kind : ℕ) (t t₁ o o₁ : List ℕ) (at to s taken share sum : ℕ) (b : Bool) (e : Event) → s < session-count
-    → Went t o at (alone s (event e) ∷ []) to t₁ o₁
-    → b ≡ takes kind (session-at (decode t) s)
-    → share ≡ cond b (2 ^ s) 0 → taken + takers kind s (drop s (decode t .sessions)) ≡ sum
-    → taken + share + takers kind (s + 1) (drop (s + 1) (decode t₁ .sessions)) ≡ sum
-taken-next kind t t₁ o o₁ at to s taken share sum b e few w eb es eq =
-    let l = decode t .sessions in
-    let h : s < length l = rw (so-many-sessions t) few in
-    let y = (step (decode t .shared) (event e) (session-at (decode t) s)) .0 in
-    let new : decode t₁ .sessions ≡ set l s y =
-    ap (λ (z : World). z .sessions) (w .table .meaning)
-    ∙ ap (λ (z : World). z .sessions) (ap uncounted (next-to (decode t) s (event e) h)) in
-    let mine : share ≡ cond (takes kind (session-at (decode t) s)) (2 ^ s) 0 = es ∙ ap (λ (z : Bool). cond z (2 ^ s) 0) eb in
-    let others = ap (λ (z : List Session). takers kind (s + 1) (drop (s + 1) z)) new in
-    omega (arith, takers-next l s (session-at (decode t) s) y h refl kind, others, mine, eq)
-
-pub taken-all : (kind : ℕ) (t : List ℕ) (s taken sum : ℕ) → session-count ≤ s
-    → taken + takers kind s (drop s (decode t .sessions)) ≡ sum → taken ≡ sum
-taken-all kind t s taken sum h e =
-    let n = so-many-sessions t in
-    sym (add-zero taken) ∙ ap (λ (l : List Session). taken + takers kind s l)
-    (sym (drop-of-length-le (decode t .sessions) {i = s} (omega arith))) ∙ e
+  pub sums-all : session-count ≤ s → taken ≡ takers kind 0 (decode t₀ .sessions)
+  sums-all h =
+      let n = so-many-sessions t in
+      sym (add-zero taken) ∙ ap (λ (l : List Session). taken + takers kind s l)
+      (sym (drop-of-length-le (decode t .sessions) {i = s} (omega arith))) ∙ w .sum
 
 -- ==== what is left to all sessions
 

@@ -11,7 +11,7 @@ use lib.ListN.{length, take}
 use lib.Seq.{take-all}
 use borrow.Author.Tests.{lt-ltb, le-ltb, leb-true}
 use Rattle.model.specs.Limits.{session-count, header-length}
-use Rattle.model.specs.Records.{Settings, settings-of, settings-length}
+use Rattle.model.specs.Records.{settings-of, settings-length}
 use Rattle.model.specs.Runs.{Piece, cut, longer}
 use Rattle.model.specs.Kinds.{kinds, kind-at, copy-most, copies-most, reply-most, session-most, receive-most}
 use Rattle.model.specs.Events.{identified}
@@ -34,7 +34,7 @@ use Rattle.run.specs.Area.{run-of, Ends}
 use Rattle.head.specs.Head.{head-of}
 use Rattle.region.specs.Region as region
 use Rattle.region.specs.Region.{head-area, run-area, subscriptions-in, subscription-in, session-of, run-bytes}
-use Rattle.region.specs.Said.{due-copy, Ready, ending, Knows, ended-in, end-said, RunEnds}
+use Rattle.region.specs.Said.{due-copy, ending, Knows, ended-in, end-said, RunEnds}
 use Rattle.region.specs.declared.Ended.{Ended}
 use Rattle.region.proofs.Areas.{means}
 use Rattle.shared.specs.Shared.{settings-part}
@@ -42,8 +42,8 @@ use Rattle.table.specs.Table.{shared-area, region-in, decode, settings-i
 use Rattle.table.specs.Says.{Lent, Wrote, OpenLent, EndLent}
 use Rattle.table.specs.Passes.{unended, heard-by-all, Hears, Received}
 use Rattle.table.proofs.Regions.{part, put, part-is, so-many-sessions}
-use Rattle.table.proofs.Alone.{became-alone, went-one, went-then, went-alone, by-settings, uncounted-yet}
-use Rattle.table.proofs.Passes.{still-lent, there, same-settings}
+use Rattle.table.proofs.Alone.{became-alone, went-one, went-then, by-settings, uncounted-yet}
+use Rattle.table.proofs.Passes.{still-lent, there, passed}
 
 -- ==== bytes that end no run
 
@@ -120,9 +120,9 @@ piece-goes-on bs i e h =
 
 -- ==== bytes that end no run: the table has heard them
 
-pub goes-on-so : (t o : List ℕ) (to : To) (bs : List ℕ) (end : ℕ) → Lent t o to receive-most → Ends bs end → length bs ≤ end → (t′ : List ℕ)
-    → Becomes t (uncounted (next (decode t) (hears (to .session) (unended bs)))) t′ → Received t o to (cut bs) (to .at) t′ o
-goes-on-so t o to bs end l e h t′ b =
+pub goes-on-so : {t o : List ℕ} {to : To} {bs : List ℕ} {end : ℕ} → Lent t o to receive-most → Ends bs end → length bs ≤ end
+    → {t′ : List ℕ} → Becomes t (uncounted (next (decode t) (hears (to .session) (unended bs)))) t′ → Received t o to (cut bs) (to .at) t′ o
+goes-on-so {t} {o} {to} {bs} {end} l e h {t′} b =
     let s = to .session in
     let quiet : happening (option-map identified (announces (decode t .shared) (unended bs) (session-at (decode t) s))) ≡ [] =
     ap (λ (x : Option (List ℕ)). happening (option-map identified x)) (tells-none t s bs (l .table) (l .session)) in
@@ -145,28 +145,27 @@ copy-among kind h =
     leb-true _ _ (each-below (length kinds) (λ (k : ℕ). leb (copy-most (kind-at k)) (copies-most kinds)) refl kind h)
 
 -- the bytes of the run, as they are lent on
-pub run-is : {g kept run : List ℕ} (t : List ℕ) (to : To) (bs : List ℕ) (e : Ended) → g ≡ region-in (to .session) t → kept ≡ run-bytes g
-    → run ≡ cond (e .whole) bs kept → run ≡ ended-in (e .whole) bs (region-in (to .session) t)
-run-is t to bs e eg ek er = er ∙ ap (cond (e .whole) bs) (ek ∙ ap run-bytes eg)
-
-module _ (t o : List ℕ) (to : To) (bs : List ℕ) (e : Ended) (l : EndLent t o to bs e) where
+module _ {t o : List ℕ} {to : To} {bs : List ℕ} {e : Ended} (l : EndLent t o to bs e) where
   abbrev region-now : List ℕ
   region-now = region-in (to .session) t
 
-  pub reply-lent : (payload : List ℕ) → length payload ≡ settings-length → (run : List ℕ) → run ≡ ended-in (e .whole) bs region-now
+  pub run-is : {g kept run : List ℕ} → g ≡ region-now → kept ≡ run-bytes g → run ≡ cond (e .whole) bs kept
+      → run ≡ ended-in (e .whole) bs region-now
+  run-is eg ek er = er ∙ ap (cond (e .whole) bs) (ek ∙ ap run-bytes eg)
+
+  pub reply-lent : {payload run : List ℕ} → length payload ≡ settings-length → run ≡ ended-in (e .whole) bs region-now
       → ReplyLent o payload run to (e .reply)
-  reply-lent payload es run er =
+  reply-lent es er =
       let room = l .lent .room in
-      let few = l .lent .session in
       record {
         output = record { room = omega arith; numbered = omega arith };
         settings = es;
         header = λ q. rw er (l .whole q);
       }
 
-  pub say-lent : {bytes : List ℕ} (at : ℕ) (o₁ : List ℕ) → at ≤ to .at + reply-most → Put o (to .at) bytes at o₁
+  pub say-lent : {bytes o₁ : List ℕ} {at : ℕ} → at ≤ to .at + reply-most → Put o (to .at) bytes at o₁
       → OpenLent t o₁ (record { session = to .session; at = at }) (e .kind) (e .sends)
-  say-lent at o₁ few p =
+  say-lent few p =
       let room = l .lent .room in
       let size = put-length p in
       let among = copy-among (e .kind) (l .known) in
@@ -191,43 +190,32 @@ module _ (t o : List ℕ) (to : To) (bs : List ℕ) (e : Ended) (l : EndLent t o
         within = omega arith;
         bytes = put-as
             (sym (out-append (to .session) (replies st (take header-length (ended-in (e .whole) bs region-now)) (e .reply))
-            (due-copy st (e .kind) (e .sends) (subscription-in (e .kind) region-now))))
-            (put-then
+            (due-copy st (e .kind) (e .sends) (subscription-in (e .kind) region-now)))) (put-then
             (put-as (ap₂ (λ (z q : List ℕ). out-bytes (to .session) (replies (settings-of z) (take header-length q) (e .reply))) ep er) p)
             (w .bytes));
       }
 
 -- ==== the end of a run: first the region changes, and then what it has to say is written
 
-module _ (t o : List ℕ) (to : To) (bs place : List ℕ) (l : Lent t o to session-most) (granted : Bool) (e : Ended) (r′ place′ : List ℕ)
+module _ {t o : List ℕ} {to : To} {bs place : List ℕ} (l : Lent t o to session-most) {granted : Bool} {e : Ended} {r′ place′ : List ℕ}
     (w : RunEnds granted bs (part t (to .session)) place e r′ place′) where
-  abbrev t₁ : List ℕ
-  t₁ = put t (to .session) r′
-
-  now-there : region-in (to .session) t₁ ≡ r′
-  now-there = there t o to session-most l r′ (w .good)
-
-  pub end-lent : EndLent t₁ o to bs e
+  pub end-lent : EndLent (put t (to .session) r′) o to bs e
   end-lent = record {
-    lent = still-lent t o to session-most l r′ (w .good);
+    lent = still-lent l (w .good);
     known = w .kind;
-    ready = subst (λ (z : List ℕ). Ready (e .sends) (subscription-in (e .kind) z)) (sym now-there) (w .ready);
-    whole = λ q. subst (λ (z : List ℕ). header-length ≤ length (ended-in (e .whole) bs z)) (sym now-there) (w .whole q);
+    ready = rw (there l (w .good)) (w .ready);
+    whole = λ q. rw (there l (w .good)) (w .whole q);
   }
 
-  pub heard : settings-in t .granted ≡ granted → (next : ℕ) (o′ : List ℕ)
-      → Wrote session-most (end-said (settings-in t₁) bs e (region-in (to .session) t₁)) to o next o′
-      → Hears t o to bs place (record { at = next; identified = e .identified }) t₁ o′ place′
+  pub heard : settings-in t .granted ≡ granted → {next : ℕ} {o′ : List ℕ}
+      → Wrote session-most (end-said (settings-in (put t (to .session) r′)) bs e (region-in (to .session) (put t (to .session) r′)))
+      to o next o′
+      → Hears t o to bs place (record { at = next; identified = e .identified }) (put t (to .session) r′) o′ place′
   unfolding decode
-  heard eg next o′ v = record {
+  heard eg v = record {
     within = v .within;
-    went = went-alone t (to .session) (receives (ending bs)) (l .table) (l .session) (end-said (settings-in t) bs e r′) (w .good)
-        (by-settings t (receives (ending bs)) (session-of (part t (to .session))) ∙ w .steps (settings-in t) eg)
-        (put-as (ap (out-bytes (to .session)) (ap₂ (λ (st : Settings) (z : List ℕ). end-said st bs e z)
-        (same-settings t o to session-most l r′ (w .good)) now-there)) (v .bytes));
-    knows =
-        subst (λ (x : Option (List ℕ)). Knows x place (e .identified) place′)
-        (sym (ap (announces (decode t .shared) (ending bs)) (part-is t (to .session) (l .session))
-        ∙ announces-bare (decode t .shared) (ending bs) (session-of (part t (to .session)))))
-        (w .knows (settings-in t) eg);
+    went = passed l (w .good) (receives (ending bs)) (λ st z. end-said st bs e z)
+        (by-settings t (receives (ending bs)) (session-of (part t (to .session))) ∙ w .steps (settings-in t) eg) (v .bytes);
+    knows = rw (ap (announces (decode t .shared) (ending bs)) (part-is t (to .session) (l .session))
+        ∙ announces-bare (decode t .shared) (ending bs) (session-of (part t (to .session)))) (w .knows (settings-in t) eg);
   }

@@ -1,5 +1,5 @@
 -- What is written of a table is what its sessions say. Assumes nothing.
-use mathlib.Core.Path.{_≡_, sym, ap, ap₂, _∙_}
+use mathlib.Core.Path.{refl, subst, _≡_, sym, ap, _∙_}
 use Prim.Native.Nat.{ℕ, suc, _+_, _≤_, _<_}
 use native.Mathlib.Numerals.{add-one}
 use native.Mathlib.Omega.{arith}
@@ -13,7 +13,6 @@ use Rattle.model.specs.Frames.{event-frame, frame-record}
 use Rattle.model.specs.Notices.{Subscription, unsubscribed, is-subscribed}
 use Rattle.model.specs.Session.{Copy, copy}
 use Rattle.model.specs.Row.{tag}
-use Rattle.text.specs.Put.{Put}
 use Rattle.text.proofs.Lists.{drop-next}
 use Rattle.text.proofs.Puts.{Left, left-all, left-put, left-none, left-as}
 use Rattle.frame.specs.Places.{place-size, event-in, notice-in}
@@ -21,92 +20,140 @@ use Rattle.session.specs.Effects.{out-bytes}
 use Rattle.session.specs.declared.Subscription as control
 use Rattle.session.proofs.Replies.{out-append}
 use Rattle.lane.specs.Kinds.{control-size, lane-size}
-use Rattle.lane.specs.Lane.{is-plain, control-of, first-in, lane-of, open-one, any}
+use Rattle.lane.specs.Lane.{is-plain, control-of, first-in, lane-of}
 use Rattle.lane.proofs.KindLaws.{kind-fits}
 use Rattle.lane.proofs.Lanes.{first-fits}
 use Rattle.lane.proofs.Sayings.{tell-said, open-there, open-first}
-use Rattle.region.specs.Said.{copies-out, due-copy, due-copies}
+use Rattle.region.specs.Region.{region-size, lane-in, subscriptions-in}
+use Rattle.region.specs.Said.{copies-out, due-copy, due-copies, Ready}
+use Rattle.region.proofs.Areas.{lane-length, length-subscriptions, subscription-at, there}
+use Rattle.frame.specs.declared.To.{To}
+use Rattle.table.specs.Table.{region-in, settings-in}
+use Rattle.table.specs.Says.{Lent, Wrote, CopyLent, OpenLent, DueLent, subscription-to, subscriptions-to}
+use Rattle.table.proofs.Regions.{length-in}
+
+-- ==== a lane, as it is read in the table
+
+module _ {t o : List ℕ} {to : To} {most : ℕ} (p : Lent t o to most) {g : List ℕ} (eg : g ≡ region-in (to .session) t) where
+  pub region-long : length g ≡ region-size
+  region-long = ap length eg ∙ length-in t (to .session) (p .table .size) (p .session)
+
+  module _ (kind : ℕ) {l : List ℕ} (el : l ≡ lane-in kind g) where
+    pub lane-is : l ≡ lane-in kind (region-in (to .session) t)
+    lane-is = el ∙ ap (lane-in kind) eg
+
+    pub first-is : {f : List ℕ} → f ≡ first-in kind l → f ≡ first-in kind (lane-in kind (region-in (to .session) t))
+    first-is e = e ∙ ap (first-in kind) lane-is
+
+    pub lane-long : kind < length kinds → length l ≡ lane-size kind
+    lane-long known = ap length el ∙ lane-length g kind known region-long
 
 -- ==== a copy
 
--- the first place of a lane
-pub first-length : (kind : ℕ) (l : List ℕ) → kind < length kinds → length l ≡ lane-size kind → length (first-in kind l) ≡ place-size kind
-first-length kind l h e =
-    let f = first-fits kind (kind-fits kind h .some) in
-    length-take-le (place-size kind) (drop control-size l) (rw length-drop (omega arith))
+-- of the notice in the place p, to one that is subscribed
+pub copy-said : {st st′ : Settings} (s kind : ℕ) (l p : List ℕ) {x : control.Subscription} {b : Bool} → st ≡ st′
+    → x ≡ control-of l → b ≡ is-plain (x .form) → is-subscribed (lane-of kind l) ≡ true
+    → frame-record s (event-frame st (x .revision) b (event-in kind p))
+    ≡ out-bytes s (copies-out st′ kind (lane-of kind l) (notice-in kind p ∷ []))
+copy-said {st′ = st′} s kind l p es ex eb h =
+    rw (eb, ex, es) (sym (append-nil _)
+    ∙ ap (λ (cs : List Copy). out-bytes s (map copy (tag kind cs))) (sym (tell-said (notice-in kind) kind l st′ (notice-in kind p) h)))
 
-module _ (st : Settings) (s kind : ℕ) (l : List ℕ) where
-  pub copy-said : (x : control.Subscription) (b : Bool) (p : List ℕ) → x ≡ control-of l → b ≡ is-plain (x .form)
-      → is-subscribed (lane-of kind l) ≡ true
-      → frame-record s (event-frame st (x .revision) b (event-in kind p))
-      ≡ out-bytes s (copies-out st kind (lane-of kind l) (notice-in kind p ∷ []))
-  copy-said x b p ex eb h =
-      ap (λ (c : Bool). frame-record s (event-frame st (x .revision) c (event-in kind p))) eb
-      ∙ ap (λ (z : control.Subscription). frame-record s (event-frame st (z .revision) (is-plain (z .form)) (event-in kind p))) ex
-      ∙ sym (append-nil _)
-      ∙ ap (λ (cs : List Copy). out-bytes s (map copy (tag kind cs))) (sym (tell-said (notice-in kind) kind l st (notice-in kind p) h))
+-- of the open notice, which is in the first place
+module _ {t o : List ℕ} {to : To} {kind : ℕ} {due : Bool} (p : OpenLent t o to kind due) (h : due ≡ true) {f : List ℕ}
+    (ef : f ≡ first-in kind (lane-in kind (region-in (to .session) t))) where
+  abbrev l : List ℕ
+  l = lane-in kind (region-in (to .session) t)
 
-  module _ (ready : any (open-one (lane-of kind l)) ≡ true) where
-    pub open-subscribed : is-subscribed (lane-of kind l) ≡ true
-    open-subscribed = ap is-subscribed (open-there (notice-in kind) kind l ready)
+  pub first-lent : CopyLent t o to kind f
+  first-lent =
+      let fits = first-fits kind (kind-fits kind (p .known) .some) in
+      let size : length l ≡ lane-size kind = lane-long (p .lent) refl kind refl (p .known) in
+      record {
+        known = p .known;
+        lent = p .lent;
+        place = ap length ef ∙ length-take-le (place-size kind) (drop control-size l) (rw length-drop (omega arith));
+        subscribed = ap is-subscribed (open-there (notice-in kind) kind l (p .ready h));
+      }
 
-    -- the open notice is in the first place
-    pub open-copied : copies-out st kind (lane-of kind l) (notice-in kind (first-in kind l) ∷ []) ≡ due-copy st kind true (lane-of kind l)
-    open-copied = ap (copies-out st kind (lane-of kind l)) (sym (open-first (notice-in kind) kind l ready))
+  pub first-said : {next : ℕ} {o′ : List ℕ}
+      → Wrote (copy-most (kind-at kind)) (copies-out (settings-in t) kind (subscription-to to kind t) (notice-in kind f ∷ [])) to o next o′
+      → Wrote (copy-most (kind-at kind)) (due-copy (settings-in t) kind due (subscription-to to kind t)) to o next o′
+  first-said v = record {
+    within = v .within;
+    bytes = rw (h, open-first (notice-in kind) kind l (p .ready h), ← ef) (v .bytes);
+  }
 
 -- ==== a copy of each kind that is due
 
 abbrev none : Kind
 none = kind-at (length kinds)
 
-module _ (st : Settings) (s : ℕ) (due : List Bool) (xs : List Subscription) (o₀ : List ℕ) (at₀ : ℕ) where
+-- the copies of those from a kind on, as bytes
+abbrev from-kind : List ℕ → To → ℕ → List Bool → List Subscription → List ℕ
+from-kind t to kind due xs = out-bytes (to .session) (due-copies (settings-in t) kind due xs)
+
+module _ (t o₀ : List ℕ) (to : To) (due : List Bool) where
+  abbrev all-bytes : List ℕ
+  all-bytes = from-kind t to 0 due (subscriptions-to to t)
+
   -- what is left to say, over what was said, is all of it; and the room for the kinds that are left
   pub record Saying (o : List ℕ) (at kind : ℕ) : Type 0 where
     pub within : kind ≤ length kinds
-    pub room : at + copies-most (drop kind kinds) ≤ at₀ + copies-most kinds
-    pub bytes : Left o₀ at₀ (out-bytes s (due-copies st 0 due xs)) o at (out-bytes s (due-copies st kind (drop kind due) (drop kind xs)))
+    pub room : at + copies-most (drop kind kinds) ≤ to .at + copies-most kinds
+    pub bytes : Left o₀ (to .at) all-bytes o at (from-kind t to kind (drop kind due) (drop kind (subscriptions-to to t)))
 
-  pub saying-none : Saying o₀ at₀ 0
-  saying-none = record { within = omega arith; room = omega arith; bytes = left-all o₀ at₀ _ }
+  pub saying-none : Saying o₀ (to .at) 0
+  saying-none = record { within = omega arith; room = omega arith; bytes = left-all o₀ (to .at) _ }
 
-  room-for : (kind : ℕ) → kind < length kinds → copies-most (drop kind kinds)
-      ≡ copy-most (kind-at kind) + copies-most (drop (kind + 1) kinds)
-  room-for kind h = ap copies-most (drop-next kinds kind none h)
+module _ {t o₀ : List ℕ} {to : To} {due : List Bool} (p : DueLent t o₀ to due) {o : List ℕ} {at kind : ℕ}
+    (w : Saying t o₀ to due o at kind) where
+  abbrev behind : To
+  behind = record { session = to .session; at = at }
 
-  module _ (o : List ℕ) (at kind : ℕ) (w : Saying o at kind) (h : kind < length kinds) (hd : kind < length due) (hx : kind < length xs)
-    where
-      next-one : out-bytes s (due-copies st kind (drop kind due) (drop kind xs))
-          ≡ out-bytes s (due-copy st kind (getD due kind false) (getD xs kind unsubscribed))
-          ++ out-bytes s (due-copies st (kind + 1) (drop (kind + 1) due) (drop (kind + 1) xs))
-      next-one =
-          ap₂ (λ (d : List Bool) (z : List Subscription). out-bytes s (due-copies st kind d z)) (drop-next due kind false hd)
-          (drop-next xs kind unsubscribed hx)
-          ∙ out-append s (due-copy st kind (getD due kind false) (getD xs kind unsubscribed))
-          (due-copies st (suc kind) (drop (kind + 1) due)
-          (drop (kind + 1) xs))
-          ∙ ap (λ (k : ℕ). out-bytes s (due-copy st kind (getD due kind false) (getD xs kind unsubscribed)) ++ out-bytes s
-          (due-copies st k (drop (kind + 1) due) (drop (kind + 1) xs))) (sym (add-one kind))
+  abbrev r : List ℕ
+  r = region-in (to .session) t
 
-      -- there is room for one of this kind
-      pub room-one : at + copy-most (kind-at kind) ≤ at₀ + copies-most kinds
-      room-one = let r = w .room in omega (arith, room-for kind h)
+  module _ (few : kind < length kinds) where
+    room-for : copies-most (drop kind kinds) ≡ copy-most (kind-at kind) + copies-most (drop (kind + 1) kinds)
+    room-for = ap copies-most (drop-next kinds kind none few)
 
-      pub saying-next : (o′ : List ℕ) (to : ℕ) → Put o at (out-bytes s
-          (due-copy st kind (getD due kind false) (getD xs kind unsubscribed))) to o′
-          → to ≤ at + copy-most (kind-at kind) → Saying o′ to (kind + 1)
-      saying-next o′ to p few =
-          let r = w .room in
-          record {
-            within = omega arith;
-            room = omega (arith, room-for kind h);
-            bytes = left-put (left-as next-one (w .bytes)) p;
-          }
+    due-there : kind < length due
+    due-there = rw (p .ready .count) (there r kind few)
 
-  pub all-said : (o : List ℕ) (at kind : ℕ) → Saying o at kind → length due ≤ kind
-      → Put o₀ at₀ (out-bytes s (due-copies st 0 due xs)) at o
-  all-said o at kind w h =
-      left-none (left-as (ap (λ (d : List Bool). out-bytes s (due-copies st kind d (drop kind xs))) (drop-of-length-le due {i = kind} h))
-      (w .bytes))
+    -- there is room for one of this kind, and one where it is due
+    pub open-lent : OpenLent t o behind kind (getD due kind false)
+    open-lent =
+        let room = p .lent .room in
+        record {
+          known = few;
+          lent = record { table = p .lent .table; session = p .lent .session; room = omega (arith, room-for) };
+          ready = subst (Ready (getD due kind false)) (subscription-at r kind few) (p .ready .ready kind (there r kind few));
+        }
 
-  pub said-within : (o : List ℕ) (at kind : ℕ) → Saying o at kind → at ≤ at₀ + copies-most kinds
-  said-within o at kind w = let r = w .room in omega arith
+    one-more : from-kind t to kind (drop kind due) (drop kind (subscriptions-to to t))
+        ≡ out-bytes (to .session) (due-copy (settings-in t) kind (getD due kind false) (subscription-to to kind t))
+        ++ from-kind t to (kind + 1) (drop (kind + 1) due) (drop (kind + 1) (subscriptions-to to t))
+    one-more =
+        let st = settings-in t in
+        let xs = subscriptions-in r in
+        rw (drop-next due kind false due-there, drop-next xs kind unsubscribed (there r kind few), subscription-at r kind few, add-one kind)
+        (out-append (to .session) (due-copy st kind (getD due kind false) (subscription-to to kind t))
+        (due-copies st (suc kind) (drop (suc kind) due) (drop (suc kind) xs)))
+
+    pub saying-next : {o′ : List ℕ} {next : ℕ}
+        → Wrote (copy-most (kind-at kind)) (due-copy (settings-in t) kind (getD due kind false) (subscription-to to kind t))
+        behind o next o′
+        → Saying t o₀ to due o′ next (kind + 1)
+    saying-next v =
+        let within = v .within in
+        record { within = omega arith; room = omega (arith, room-for); bytes = left-put (left-as one-more (w .bytes)) (v .bytes) }
+
+  pub all-said : length kinds ≤ kind → Wrote (copies-most kinds) (due-copies (settings-in t) 0 due (subscriptions-to to t)) to o₀ at o
+  all-said h =
+      let many = length-subscriptions r in
+      record {
+        within = omega arith;
+        bytes = left-none (left-as (ap (λ (d : List Bool). from-kind t to kind d (drop kind (subscriptions-to to t)))
+            (drop-of-length-le due {i = kind} (omega arith))) (w .bytes));
+      }

@@ -39,12 +39,12 @@ pub record Closed (t₀ t : List ℕ) (s : ℕ) : Type 0 where
 pub closed-none : (t : List ℕ) → Closed t t 0
 closed-none t = record { within = omega arith; size = refl; past = refl; sessions = refl; formed = refl }
 
-module _ (t₀ : List ℕ) (long : table-least ≤ length t₀) (t : List ℕ) (s : ℕ) (w : Closed t₀ t s) where
+module _ {t₀ : List ℕ} (long : table-least ≤ length t₀) {t : List ℕ} {s : ℕ} (w : Closed t₀ t s) where
   still-long : table-least ≤ length t
   still-long = omega (arith, w .size)
 
-  pub closed-next : (r : List ℕ) → s < session-count → Good r → session-of r ≡ closed → Closed t₀ (put t s r) (s + 1)
-  closed-next r h g e =
+  pub closed-next : {r : List ℕ} → s < session-count → Good r → session-of r ≡ closed → Closed t₀ (put t s r) (s + 1)
+  closed-next {r} h g e =
       let l = still-long in
       let n = g .size in
       record {
@@ -60,12 +60,11 @@ module _ (t₀ : List ℕ) (long : table-least ≤ length t₀) (t : List ℕ) (
       }
 
   -- all of them are, and a is what they share
-  pub closed-all : (payload a : List ℕ) → session-count ≤ s → Holds payload (spaces 25) (settings-of payload .last) a
+  pub closed-all : {payload a : List ℕ} → session-count ≤ s → Holds payload (spaces 25) (settings-of payload .last) a
       → Becomes t₀ (begun (settings-of payload) 0) (front t a)
-  closed-all payload a h k =
+  closed-all {payload} {a} h k =
       let l = still-long in
       let n = k .area .size in
-      let few = w .within in
       let e : s ≡ session-count = omega arith in
       let sessions : regions session-of (front t a) ≡ replicate session-count closed =
       front-regions t a l n session-of ∙ same-all closed (regions session-of t) session-count (length-regions session-of t)

@@ -14,64 +14,56 @@ use Rattle.model.proofs.InTurn.{all-in-turn, all-emitted}
 use Rattle.text.specs.Put.{Put}
 use Rattle.text.proofs.Puts.{put-as, put-length}
 use Rattle.table.specs.Table.{decode, Table, Becomes, Went}
+use Rattle.table.specs.Says.{Lent}
 use Rattle.table.proofs.Regions.{so-many-sessions}
 use Rattle.table.proofs.Alone.{went-none, went-then, uncounted-yet}
 
--- ==== the room for so many bytes a session
-
-pub room-left : (most s : ℕ) → s < session-count → s * most + most ≤ session-count * most
-room-left most s h = let n : suc s ≤ session-count = h in omega (arith, suc-mul s most, mul-le-mul-right most n)
-
-pub room-all : (most at to s : ℕ) → s ≤ session-count → to ≤ at + s * most → to ≤ at + session-count * most
-room-all most at to s h k = omega (arith, mul-le-mul-right most h)
-
-pub room-next : (most at to next s : ℕ) → to ≤ at + s * most → next ≤ to + most → next ≤ at + (s + 1) * most
-room-next most at to next s h k = omega (arith, suc-mul s most, ap (λ (n : ℕ). n * most) (add-one s))
-
--- ==== the loop
-
-module _ (l : Local) (t₀ o₀ : List ℕ) (at₀ : ℕ) where
-  -- those before s have had their turn: what the others come to is what all come to
+module _ (most : ℕ) (l : Local) (t₀ o₀ : List ℕ) (at₀ : ℕ) where
+  -- those before s have had their turn, and so many bytes each: what the others come to is what all come to
   pub record Turns (t o : List ℕ) (at s : ℕ) : Type 0 where
     pub within : s ≤ session-count
     pub table : Table t
     pub size : length t ≡ length t₀
     pub long : length o ≡ length o₀
+    pub room : at ≤ at₀ + s * most
     pub rest : (next : ℕ) (t′ o′ : List ℕ) → Went t o at (in-turn l s (session-count - s)) next t′ o′
         → Went t₀ o₀ at₀ (in-turn l 0 session-count) next t′ o′
 
   pub turns-none : Table t₀ → Turns t₀ o₀ at₀ 0
-  turns-none h = record { within = omega arith; table = h; size = refl; long = refl; rest = λ next t′ o′ w. w }
+  turns-none h = record { within = omega arith; table = h; size = refl; long = refl; room = omega arith; rest = λ next t′ o′ w. w }
 
-  module _ (t o : List ℕ) (at s : ℕ) (w : Turns t o at s) where
-    pub turns-next : (t₁ o₁ : List ℕ) (to : ℕ) → s < session-count → Went t o at (alone s l ∷ []) to t₁ o₁ → Turns t₁ o₁ to (s + 1)
-    turns-next t₁ o₁ to h v =
-        let e : session-count - s ≡ suc (session-count - (s + 1)) = omega arith in
-        record {
-          within = omega arith;
-          table = v .table .table;
-          size = v .table .size ∙ w .size;
-          long = put-length (v .bytes) ∙ w .long;
-          rest = λ next t′ o′ u.
-              w .rest next t′ o′
-              (subst (λ (n : ℕ). Went t o at (in-turn l s n) next t′ o′) (sym e)
-              (went-then (uncounted-yet t s l) v
-              (subst (λ (n : ℕ). Went t₁ o₁ to (in-turn l n (session-count - (s + 1))) next t′ o′) (add-one s) u)));
-        }
+module _ {most : ℕ} {l : Local} {t₀ o₀ : List ℕ} {at₀ : ℕ} {t o : List ℕ} {at s : ℕ} (w : Turns most l t₀ o₀ at₀ t o at s) where
+  -- there is room for the next one
+  pub turn-lent : at₀ + session-count * most ≤ length o₀ → s < session-count → Lent t o (record { session = s; at = at }) most
+  turn-lent fits few =
+      let n : suc s ≤ session-count = few in
+      record { table = w .table; session = few; room = omega (arith, w .long, suc-mul s most, mul-le-mul-right most n) }
 
-    pub turns-all : session-count ≤ s → Becomes t₀ (uncounted (next (decode t₀) (to-all l))) t
-        × Put o₀ at₀ (output (emits (decode t₀) (to-all l))) at o
-    turns-all h =
-        let e : session-count - s ≡ 0 = omega arith in
-        let v = w .rest at t o (subst (λ (n : ℕ). Went t o at (in-turn l s n) at t o) (sym e) (went-none t o at (w .table))) in
-        let n = so-many-sessions t₀ in
-        let done = ap (λ (k : ℕ). after (decode t₀) (in-turn l 0 k)) (sym n) ∙ all-in-turn (decode t₀) l in
-        let sent = ap (λ (k : ℕ). emitted (decode t₀) (in-turn l 0 k)) (sym n) ∙ all-emitted (decode t₀) l in (
-          record {
-            table = v .table .table;
-            size = v .table .size;
-            past = v .table .past;
-            meaning = v .table .meaning ∙ ap uncounted done;
-          },
-          put-as (ap output sent) (v .bytes),
-        )
+  pub turns-next : {t₁ o₁ : List ℕ} {to : ℕ} → s < session-count → to ≤ at + most → Went t o at (alone s l ∷ []) to t₁ o₁
+      → Turns most l t₀ o₀ at₀ t₁ o₁ to (s + 1)
+  turns-next {t₁} {o₁} {to} few more v =
+      let e : session-count - s ≡ suc (session-count - (s + 1)) = omega arith in
+      record {
+        within = omega arith;
+        table = v .table .table;
+        size = v .table .size ∙ w .size;
+        long = put-length (v .bytes) ∙ w .long;
+        room = omega (arith, suc-mul s most, ap (λ (n : ℕ). n * most) (add-one s));
+        rest = λ next t′ o′ u.
+            w .rest next t′ o′ (rw e (went-then (uncounted-yet t s l) v
+            (subst (λ (n : ℕ). Went t₁ o₁ to (in-turn l n (session-count - (s + 1))) next t′ o′) (add-one s) u)));
+      }
+
+  pub turns-all : session-count ≤ s
+      → (at ≤ at₀ + session-count * most) × Becomes t₀ (uncounted (next (decode t₀) (to-all l))) t
+      × Put o₀ at₀ (output (emits (decode t₀) (to-all l))) at o
+  turns-all h =
+      let e : session-count - s ≡ 0 = omega arith in
+      let v = w .rest at t o (rw e (went-none t o at (w .table))) in
+      let n = so-many-sessions t₀ in
+      let done = ap (λ (k : ℕ). after (decode t₀) (in-turn l 0 k)) (sym n) ∙ all-in-turn (decode t₀) l in
+      let sent = ap (λ (k : ℕ). emitted (decode t₀) (in-turn l 0 k)) (sym n) ∙ all-emitted (decode t₀) l in (
+        omega (arith, mul-le-mul-right most (w .within)),
+        record { table = v .table .table; size = v .table .size; past = v .table .past; meaning = v .table .meaning ∙ ap uncounted done },
+        put-as (ap output sent) (v .bytes),
+      )

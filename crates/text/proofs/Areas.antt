@@ -168,21 +168,29 @@ module _ (test : ℕ → List ℕ → Bool) (at size : ℕ → ℕ) (n : ℕ) (l
   -- one that passes among those that do
   pub passes : pass-from 0 ≡ true → (k : ℕ) → k < n → test k (midOf (at k) (size k) l) ≡ true
   passes e k h =
-      sym (areas-at test at size n k l true h)
-      ∙ all-at (λ (b : Bool). b) tests k true e (rw (length-areas test at size 0 n l) h)
+      sym (areas-at test at size n k l true h) ∙ all-at (λ (b : Bool). b) tests k true e (rw (length-areas test at size 0 n l) h)
 
   pass-next : (k : ℕ) → k < n → pass-from k ≡ test k (midOf (at k) (size k) l) && pass-from (k + 1)
   pass-next k h =
       ap (all (λ (b : Bool). b)) (drop-next tests k true (rw (length-areas test at size 0 n l) h))
       ∙ ap (λ (b : Bool). b && pass-from (k + 1)) (areas-at test at size n k l true h)
 
-  -- a loop that tests an area a turn: what is left of the test is all of it
-  pub pass-on : (k : ℕ) → k < n → test k (midOf (at k) (size k) l) ≡ true → pass-from k ≡ pass-from 0 → pass-from (k + 1) ≡ pass-from 0
-  pass-on k h e i = ap (λ (b : Bool). b && pass-from (k + 1)) (sym e) ∙ sym (pass-next k h) ∙ i
+-- a loop that tests an area a turn: what is left of the test is all of it
+pub record Passing (test : ℕ → List ℕ → Bool) (at size : ℕ → ℕ) (n : ℕ) (l : List ℕ) (k : ℕ) : Type 0 where
+  pub left : pass-from test at size n l k ≡ pass-from test at size n l 0
 
-  pub pass-stops : (k : ℕ) → k < n → test k (midOf (at k) (size k) l) ≡ false → pass-from k ≡ pass-from 0 → false ≡ pass-from 0
-  pass-stops k h e i = ap (λ (b : Bool). b && pass-from (k + 1)) (sym e) ∙ sym (pass-next k h) ∙ i
+module _ {test : ℕ → List ℕ → Bool} {at size : ℕ → ℕ} {n : ℕ} {l : List ℕ} {k : ℕ} (w : Passing test at size n l k) where
+  rest-is : k < n → {b : Bool} → test k (midOf (at k) (size k) l) ≡ b
+      → b && pass-from test at size n l (k + 1) ≡ pass-from test at size n l 0
+  rest-is h e = ap (λ (b : Bool). b && pass-from test at size n l (k + 1)) (sym e) ∙ sym (pass-next test at size n l k h) ∙ w .left
 
-  pub pass-ends : (k : ℕ) → n ≤ k → pass-from k ≡ pass-from 0 → true ≡ pass-from 0
-  pass-ends k h i =
-      ap (all (λ (b : Bool). b)) (sym (drop-of-length-le tests {i = k} (rw (length-areas test at size 0 n l) h))) ∙ i
+  pub pass-on : k < n → test k (midOf (at k) (size k) l) ≡ true → Passing test at size n l (k + 1)
+  pass-on h e = record { left = rest-is h e }
+
+  pub pass-stops : k < n → test k (midOf (at k) (size k) l) ≡ false → false ≡ pass-from test at size n l 0
+  pass-stops h e = rest-is h e
+
+  pub pass-ends : n ≤ k → true ≡ pass-from test at size n l 0
+  pass-ends h =
+      ap (all (λ (b : Bool). b)) (sym (drop-of-length-le (tests test at size n l) {i = k} (rw (length-areas test at size 0 n l) h)))
+      ∙ w .left

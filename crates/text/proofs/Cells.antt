@@ -71,8 +71,7 @@ module _ {A : Type 0} (f : List ℕ → A) (k : ℕ) (l : List ℕ) where
       ∙ take-sets p (drop (i * k) l) 0 (rw length-drop (omega arith)) in
       let old : cells f k i (sets l (i * k) p) ≡ cells f k i l =
       sym (cells-take f k i (i * k) (sets l (i * k) p) (omega arith))
-      ∙ ap (cells f k i) (take-sets-before p l (i * k) (i * k) (omega arith))
-      ∙ cells-take f k i (i * k) l (omega arith) in
+      ∙ ap (cells f k i) (take-sets-before p l (i * k) (i * k) (omega arith)) ∙ cells-take f k i (i * k) l (omega arith) in
       cells-snoc f k i (sets l (i * k) p) ∙ ap₂ (λ (a : List A) (b : List ℕ). a ++ (f b ∷ [])) old new
 
   -- the first is gone, and m elements behind it moved down, the n other cells among them

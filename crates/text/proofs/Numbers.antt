@@ -52,8 +52,7 @@ little-next l at i size h k f =
     let n : at + (i - 1) + 1 ≡ at + i = omega arith in
     ap (λ (m : ℕ). little (take m (drop (at + (i - 1)) l))) e
     ∙ ap (λ (m : List ℕ). little (take (suc (size - i)) m)) (drop-next l (at + (i - 1)) 0 (omega arith))
-    ∙ ap (λ (m : ℕ). getD l (at + (i - 1)) 0 + 256 * little (take (size - i) (drop m l))) n
-    ∙ omega arith
+    ∙ ap (λ (m : ℕ). getD l (at + (i - 1)) 0 + 256 * little (take (size - i) (drop m l))) n ∙ omega arith
 
 pub decimal-next : (l : List ℕ) (i n : ℕ) → i < length l
     → decimal-from n (drop i l) ≡ decimal-from (n * 10 + (getD l i 0 - 0x30)) (drop (i + 1) l)

@@ -3,11 +3,11 @@ use mathlib.Core.Path.{_≡_, refl, sym, ap, ap₂, subst, _∙_}
 use Prim.Native.Nat.{ℕ, _+_}
 use native.Mathlib.Nat.{add-zero, add-assoc}
 use native.Mathlib.Omega.{arith}
-use mathlib.Core.List.{List, [], _++_, append-nil}
-use lib.ListN.{length, length-append, drop-of-length-le}
+use mathlib.Core.List.{List, [], _++_, append-nil, _∷_}
+use lib.ListN.{length, length-append, drop-of-length-le, set, length-set}
 use lib.Seq.{sets, length-sets, sets-eq}
 use Rattle.text.specs.Put.{Put}
-use Rattle.text.proofs.Lists.{sets-sets, sets-swap}
+use Rattle.text.proofs.Lists.{sets-sets, sets-swap, written}
 
 pub put-nothing : (o : List ℕ) (at : ℕ) → Put o at [] at o
 put-nothing o at = record { output = refl; place = sym (add-zero at) }
@@ -64,6 +64,15 @@ left-put {o} {bs} {o₁} {o₂} {xs} {ys} {at} {to} {r} l p = record {
       ap (λ (n : ℕ). n + length ys) (p .place) ∙ add-assoc to (length xs) (length ys) ∙ ap (λ (n : ℕ). to + n) (sym (length-append xs ys))
       ∙ l .place;
   size = put-length p ∙ l .size;
+}
+
+-- the next byte is written
+pub left-set : {o bs o′ rest more : List ℕ} {at x : ℕ} (from i : ℕ) → rest ≡ x ∷ more → Left o at bs o′ (from + i) rest
+    → Left o at bs (set o′ (from + i) x) (from + (i + 1)) more
+left-set {o′ = o′} {x = x} from i e l = record {
+  content = written o′ from i x e (l .content);
+  place = omega (arith, ap length e, l .place);
+  size = length-set o′ (from + i) x ∙ l .size;
 }
 
 pub left-none : {o bs o′ : List ℕ} {at to : ℕ} → Left o at bs o′ to [] → Put o at bs to o′

@@ -35,8 +35,7 @@ returns c =
     let p = s .args .payload .now in
     let h = l .last .ensures in
     result-put _ p (now (m .meant .result)) (l .last .result + 1) (j .copy .ensures) (k .copy2 .ensures) (u .put-little .ensures .1) refl
-    (s .pre .1)
-    (meant-length (take identifier-length (drop 0 p)) (now (f .in-force .result)) (m .meant .ensures)
+    (s .pre .1) (meant-length (take identifier-length (drop 0 p)) (now (f .in-force .result)) (m .meant .ensures)
     (length-take-le identifier-length p (omega (arith, s .pre .1))) (f .in-force .ensures .1))
     (next-number (l .last .result) (h .1) (λ e. s .pre .2 (sym (h .0) ∙ e))) (decode (s .args .table .now) .shared)
     (m .meant .ensures ∙ ap (identifier-of (take identifier-length (drop 0 p))) (f .in-force .ensures .0)) (ap (λ (n : ℕ). n + 1) (h .0))

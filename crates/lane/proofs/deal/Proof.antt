@@ -47,10 +47,8 @@ returns c =
     let d = w .before .before .before .before .before in
     let t = d .before .before in
     let s = t .before .before .before .before in
-    let a = s .args in
     let e = the-step t in λ read.
-    rw e
-    (deals read (a .kind) (a .lane .now) (s .pre .1) (a .deed) (d .shift-down .last .0) (w .store .last .0) _
+    rw e (deals read _ _ (s .pre .1) (s .args .deed) _ _ _
     (rw (t .before .load .ensures, e) at (d .shift-down .ensures .notices read)) (rw e at (w .store .ensures)))
 
 pub deal-spec : {M : Type 1} → statement M

@@ -11,9 +11,7 @@ module _ (c : tie.After-place-size) where
   fits : let s = c .before .before .before in
       control-size + s .args .i * c .place-size .result + c .place-size .result ≤ length (s .args .lane .now)
   fits =
-      let s = c .before .before .before in
-      let a = s .args in
-      place-fits (a .kind) (a .i) (a .place .now) (a .lane .now) (s .pre) (c .place-size .result) (c .place-size .ensures)
+      place-fits _ _ _ _ (c .before .before .before .pre) _ (c .place-size .ensures)
 
 copy-requires : tie.Need-copy-requires
 copy-requires c κs =
@@ -26,10 +24,7 @@ returns : tie.Need-returns
 returns c =
     let y = c .before .before in
     let z = y .before .before in
-    let s = z .before .before .before in
-    let a = s .args in
-    rw (y .copy .ensures .output)
-    (pushes (a .kind) (a .i) (a .place .now) (a .lane .now) (s .pre) (z .place-size .result) (z .place-size .ensures))
+    rw (y .copy .ensures .output) (pushes _ _ _ _ (z .before .before .before .pre) _ (z .place-size .ensures))
 
 pub put-spec : {M : Type 1} → statement M
 put-spec =

@@ -13,9 +13,7 @@ module _ (c : tie.After-place-size) where
   fit : control-size + c .place-size .result + (c .before .before .before .args .held - 1) * c .place-size .result
       ≤ length (c .before .before .before .args .lane .now)
   fit =
-      let s = c .before .before .before in
-      let a = s .args in
-      rw (c .place-size .ensures) (waiting (a .kind) (a .held) (a .shift) (a .lane .now) (s .pre) (not-false _ (c .before .if1 .left)))
+      rw (c .place-size .ensures) (waiting _ _ _ _ (c .before .before .before .pre) (not-false _ (c .before .if1 .left)))
 
   one : 1 ≤ c .before .before .before .args .held
   one = c .before .before .before .pre .one (not-false _ (c .before .if1 .left))
@@ -25,20 +23,13 @@ returns-2 c =
     let t = c .before .before in
     let z = t .before .before in
     let i = z .before in
-    let s = i .before .before in
-    let a = s .args in
-    rw (t .shift .ensures)
-    (is-shifted (a .kind) (a .held) (a .shift) (a .lane .now) (s .pre) (not-false _ (i .if1 .left)) (z .place-size .result)
-    (z .place-size .ensures))
+    rw (t .shift .ensures) (is-shifted _ _ _ _ (i .before .before .pre) (not-false _ (i .if1 .left)) _ (z .place-size .ensures))
 
 pub shift-down-spec : {M : Type 1} → statement M
 shift-down-spec =
     tie.close
     (tie.spec
-    (λ c.
-    let s = c .before .before in
-    let a = s .args in
-    not-shifted (a .kind) (a .held) (a .shift) (a .lane .now) (s .pre) (not-true _ (c .if1 .taken)))
+    (λ c. not-shifted _ _ _ _ (c .before .before .pre) (not-true _ (c .if1 .taken)))
     (λ c κs. search needs)
     (λ c. let h = one c in search needs)
     (λ c. let h = fit c in search needs)

@@ -22,7 +22,6 @@ store-spec =
     tie.close (tie.spec (λ c κs. search needs) (λ c. search needs)
     (λ c.
     let s = c .before .before .before .before in
-    let h = s .pre .control .held in
     let m = kind-fits (s .args .kind) (s .pre .known) .few in
     search needs)
     (λ c. search needs) (λ c κs. search needs) (λ c κs. search needs) (λ c. search needs) returns)

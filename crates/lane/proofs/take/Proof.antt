@@ -20,32 +20,23 @@ hold-requires : tie.Need-hold-requires
 hold-requires c κs =
     let t = c .before in
     let s = t .before .before .before .before .before in
-    let a = s .args in
-    rw (the-taking t, t .before .load .ensures)
-    (takes-place (notice-in (a .kind)) (a .kind) (a .lane .now) (a .place .now) (s .pre))
+    rw (the-taking t, t .before .load .ensures) (takes-place (notice-in (s .args .kind)) _ _ _ (s .pre))
 
 store-requires : tie.Need-store-requires
 store-requires c κs =
     let h = c .before .before .before .before in
     let t = h .before .before in
     let s = t .before .before .before .before .before in
-    let a = s .args in
-    record {
-      known = s .pre .known;
-      size = h .hold .ensures (notice-in (a .kind)) .size;
-      control = rw (the-taking t) (takes-storable (notice-in (a .kind)) (a .kind) (a .lane .now) (a .place .now) (s .pre));
-    }
+    let read = notice-in (s .args .kind) in
+    record { known = s .pre .known; size = h .hold .ensures read .size; control = rw (the-taking t) (takes-storable read _ _ _ (s .pre)) }
 
 returns : tie.Need-returns
 returns c =
     let w = c .before .before .before .before in
     let h = w .before .before .before .before .before in
     let t = h .before .before in
-    let s = t .before .before .before .before .before in
-    let a = s .args in
     let e = the-taking t in λ read.
-    rw (c .is-told .ensures, c .before .is-taken .ensures, e)
-    (takes-so read (a .kind) (a .lane .now) (a .place .now) (s .pre) (h .hold .last .0) (w .store .last .0)
+    rw (c .is-told .ensures, c .before .is-taken .ensures, e) (takes-so read _ _ _ (t .before .before .before .before .before .pre) _ _
     (rw (e, t .before .load .ensures) at (h .hold .ensures read)) (rw e at (w .store .ensures)))
 
 pub take-spec : {M : Type 1} → statement M

@@ -11,35 +11,23 @@ use Rattle.message.proofs.judge.Tie as tie
 returns-2 : tie.Need-returns-2
 returns-2 c =
     let r = c .before .before in
-    ordered _ _ _ _ _ _ (search needs) (r .row-of .ensures)
-    (sym (c .if1 .taken) ∙ c .before .starts-again .ensures)
-    refl
-    refl
-    refl
-    refl
+    ordered _ _ _ _ _ _ (search needs) (r .row-of .ensures) (sym (c .if1 .taken) ∙ c .before .starts-again .ensures) refl refl refl refl
 
 returns-3 : tie.Need-returns-3
 returns-3 c =
     let a = c .before .before in
     let r = a .before .before in
-    ordered _ _ _ _ _ _ (search needs) (r .row-of .ensures)
-    (sym (a .if1 .left) ∙ a .before .starts-again .ensures)
-    (sym (not-true _ (c .if2 .taken)) ∙ c .before .within .ensures)
-    refl
-    refl
-    refl
+    ordered _ _ _ _ _ _ (search needs) (r .row-of .ensures) (sym (a .if1 .left) ∙ a .before .starts-again .ensures)
+    (sym (not-true _ (c .if2 .taken)) ∙ c .before .within .ensures) refl refl refl
 
 returns-4 : tie.Need-returns-4
 returns-4 c =
     let s = c .before .before in
     let a = s .before .before in
     let r = a .before .before in
-    ordered _ _ _ _ _ _ (search needs) (r .row-of .ensures)
-    (sym (a .if1 .left) ∙ a .before .starts-again .ensures)
-    (sym (not-false _ (s .if2 .left)) ∙ s .before .within .ensures)
-    (sym (not-true _ (c .if3 .taken)) ∙ c .before .within2 .ensures)
-    refl
-    refl
+    ordered _ _ _ _ _ _ (search needs) (r .row-of .ensures) (sym (a .if1 .left) ∙ a .before .starts-again .ensures)
+    (sym (not-false _ (s .if2 .left)) ∙ s .before .within .ensures) (sym (not-true _ (c .if3 .taken)) ∙ c .before .within2 .ensures)
+    refl refl
 
 returns-5 : tie.Need-returns-5
 returns-5 c =
@@ -47,12 +35,9 @@ returns-5 c =
     let s = v .before .before in
     let a = s .before .before in
     let r = a .before .before in
-    ordered _ _ _ _ _ _ (search needs) (r .row-of .ensures)
-    (sym (a .if1 .left) ∙ a .before .starts-again .ensures)
-    (sym (not-false _ (s .if2 .left)) ∙ s .before .within .ensures)
-    (sym (not-false _ (v .if3 .left)) ∙ v .before .within2 .ensures)
-    (sym (not-true _ (c .if4 .taken)) ∙ c .before .is-text .ensures)
-    refl
+    ordered _ _ _ _ _ _ (search needs) (r .row-of .ensures) (sym (a .if1 .left) ∙ a .before .starts-again .ensures)
+    (sym (not-false _ (s .if2 .left)) ∙ s .before .within .ensures) (sym (not-false _ (v .if3 .left)) ∙ v .before .within2 .ensures)
+    (sym (not-true _ (c .if4 .taken)) ∙ c .before .is-text .ensures) refl
 
 returns-6 : tie.Need-returns-6
 returns-6 c =
@@ -62,10 +47,8 @@ returns-6 c =
     let a = s .before .before in
     let r = a .before .before in
     let few = r .before .before .before .before .fits .revision in
-    ordered _ _ _ _ _ _ (omega arith) (r .row-of .ensures)
-    (sym (a .if1 .left) ∙ a .before .starts-again .ensures)
-    (sym (not-false _ (s .if2 .left)) ∙ s .before .within .ensures)
-    (sym (not-false _ (v .if3 .left)) ∙ v .before .within2 .ensures)
+    ordered _ _ _ _ _ _ (omega arith) (r .row-of .ensures) (sym (a .if1 .left) ∙ a .before .starts-again .ensures)
+    (sym (not-false _ (s .if2 .left)) ∙ s .before .within .ensures) (sym (not-false _ (v .if3 .left)) ∙ v .before .within2 .ensures)
     (sym (not-false _ (t .if4 .left)) ∙ t .before .is-text .ensures)
     (c .own-error .ensures ∙ ap (own-error _) (r .before .before .effect-of .ensures))
 

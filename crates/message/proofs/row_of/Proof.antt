@@ -24,7 +24,6 @@ loop-holds c = search needs
 returns : tie.Need-returns Inv-loop μ-loop
 returns c =
     let l = c .before .before .before .before in
-    let t = c .before .before .before .loop-test .taken in
     let mid = l .before .args .mid in
     subst (λ (r : Row). Lists mid r (entry-of mid)) (sym (c .read-row .ensures))
     (found mid (l .loop .k) (omega arith) (l .loop .inv .1) (c .before .if1 .taken))
@@ -32,14 +31,11 @@ returns c =
 loop-again : tie.Need-loop-again Inv-loop μ-loop
 loop-again c =
     let l = c .before .before .before in
-    let t = c .before .before .loop-test .taken in
     (omega arith, passed (l .before .args .mid) (l .loop .k) (omega arith) (l .loop .inv .1) (c .if1 .left))
 
 returns-2 : tie.Need-returns-2 Inv-loop μ-loop
 returns-2 c =
     let l = c .before .before .before in
-    let t = c .before .before .loop-test .left in
-    let w = l .loop .inv .0 in
     let mid = l .before .args .mid in
     subst (λ (r : Row). Lists mid r (entry-of mid)) (sym (c .read-row2 .ensures))
     (the-last mid (l .loop .k) (l .before .pre) (l .loop .inv .1) (omega arith))

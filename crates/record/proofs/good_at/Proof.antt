@@ -20,7 +20,5 @@ returns-3 c =
 
 pub good-at-spec : {M : Type 1} → statement M
 good-at-spec =
-    tie.close (tie.spec (λ c κs. search needs)
-    (λ c. ⊎-elim (λ e. rw e) (λ e. rw e) (c .match .keys1))
-    (λ c. ⊎-elim (λ e. rw e) (⊎-elim (λ e. rw e) (λ e. rw e)) (c .match .keys2))
-    returns-3)
+    tie.close (tie.spec (λ c κs. search needs) (λ c. ⊎-elim (λ e. rw e) (λ e. rw e) (c .match .keys1))
+    (λ c. ⊎-elim (λ e. rw e) (⊎-elim (λ e. rw e) (λ e. rw e)) (c .match .keys2)) returns-3)

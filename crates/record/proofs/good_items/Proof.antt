@@ -63,8 +63,7 @@ returns c =
     let w = add-sub-cancel-left (l .at) (getD (row t) 1 0) in
     items-stop (rows t) s (l .k) (l .at) (getD (row t) 1 0) (t .loop-test .taken) (size t)
     (ap (λ (n : ℕ). good-item (item-of (row t)) (take n (drop (l .at) s))) (sym w) ∙ sym (c .before .good-item .ensures)
-    ∙ not-true _ (c .if1 .taken))
-    (l .inv .1)
+    ∙ not-true _ (c .if1 .taken)) (l .inv .1)
 
 loop-again : tie.Need-loop-again Inv-loop μ-loop
 loop-again c =
@@ -75,8 +74,7 @@ loop-again c =
       there t,
       items-go-on (rows t) s (l .k) (l .at) (getD (row t) 1 0) (t .loop-test .taken) (size t)
           (ap (λ (n : ℕ). good-item (item-of (row t)) (take n (drop (l .at) s))) (sym w) ∙ sym (c .before .good-item .ensures)
-          ∙ not-false _ (c .if1 .left))
-          (l .inv .1),
+          ∙ not-false _ (c .if1 .left)) (l .inv .1),
     )
 
 returns-2 : tie.Need-returns-2 Inv-loop μ-loop

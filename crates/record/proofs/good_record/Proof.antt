@@ -28,8 +28,7 @@ returns-3 c =
     let s = i .before .before .before in
     let a = s .args in
     by-items (a .kind) (items (a .rows .now)) (a .slice .now) (sym (i .before .is-record .ensures) ∙ not-false _ (i .if1 .left))
-    (sym (ap length (p .payload .ensures)) ∙ c .before .if2 .left ∙ s .pre .1)
-    (rw (p .payload .ensures) at (c .good-items .ensures))
+    (sym (ap length (p .payload .ensures)) ∙ c .before .if2 .left ∙ s .pre .1) (rw (p .payload .ensures) at (c .good-items .ensures))
 
 pub good-record-spec : {M : Type 1} → statement M
 good-record-spec = tie.close (tie.spec (λ c κs. search needs) returns (λ c κs. search needs) returns-2 (λ c κs. search needs) returns-3)

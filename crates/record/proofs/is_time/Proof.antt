@@ -15,20 +15,6 @@ Inv-loop s i₀ i = is-time-from (i + 1) (drop i s) ≡ is-time s
 abbrev μ-loop : tie.MeasureT-loop
 μ-loop s i₀ i = length s - i
 
-returns : tie.Need-returns Inv-loop μ-loop
-returns c =
-    let t = c .before .before .before in
-    let l = t .before .loop in
-    time-stops (t .before .before .before .args .s .now) (l .i) (t .loop-test .taken)
-    (sym (c .before .good-at .ensures) ∙ not-true _ (c .if1 .taken)) (l .inv)
-
-loop-again : tie.Need-loop-again Inv-loop μ-loop
-loop-again c =
-    let t = c .before .before .before in
-    let l = t .before .loop in
-    time-goes-on (t .before .before .before .args .s .now) (l .i) (t .loop-test .taken)
-    (sym (c .before .good-at .ensures) ∙ not-false _ (c .if1 .left)) (l .inv)
-
 pub is-time-spec : {M : Type 1} → statement M
 is-time-spec =
     tie.close
@@ -39,7 +25,9 @@ is-time-spec =
     (λ c. search needs)
     (λ c. search needs)
     (λ c κs. search needs)
-    returns
+    (λ c. let t = c .before .before .before in
+    time-stops _ _ (t .loop-test .taken) (sym (c .before .good-at .ensures) ∙ not-true _ (c .if1 .taken)) (t .before .loop .inv))
     (λ c. search needs)
-    loop-again
-    (λ c. time-ends (c .before .before .before .args .s .now) (c .before .loop .i) (c .loop-test .left) (c .before .loop .inv)))
+    (λ c. let t = c .before .before .before in
+    time-goes-on _ _ (t .loop-test .taken) (sym (c .before .good-at .ensures) ∙ not-false _ (c .if1 .left)) (t .before .loop .inv))
+    (λ c. time-ends _ _ (c .loop-test .left) (c .before .loop .inv)))

@@ -16,8 +16,7 @@ returns c =
     let g = p .before .before .before .before .before in
     let k = g .before .before .before .before in
     let s = k .before .before .before in
-    carries-out (s .args .d) (s .args .region .now) _ _ (e .deal .result) (s .pre .1)
-    (changed-so (s .args .d) (s .args .region .now) _ _ _ (k .clear-run .ensures) (g .let-go .ensures) (p .store .ensures))
+    carries-out (s .args .d) (s .pre .1) (changed-so (s .args .d) (k .clear-run .ensures) (g .let-go .ensures) (p .store .ensures))
     (e .deal .ensures)
 
 pub carry-out-spec : {M : Type 1} → statement M

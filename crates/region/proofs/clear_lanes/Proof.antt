@@ -17,11 +17,11 @@ abbrev μ-loop : tie.MeasureT-loop
 
 -- the lane is in the region
 module _ (c : tie.After-size Inv-loop μ-loop) where
-  lies : let l = c .before .before .before .loop in c .before .lane-at .result + c .size .result ≤ length (l .region)
+  lies : c .before .lane-at .result + c .size .result ≤ length (c .before .before .before .loop .region)
   lies =
-      let l = c .before .before .before .loop in
-      lane-lies (l .region) (l .kind) (c .before .before .loop-test .taken) (c .before .lane-at .result) (c .size .result)
-      (c .before .lane-at .ensures) (c .size .ensures) (l .inv .size ∙ c .before .before .before .before .before .pre)
+      let t = c .before .before in
+      lane-lies (t .before .loop .region) (t .loop-test .taken) (c .before .lane-at .ensures) (c .size .ensures)
+      (t .before .loop .inv .size ∙ t .before .before .before .pre)
 
 clear-requires : tie.Need-clear-requires Inv-loop μ-loop
 clear-requires c κs =
@@ -30,8 +30,8 @@ clear-requires c κs =
     let l = t .before .loop in
     let few = t .loop-test .taken in (
       few,
-      ap length (lane-part (l .region) (l .kind) few (z .before .lane-at .result) (z .size .result) (z .before .lane-at .ensures)
-          (z .size .ensures)) ∙ lane-length (l .region) (l .kind) few (l .inv .size ∙ t .before .before .before .pre),
+      ap length (lane-part (l .region) few (z .before .lane-at .ensures) (z .size .ensures))
+          ∙ lane-length (l .region) (l .kind) few (l .inv .size ∙ t .before .before .before .pre),
     )
 
 loop-again : tie.Need-loop-again Inv-loop μ-loop
@@ -39,16 +39,8 @@ loop-again c =
     let d = c .before .before in
     let z = d .before .before in
     let t = z .before .before in
-    let l = t .before .loop in
-    let s = t .before .before .before in
-    clearing-next (s .args .region .now) (l .region) (l .kind) (l .inv) (z .before .lane-at .result) (z .size .result) (d .clear .last .0)
-    (s .pre) (t .loop-test .taken) (z .before .lane-at .ensures) (z .size .ensures) (d .clear .ensures)
-
-returns : tie.Need-returns Inv-loop μ-loop
-returns c =
-    let l = c .before .loop in
-    let s = c .before .before .before in
-    all-cleared (s .args .region .now) (l .region) (l .kind) (l .inv) (c .loop-test .left)
+    clearing-next (t .before .loop .inv) (t .before .before .before .pre) (t .loop-test .taken) (z .before .lane-at .ensures)
+    (z .size .ensures) (d .clear .ensures)
 
 pub clear-lanes-spec : {M : Type 1} → statement M
 clear-lanes-spec =
@@ -68,4 +60,4 @@ clear-lanes-spec =
     (λ c. search needs)
     loop-again
     (λ c. c .before .loop .inv .size)
-    returns)
+    (λ c. all-cleared (c .before .loop .inv) (c .loop-test .left)))

@@ -7,12 +7,9 @@ use Rattle.region.proofs.clear_run.Tie as tie
 returns : tie.Need-returns
 returns c =
     let p = c .before .before in
-    let s = p .before .before .before in
-    let r = s .args .region .now in
-    let o = p .clear .ensures in record {
-      becomes = run-replaced r (p .clear .last .0) (s .pre) _ (o .area) (o .none);
-      bytes = run-over r (p .clear .last .0) (s .pre) o;
-    }
+    let g = p .before .before .before .pre in
+    let o = p .clear .ensures in
+    record { becomes = run-replaced g (o .area) (o .none); bytes = run-over g o }
 
 pub clear-run-spec : {M : Type 1} → statement M
 clear-run-spec =

@@ -1,57 +1,41 @@
 -- `region::end_kept` meets its contract. Assumes nothing.
 use borrow.Author.Needs.{needs}
-use mathlib.Core.Path.{refl, sym, subst}
+use mathlib.Core.Path.{refl}
 use mathlib.Core.List.{[]}
-use Rattle.model.specs.Runs.{Run, longer}
-use Rattle.run.specs.Area.{run-of}
 use Rattle.region.specs.Region.{run-area}
-use Rattle.region.specs.Said.{Ruled}
 use Rattle.region.proofs.Areas.{parts}
-use Rattle.region.proofs.Ends.{longer-none, kind-known, idle-few, ends-kept}
+use Rattle.region.proofs.Ends.{longer-none, kind-known, idle-few, ends-kept, Judged}
 use Rattle.region.proofs.end_kept.Statement.{statement}
 use Rattle.region.proofs.end_kept.Tie as tie
 
--- no more bytes make it no longer
+-- the decision is on the run as it is kept: no more bytes make it no longer
 module _ (c : tie.After-rule-kept) where
-  ruled : let l = c .before .before .before .before in
-      let s = l .before .before .before .before in
-      Ruled (l .load .result) (c .before .before .standing .result) (longer (run-of (run-area (s .args .region .now))) [])
-      (s .args .place .now) (c .rule-kept .result) (c .rule-kept .last .1 .1 .1 .0)
-  ruled =
+  judged : let a = c .before .before .before .before .before .before .before .before .args in
+      Judged (a .granted) [] (a .region .now) (a .place .now) (c .rule-kept .result) (c .rule-kept .last .1 .1 .1 .0)
+  judged =
       let l = c .before .before .before .before in
       let s = l .before .before .before .before in
       let r = s .args .region .now in
-      subst (λ (z : Run). Ruled (l .load .result) (c .before .before .standing .result) z (s .args .place .now) (c .rule-kept .result)
-      (c .rule-kept .last .1 .1 .1 .0))
-      (sym (longer-none (run-area r) (parts r (s .pre .0) .run))) (c .rule-kept .ensures)
+      record {
+        who = l .load .result;
+        here = l .load .ensures .0;
+        idle = l .load .ensures .1;
+        standing = c .before .before .standing .result;
+        stands = c .before .before .standing .ensures;
+        ruled = rw (longer-none (run-area r) (parts r (s .pre .0) .run)) (c .rule-kept .ensures);
+      }
 
 carry-out-requires : tie.Need-carry-out-requires
 carry-out-requires c κs =
-    let u = c .before .before .before in
-    let l = u .before .before .before .before in
-    let s = l .before .before .before .before in
-    let a = s .args in (
-      s .pre .0,
-      kind-known (a .granted) [] (a .region .now) (a .place .now) (l .load .result) (l .load .ensures .0) (l .load .ensures .1)
-          (u .before .before .standing .result) (u .before .before .standing .ensures) (u .rule-kept .result) _ (ruled u),
-      idle-few (a .granted) [] (a .region .now) (a .place .now) (l .load .result) (l .load .ensures .0) (l .load .ensures .1)
-          (u .before .before .standing .result) (u .before .before .standing .ensures) (u .rule-kept .result) _ (ruled u),
-    )
+    let o = judged (c .before .before .before) in
+    (c .before .before .before .before .before .before .before .before .before .before .before .pre .0, kind-known o, idle-few o)
 
 returns : tie.Need-returns
 returns c =
     let o = c .before .before .before in
     let u = o .before .before .before .before in
-    let l = u .before .before .before .before in
-    let s = l .before .before .before .before in
-    let a = s .args in
-    rw (c .left-to-say .ensures) (
-      refl,
-      ends-kept (a .granted) (a .region .now) (a .place .now) (l .load .result) (l .load .ensures .0) (l .load .ensures .1)
-          (u .before .before .standing .result) (u .before .before .standing .ensures) (u .rule-kept .result) _ (ruled u)
-          (o .carry-out .result) _
-          (o .carry-out .ensures) (parts (a .region .now) (s .pre .0) .run),
-    )
+    let s = u .before .before .before .before .before .before .before .before in
+    rw (c .left-to-say .ensures) (refl, ends-kept (judged u) (o .carry-out .ensures) (parts (s .args .region .now) (s .pre .0) .run))
 
 pub end-kept-spec : {M : Type 1} → statement M
 end-kept-spec =

@@ -15,11 +15,7 @@ end-whole-requires c κs =
 returns-2 : tie.Need-returns-2
 returns-2 c =
     let e = c .before .before .before .before in
-    let l = e .before .before .before .before .before in
-    let s = l .before .before .before .before .before .before .before .before .before in
-    let a = s .args in
-    ends-longer (a .bytes .now) (a .region .now) _ _ refl (l .lengthen .ensures) (a .granted) (a .place .now) (e .end-kept .result) _ _
-    (e .end-kept .ensures .0) (e .end-kept .ensures .1)
+    ends-longer _ refl (e .before .before .before .before .before .lengthen .ensures) (e .end-kept .ensures .0) (e .end-kept .ensures .1)
 
 pub end-run-spec : {M : Type 1} → statement M
 end-run-spec =

@@ -8,9 +8,8 @@ use Rattle.model.specs.Limits.{run-kept}
 use Rattle.model.specs.Runs.{Run, longer}
 use Rattle.run.specs.Area.{run-of}
 use Rattle.region.specs.Region.{run-area}
-use Rattle.region.specs.Said.{Ruled}
 use Rattle.region.proofs.Rulings.{ruled-as}
-use Rattle.region.proofs.Ends.{taken-few, kind-known, idle-few, ends-whole}
+use Rattle.region.proofs.Ends.{taken-few, kind-known, idle-few, ends-whole, Judged}
 use Rattle.region.proofs.end_whole.Statement.{statement}
 use Rattle.region.proofs.end_whole.Tie as tie
 
@@ -22,45 +21,37 @@ rule-requires c κs =
 
 -- the decision is on the run that the bytes are
 module _ (c : tie.After-rule) where
-  ruled : let k = c .before .before .before in
-      let s = k .before .before .before .before .before .before .before .before in
-      Ruled (k .before .before .before .load .result) (k .before .standing .result)
-      (longer (run-of (run-area (s .args .region .now))) (s .args .bytes .now))
-      (s .args .place .now) (c .rule .result) (c .rule .last .1 .1 .1 .1 .0)
-  ruled =
+  judged : let a = c .before .before .before .before .before .before .before .before .before .before .before .args in
+      Judged (a .granted) (a .bytes .now) (a .region .now) (a .place .now) (c .rule .result) (c .rule .last .1 .1 .1 .1 .0)
+  judged =
       let n = c .before .before in
       let k = n .before in
-      let s = k .before .before .before .before .before .before .before .before in
+      let l = k .before .before .before in
+      let s = l .before .before .before .before .before in
       let whole = ap (λ (z : Run). longer z (s .args .bytes .now)) (sym (s .pre .2)) in
-      ruled-as (longer (run-of (run-area (s .args .region .now))) (s .args .bytes .now))
-      (k .kept-of .ensures ∙ ap (λ (z : Run). z .kept) whole) (n .count-of .ensures ∙ ap (λ (z : Run). z .count) whole) (c .rule .ensures)
+      record {
+        who = l .load .result;
+        here = l .load .ensures .0;
+        idle = l .load .ensures .1;
+        standing = k .before .standing .result;
+        stands = k .before .standing .ensures;
+        ruled = ruled-as (longer (run-of (run-area (s .args .region .now))) (s .args .bytes .now))
+            (k .kept-of .ensures ∙ ap (λ (z : Run). z .kept) whole) (n .count-of .ensures ∙ ap (λ (z : Run). z .count) whole)
+            (c .rule .ensures);
+      }
 
 carry-out-requires : tie.Need-carry-out-requires
 carry-out-requires c κs =
     let u = c .before .before .before in
-    let k = u .before .before .before in
-    let l = k .before .before .before in
-    let s = k .before .before .before .before .before .before .before .before in
-    let a = s .args in (
-      s .pre .0,
-      kind-known (a .granted) (a .bytes .now) (a .region .now) (a .place .now) (l .load .result) (l .load .ensures .0) (l .load .ensures .1)
-          (k .before .standing .result) (k .before .standing .ensures) (u .rule .result) _ (ruled u),
-      idle-few (a .granted) (a .bytes .now) (a .region .now) (a .place .now) (l .load .result) (l .load .ensures .0) (l .load .ensures .1)
-          (k .before .standing .result) (k .before .standing .ensures) (u .rule .result) _ (ruled u),
-    )
+    let o = judged u in
+    (u .before .before .before .before .before .before .before .before .before .before .before .pre .0, kind-known o, idle-few o)
 
 returns : tie.Need-returns
 returns c =
     let o = c .before .before .before in
     let u = o .before .before .before .before in
-    let k = u .before .before .before in
-    let l = k .before .before .before in
-    let s = k .before .before .before .before .before .before .before .before in
-    let a = s .args in
-    rw (c .left-to-say .ensures)
-    (ends-whole (a .granted) (a .bytes .now) (a .region .now) (a .place .now) (l .load .result) (l .load .ensures .0) (l .load .ensures .1)
-    (k .before .standing .result) (k .before .standing .ensures) (u .rule .result) _ (ruled u) (o .carry-out .result) _
-    (o .carry-out .ensures) (s .pre .2))
+    let s = u .before .before .before .before .before .before .before .before .before .before .before in
+    rw (c .left-to-say .ensures) (ends-whole (judged u) (o .carry-out .ensures) (s .pre .2))
 
 pub end-whole-spec : {M : Type 1} → statement M
 end-whole-spec =

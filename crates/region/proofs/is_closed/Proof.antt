@@ -14,27 +14,15 @@ use Rattle.region.proofs.Ticks.{means-so}
 use Rattle.region.proofs.is_closed.Statement.{statement}
 use Rattle.region.proofs.is_closed.Tie as tie
 
-by-phase : (r : List ℕ) (x : Session) (p : Phase) → x ≡ head-of (head-area r) → x .phase ≡ p
+by-phase : (r : List ℕ) {x : Session} {p : Phase} → x ≡ head-of (head-area r) → x .phase ≡ p
     → is-closed (session-as p (x .idle) (run-of (run-area r)) (subscriptions-in r)) ≡ is-closed (session-of r)
-by-phase r x p e q =
+by-phase r {x} e q =
     sym (ap is-closed (means-so r x e)
     ∙ ap (λ (z : Phase). is-closed (session-as z (x .idle) (run-of (run-area r)) (subscriptions-in r))) q)
 
-returns : tie.Need-returns
-returns c =
-    let l = c .before .before in
-    by-phase (l .before .before .args .region .now) (l .load .result) _ (l .load .ensures .0) (c .enum-told .given .1)
-
-returns-2 : tie.Need-returns-2
-returns-2 c =
-    let l = c .before .before in
-    by-phase (l .before .before .args .region .now) (l .load .result) _ (l .load .ensures .0) (c .enum-told2 .given .1)
-
-returns-3 : tie.Need-returns-3
-returns-3 c =
-    let l = c .before .before in
-    by-phase (l .before .before .args .region .now) (l .load .result) _ (l .load .ensures .0) (c .enum-told3 .given .1)
-
 pub is-closed-spec : {M : Type 1} → statement M
 is-closed-spec =
-    tie.close (tie.spec (λ c κs. search needs) (λ c. search needs) (λ c. search needs) (λ c. search needs) returns returns-2 returns-3)
+    tie.close (tie.spec (λ c κs. search needs) (λ c. search needs) (λ c. search needs) (λ c. search needs)
+    (λ c. by-phase _ (c .before .before .load .ensures .0) (c .enum-told .given .1))
+    (λ c. by-phase _ (c .before .before .load .ensures .0) (c .enum-told2 .given .1))
+    (λ c. by-phase _ (c .before .before .load .ensures .0) (c .enum-told3 .given .1)))

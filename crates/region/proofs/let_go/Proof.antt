@@ -5,17 +5,15 @@ use Rattle.region.proofs.Ends.{unchanged, lanes-cleared}
 use Rattle.region.proofs.let_go.Statement.{statement}
 use Rattle.region.proofs.let_go.Tie as tie
 
-returns : tie.Need-returns
-returns c =
-    let s = c .before .before in
-    rw (not-true (s .args .begins) (c .if1 .taken)) (unchanged (s .args .region .now) (s .pre))
-
 returns-2 : tie.Need-returns-2
 returns-2 c =
     let k = c .before .before in
     let i = k .before .before in
     let s = i .before .before in
-    rw (not-false (s .args .begins) (i .if1 .left)) (lanes-cleared (s .args .region .now) _ (s .pre) (k .clear-lanes .ensures))
+    rw (not-false (s .args .begins) (i .if1 .left)) (lanes-cleared (s .pre) (k .clear-lanes .ensures))
 
 pub let-go-spec : {M : Type 1} → statement M
-let-go-spec = tie.close (tie.spec returns (λ c κs. search needs) (λ c. search needs) returns-2)
+let-go-spec =
+    tie.close (tie.spec
+    (λ c. let s = c .before .before in rw (not-true (s .args .begins) (c .if1 .taken)) (unchanged (s .args .region .now) (s .pre)))
+    (λ c κs. search needs) (λ c. search needs) returns-2)

@@ -13,18 +13,9 @@ returns : tie.Need-returns
 returns c =
     let n = c .before .before in
     let f = n .before in
-    let d = f .before .before .before in
-    let s = d .before .before .before in
-    let a = s .args in
-    ruled-known (a .x) (a .standing) (record { kept = a .run .now; count = a .count }) (a .place .now) (d .decide .result)
-    (d .decide .ensures) _ _ (f .before .before .if1 .taken) (f .data-field .ensures) (n .announce .ensures)
-
-returns-2 : tie.Need-returns-2
-returns-2 c =
-    let d = c .before in
-    let a = d .before .before .before .args in
-    ruled-silent (a .x) (a .standing) (record { kept = a .run .now; count = a .count }) (a .place .now) (d .decide .result)
-    (d .decide .ensures) (c .if1 .left)
+    ruled-known (f .before .before .before .decide .ensures) (f .before .before .if1 .taken) (f .data-field .ensures) (n .announce .ensures)
 
 pub rule-spec : {M : Type 1} → statement M
-rule-spec = tie.close (tie.spec (λ c κs. search needs) (λ c κs. search needs) announce-requires (λ c. search needs) returns returns-2)
+rule-spec =
+    tie.close (tie.spec (λ c κs. search needs) (λ c κs. search needs) announce-requires (λ c. search needs) returns
+    (λ c. ruled-silent (c .before .decide .ensures) (c .if1 .left)))

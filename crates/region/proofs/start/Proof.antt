@@ -19,8 +19,8 @@ returns c =
     let h = k .before .before .before .before in
     let x = h .before in
     let s = x .before .before .before in
-    started-there (s .args .region .now) (h .store .last .0) (k .clear .last .0) _ (s .pre) (h .store .ensures .0 ∙ x .cleared .ensures)
-    (h .store .ensures .1) (k .clear .ensures .area) (n .clear-lanes .ensures)
+    started-there (s .args .region .now) (s .pre) (h .store .ensures .0 ∙ x .cleared .ensures) (h .store .ensures .1)
+    (k .clear .ensures .area) (n .clear-lanes .ensures)
 
 pub start-spec : {M : Type 1} → statement M
 start-spec =

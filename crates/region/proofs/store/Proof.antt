@@ -7,8 +7,7 @@ use Rattle.region.proofs.store.Tie as tie
 returns : tie.Need-returns
 returns c =
     let p = c .before .before in
-    let s = p .before .before .before in
-    head-replaced (s .args .region .now) (p .store .last .0) (s .pre .0) (s .args .x) (p .store .ensures .1) (p .store .ensures .0)
+    head-replaced (p .before .before .before .pre .0) (p .store .ensures .1) (p .store .ensures .0)
 
 pub store-spec : {M : Type 1} → statement M
 store-spec =

@@ -30,14 +30,8 @@ loop-again : tie.Need-loop-again Inv-loop μ-loop
 loop-again c =
     let n = c .before in
     let l = n .before .before .loop in
-    let r = n .before .before .before .before .args .region .now in
-    telling-next r (l .known) (l .kind) (c .is-subscribed .result) (l .inv) (n .before .loop-test .taken)
+    telling-next _ (l .inv) (n .before .loop-test .taken)
     (c .is-subscribed .ensures (notice-in (l .kind)) (l .kind) ∙ ap is-subscribed (ap (lane-of (l .kind)) (n .lane .ensures)))
-
-returns : tie.Need-returns Inv-loop μ-loop
-returns c =
-    let l = c .before .loop in
-    all-told (c .before .before .before .args .region .now) (l .known) (l .kind) (l .inv) (c .loop-test .left)
 
 pub subscribed-spec : {M : Type 1} → statement M
 subscribed-spec =
@@ -52,4 +46,4 @@ subscribed-spec =
     (λ c. search needs)
     (λ c. search needs)
     loop-again
-    returns)
+    (λ c. all-told _ (c .before .loop .inv) (c .loop-test .left)))

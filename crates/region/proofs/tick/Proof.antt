@@ -25,8 +25,7 @@ returns c =
     let i = t .before .before .before .before .before in
     let l = i .before in
     tick-stays (l .before .before .before .args .region .now) (l .load .result) (l .load .ensures .0) (l .load .ensures .1)
-    (i .idled .result) _ _ _
-    (i .idled .ensures) (t .before .before .before .idling .given .1) (t .tick-stays .ensures)
+    (i .idled .result) _ _ _ (i .idled .ensures) (t .before .before .before .idling .given .1) (t .tick-stays .ensures)
 
 returns-2 : tie.Need-returns-2
 returns-2 c =

@@ -36,9 +36,6 @@ print-requires c κs =
     let loop = called .before .before .before .before in
     let i = loop .loop .inv in
     let f = fits-in (called .bytes .ensures) in
-    let same = i .2 in
-    let here = i .3 in
-    let room = loop .before .before .before .before .before .pre .0 .room in
     (f .0, f .1, omega arith, omega arith)
 
 loop-less : tie.Need-loop-less Inv-loop μ-loop
@@ -61,7 +58,6 @@ loop-again c =
     let pre = test .before .before .before .before .before .before .pre .0 in
     let p = c .before .before .before .before .before .print in
     let rest = c .before .before .rest in
-    let here = p .ensures .1 in
     let same = i .2 in (
       out .size ∙ i .0,
       same-output out ∙ i .1,
@@ -75,7 +71,6 @@ loop-less-2 : tie.Need-loop-less-2 Inv-loop μ-loop
 loop-less-2 c =
     let called = c .before .before .before .before .before .before .before .before .before .before .before .before in
     let r = called .bytes .result in
-    let out = called .bytes .ensures in
     let test = called .before .before .before in
     let l = test .before .loop in
     no-more (l .left .now) (c .before .before .rest .result .now) (r .number) (l .going) (test .loop-test .taken) (c .if1 .left)
@@ -91,7 +86,6 @@ loop-again-2 c =
     let pre = test .before .before .before .before .before .before .pre .0 in
     let p = c .before .before .before .before .before .print in
     let rest = c .before .before .rest in
-    let here = p .ensures .1 in
     let same = i .2 in (
       out .size ∙ i .0,
       same-output out ∙ i .1,

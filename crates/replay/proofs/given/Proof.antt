@@ -26,7 +26,6 @@ returns c =
     let kind = asked .before .little in
     let s = asked .before .before .before .before .before .before in
     let slice = s .args .slice .now in
-    let four = s .pre .2 in
     let are-bytes = sym (asked .is-within .ensures) ∙ fed .before .before .before .before .before .if1 .taken in
     let rest = take-all (length slice - record-head) (drop record-head slice) (simp length-drop (omega arith)) in
     let f = fed .feed .ensures in

@@ -30,14 +30,10 @@ copy-requires-3 c κs =
     let frame = take (length n - 1 - record-head) (drop record-head n) in
     let ne = c .before .before .before .before .before .before .before .before .before .before .before .before .if1 .left in
     let four = s .pre .0 in
-    let fits = s .pre .1 in
     let digit = c .before .before .before .before .before .before .before .before .before .before .before .before .before .before .before
     .put-digits .ensures in
     let mark = c .before .before .before .before .before .before .before .before .before .copy2 .ensures in
     let text = c .before .before .before .before .shown .ensures in
-    let a = digit .0 in
-    let b = mark .place in
-    let d = text .place in
     let e = put-length (digit .1) in
     let f = put-length mark in
     let g = put-length text in

@@ -28,9 +28,6 @@ turn-requires c κs =
     let i = c .before .before .before .before .before .before .loop .inv in
     let pre = c .before .before .before .before .before .before .before .before .before .before .before .pre in
     let room = pre .room in
-    let lines = i .2 in
-    let input = i .3 in
-    let here = i .4 in
     (record { table = i .0 ∙ pre .table; output = i .1 ∙ pre .output; room = omega arith }, omega arith, turned-cut (i .5))
 
 loop-again : tie.Need-loop-again Inv-loop μ-loop
@@ -38,8 +35,6 @@ loop-again c =
     let i = c .before .before .before .before .before .before .before .before .before .before .before .before .before .before .before
     .loop .inv in
     let t = c .before .before .before .before .before .before .before .before .turn in
-    let here = t .ensures .1 in
-    let input = i .3 in
     let k = t .kept in
     (k .0 ∙ i .0, k .1 .0 ∙ i .1, k .1 .1 .0 ∙ i .2, k .1 .1 .1 .0 ∙ i .3, omega arith, turned-then (i .5) (t .ensures .0))
 

@@ -37,29 +37,14 @@ loop-holds c =
     let begins = serving-begins (a .input .now) (length (a .lines .now)) (a .table .now) [] in
     (refl, refl, refl, omega arith, omega arith, w .1, w .2, w .0, begins)
 
-slice-aggregate-given : tie.Need-slice-aggregate-given Inv-loop μ-loop
-slice-aggregate-given c =
-    let l = c .before .before .before .before .before .loop in sym (length-take-le (l .size) (l .left .now) (l .inv .5))
-
 given-requires : tie.Need-given-requires Inv-loop μ-loop
 given-requires c κs =
     let l = c .before .before .before .before .before .loop in
     let n = length-take-le (l .size) (l .left .now) (l .inv .5) in
     let four = l .inv .6 (c .before .before .before .before .loop-test .taken) in
-    let here = l .inv .3 in
-    let same = l .inv .2 in
     let pre = c .before .before .before .before .before .before .before .before .before .before .before .pre in
     let room = pre .room in
     (record { table = l .inv .0 ∙ pre .table; output = l .inv .1 ∙ pre .output; room = omega arith }, omega arith, omega arith)
-
-loop-less : tie.Need-loop-less Inv-loop μ-loop
-loop-less c =
-    let test = c .before .before .before .before .before .before .before .before .before .before .before .before .before in
-    let l = test .before .loop in
-    let some = test .loop-test .taken in
-    let few = l .inv .5 in
-    let d = length-drop (l .size) (l .left .now) in
-    omega arith
 
 loop-again : tie.Need-loop-again Inv-loop μ-loop
 loop-again c =
@@ -71,9 +56,7 @@ loop-again c =
     let w = c .whole2 .ensures in
     let d = length-drop (l .size) (l .left .now) in
     let few = i .5 in
-    let within = i .4 in
     let same = i .2 in
-    let here = g .ensures .1 in
     let rest = take-all (length (l .left .now) - l .size) (drop (l .size) (l .left .now)) (simp length-drop (omega arith)) in (
       g .kept .0 ∙ i .0,
       g .kept .1 .0 ∙ i .1,
@@ -89,7 +72,6 @@ loop-again c =
 returns : tie.Need-returns Inv-loop μ-loop
 returns c =
     let l = c .before .before .loop in
-    let none = c .before .loop-test .left in
     let z : l .size ≡ 0 = omega arith in
     let s = serving-ends (l .inv .8) (sym (l .inv .7) ∙ z) in (
       s .0,
@@ -104,13 +86,14 @@ serve-spec =
     μ-loop
     (λ c κs. search needs)
     loop-holds
-    slice-aggregate-given
+    (λ c. let l = c .before .before .before .before .before .loop in sym (length-take-le (l .size) (l .left .now) (l .inv .5)))
     given-requires
     (λ c. omega (arith, c .before .before .before .before .before .before .before .before .before .before .before .before .loop .inv .5))
     (λ c. omega (arith, c .before .before .before .before .before .before .before .before .before .before .before .before .loop .inv .5))
     (λ c. search needs)
     (λ c κs. search needs)
-    loop-less
+    (λ c. let l = c .before .before .before .before .before .before .before .before .before .before .before .before .before .before .loop in
+    omega (arith, length-drop (l .size) (l .left .now)))
     loop-again
     (λ c κs. search needs)
     (λ c. c .before .before .loop .inv .0)

@@ -33,29 +33,13 @@ loop-holds c =
     let w = c .whole .ensures in
     (left-all (a .lines .now) (a .at) (printed (lines-in (a .output .now))), omega arith, w .0, w .1, w .2)
 
-slice-aggregate-line : tie.Need-slice-aggregate-line Inv-loop μ-loop
-slice-aggregate-line c =
-    let l = c .before .before .loop in sym (length-take-le (l .size) (l .left .now) (l .inv .3))
-
 line-requires : tie.Need-line-requires Inv-loop μ-loop
 line-requires c κs =
     let l = c .before .before .before .loop in
     let n = length-take-le (l .size) (l .left .now) (l .inv .3) in
     let some = c .before .before .loop-test .taken in
     let four = l .inv .4 some in
-    let room = l .inv .1 in
-    let few = l .inv .3 in
-    let size = l .inv .0 .size in
-    let fits = c .before .before .before .before .before .before .before .pre in
     (omega arith, omega arith)
-
-loop-less : tie.Need-loop-less Inv-loop μ-loop
-loop-less c =
-    let l = c .before .before .before .before .before .before .before .before .loop in
-    let some = c .before .before .before .before .before .before .before .loop-test .taken in
-    let few = l .inv .3 in
-    let d = length-drop (l .size) (l .left .now) in
-    omega arith
 
 loop-again : tie.Need-loop-again Inv-loop μ-loop
 loop-again c =
@@ -63,11 +47,9 @@ loop-again c =
     let some = c .before .before .before .before .before .before .before .loop-test .taken in
     let k = c .before .before .before .before .line in
     let w = c .whole2 .ensures in
-    let room = l .inv .1 in
     let few = l .inv .3 in
     let d = length-drop (l .size) (l .left .now) in
     let n = length-take-le (l .size) (l .left .now) few in
-    let r = k .ensures .1 in
     let rest = take-all (length (l .left .now) - l .size) (drop (l .size) (l .left .now)) (simp length-drop (omega arith)) in (
       left-as (ap (λ (z : List ℕ). printed (lines-in z)) (sym rest))
           (left-put (left-as (lines-next (l .left .now) (l .size) (l .inv .2) some) (l .inv .0)) (k .ensures .0)),
@@ -80,7 +62,6 @@ loop-again c =
 returns : tie.Need-returns Inv-loop μ-loop
 returns c =
     let l = c .before .loop in
-    let room = l .inv .1 in
     let z : l .size ≡ 0 = omega (arith, c .loop-test .left) in
     (left-none (left-as (lines-none (l .left .now) (l .size) (l .inv .2) z) (l .inv .0)), omega arith)
 
@@ -92,13 +73,14 @@ show-spec =
     μ-loop
     (λ c κs. search needs)
     loop-holds
-    slice-aggregate-line
+    (λ c. let l = c .before .before .loop in sym (length-take-le (l .size) (l .left .now) (l .inv .3)))
     line-requires
     (λ c. omega (arith, c .before .before .before .before .before .before .loop .inv .3))
     (λ c. omega (arith, c .before .before .before .before .before .before .loop .inv .3))
     (λ c. search needs)
     (λ c κs. search needs)
-    loop-less
+    (λ c. let l = c .before .before .before .before .before .before .before .before .loop in
+    omega (arith, length-drop (l .size) (l .left .now)))
     loop-again
     (λ c. c .before .loop .inv .0 .size)
     returns)

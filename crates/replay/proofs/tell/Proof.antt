@@ -15,8 +15,6 @@ returns c =
     let first = c .before .before .before .before .before .before .before .before .before .before .before .copy .ensures in
     let second = c .before .before .before .before .before .before .before .put-digits .ensures in
     let third = c .before .before .copy2 .ensures in
-    let p = first .place in
-    let q = second .0 in
     let r = third .place in (
       put-as (refused-text (a .answer) (a .output .now)
           (c .before .before .before .before .before .before .before .before .before .before .before .before .before .before .if1 .taken))
@@ -33,8 +31,6 @@ show-requires : tie.Need-show-requires
 show-requires c κs =
     let s = c .before .before .before .before .before .before in
     let n = length-take-le (s .args .answer .written) (s .args .output .now) (s .pre .0) in
-    let most = s .pre .1 in
-    let fits = s .pre .2 in
     omega arith
 
 returns-2 : tie.Need-returns-2
@@ -42,9 +38,7 @@ returns-2 c =
     let s = c .before .before .before .before .before .before .before .before .before in
     let a = s .args in
     let n = length-take-le (a .answer .written) (a .output .now) (s .pre .0) in
-    let most = s .pre .1 in
     let k = c .before .before .show .ensures in
-    let far = k .1 in
     (put-as (done-text (a .answer) (a .output .now) (c .before .before .before .before .before .if1 .left)) (k .0), omega arith)
 
 pub tell-spec : {M : Type 1} → statement M

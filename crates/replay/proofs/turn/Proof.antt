@@ -18,8 +18,6 @@ returns-2 c =
     let filled = moved .before .before .before .before .before .before .before .before in
     let f = filled .fill in
     let size = filled .before .before .before .before .before .before .args .size in
-    let h = f .ensures .0 in
-    let few = served .1 .2 in
     (turned-served size (f .result) (f .last .0) (f .ensures .1) (served .0) (served .1 .0), omega arith)
 
 pub turn-spec : {M : Type 1} → statement M

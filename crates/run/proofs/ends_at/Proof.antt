@@ -14,24 +14,6 @@ Inv-loop bytes far i₀ i = Passed bytes i
 abbrev μ-loop : tie.MeasureT-loop
 μ-loop bytes far i₀ i = length bytes - i
 
-returns : tie.Need-returns Inv-loop μ-loop
-returns c =
-    let l = c .before .before .before in
-    let a = l .before .before .before .before .args in
-    at-a-NUL (a .bytes .now) (l .loop .i) (l .loop .inv) (c .before .before .loop-test .taken) (c .if1 .taken)
-
-loop-again : tie.Need-loop-again Inv-loop μ-loop
-loop-again c =
-    let l = c .before .before .before in
-    let a = l .before .before .before .before .args in
-    passed-next (a .bytes .now) (l .loop .i) (l .loop .inv) (c .before .before .loop-test .taken) (c .if1 .left)
-
-returns-2 : tie.Need-returns-2 Inv-loop μ-loop
-returns-2 c =
-    let l = c .before in
-    let a = l .before .before .before .before .args in
-    at-the-end (a .bytes .now) (l .loop .i) (l .loop .inv) (c .loop-test .left)
-
 pub ends-at-spec : {M : Type 1} → statement M
 ends-at-spec =
     tie.close
@@ -42,8 +24,8 @@ ends-at-spec =
     (λ c κs. search needs)
     (λ c. search needs)
     (λ c. search needs)
-    returns
+    (λ c. at-a-NUL _ _ (c .before .before .before .loop .inv) (c .before .before .loop-test .taken) (c .if1 .taken))
     (λ c. search needs)
     (λ c. search needs)
-    loop-again
-    returns-2)
+    (λ c. passed-next _ _ (c .before .before .before .loop .inv) (c .before .before .loop-test .taken) (c .if1 .left))
+    (λ c. at-the-end _ _ (c .before .loop .inv) (c .loop-test .left)))

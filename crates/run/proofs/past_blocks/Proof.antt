@@ -15,6 +15,4 @@ abbrev μ-loop : tie.MeasureT-loop
 pub past-blocks-spec : {M : Type 1} → statement M
 past-blocks-spec =
     tie.close (tie.spec Inv-loop μ-loop (λ c. search needs) (λ c. search needs) (λ c. search needs) (λ c κs. search needs)
-    (λ c. search needs) (λ c. search needs) (λ c. search needs)
-    (λ c. c .before .may-end .ensures (c .if1 .left))
-    (λ c. search needs))
+    (λ c. search needs) (λ c. search needs) (λ c. search needs) (λ c. c .before .may-end .ensures (c .if1 .left)) (λ c. search needs))

@@ -153,8 +153,7 @@ module _ {M : Type 1} (𝓤 : URA M) (H : Heap 𝓤) (A : Atoms 𝓤) (W : Given
         move ! (1 ∷ []) $ peeks ! clock.the-row (Is clock.the-row) (shows 𝓤 H A clock.the-row) h (cell n ∷ []) (λ is. move ! (1 ∷ 0 ∷ []) $
         -- [the clock; what it owns; the open borrow; what observes it; what holds it; ticks; …; beat; …; the reference; …; the answer; …]
         assigns ! (of-opd ! (load ! (from ! (hop ! (look ! 9 refl) (fld ! refl (stop !)))) (look-in ! 0 (sub ! 0 refl (whole !)))))
-        (from ! (stop !))
-        (init ! 5 refl (tt, record { fits = ticks-fit h is })) $
+        (from ! (stop !)) (init ! 5 refl (tt, record { fits = ticks-fit h is })) $
         -- the beat
         owned ! u64 (Is u64) (uint-makes 𝓤 H A W w64) n _ (refl, ticks-fit h is) $
         use1 W (raw (BeatOf 𝓤 H A at-mem run .pre to-beat-of)) (one-given 𝓤 H A W (u64 .own n (vint w64 n ∷ []))) $
@@ -195,8 +194,7 @@ module _ {M : Type 1} (𝓤 : URA M) (H : Heap 𝓤) (A : Atoms 𝓤) (W : Given
       → Walks 𝓤 H A advance.ended stayed (WpFn 𝓤 H C Λ code.function) (advance.clauses 𝓤 H A mem run)
   advance-walks C Λ fm known-beat-of known-ticks-after known-due-after =
       walked 𝓤 H A advance.ended stayed (advance.clauses 𝓤 H A mem run) (WpFn 𝓤 H C Λ code.function) (λ κs. (ptr-vals, tt))
-      (λ κs. (mut-tells (named 0) (κs .0) clock.the-row, tt))
-      (λ κs qs bounds a _ _. via 𝓤 _ (fst∗ 𝓤 _ (emp 𝓤))
+      (λ κs. (mut-tells (named 0) (κs .0) clock.the-row, tt)) (λ κs qs bounds a _ _. via 𝓤 _ (fst∗ 𝓤 _ (emp 𝓤))
       (walk 𝓤 H A W mem run (κs .0) (qs .0) (a .0 .ptr .0) (a .0 .ptr .1) (a .0 .name)
       (a .0 .now) C Λ fm known-beat-of known-ticks-after known-due-after))
 
@@ -220,8 +218,7 @@ advance-spec 𝓤 H 𝓜 𝓖 𝓡 =
     (tables 𝓤 H 𝓜 𝓡 code.env .C) (tables 𝓤 H 𝓜 𝓡 code.env .Λ) #session·advance code.function (code.unfolded 𝓤 H 𝓜 𝓡)
     (advance-meets 𝓤 H (𝓖 .A) (givenOf 𝓤 H 𝓜 𝓖) (𝓜 .mem) (𝓡 .run) (tablesOf 𝓤 H 𝓜 (tables 𝓤 H 𝓜 𝓡 code.env))
     (cited 𝓤 H (BeatOf 𝓤 H (𝓖 .A) (𝓜 .mem) (𝓡 .run)) 𝓜 𝓡 code.env #session·beat-of beat-of-def.routine code.calls-session·beat-of
-    (beat-of-thm.met 𝓤 H 𝓜 𝓖 𝓡))
-    (cited 𝓤 H (TicksAfter 𝓤 H (𝓖 .A) (𝓜 .mem)
+    (beat-of-thm.met 𝓤 H 𝓜 𝓖 𝓡)) (cited 𝓤 H (TicksAfter 𝓤 H (𝓖 .A) (𝓜 .mem)
     (𝓡 .run)) 𝓜 𝓡 code.env #session·ticks-after ticks-after-def.routine code.calls-session·ticks-after (ticks-after-thm.met 𝓤 H 𝓜 𝓖 𝓡))
     (cited 𝓤 H (DueAfter 𝓤 H (𝓖 .A) (𝓜 .mem) (𝓡 .run)) 𝓜 𝓡 code.env #session·due-after due-after-def.routine code.calls-session·due-after
     (due-after-thm.met 𝓤 H 𝓜 𝓖 𝓡)))

@@ -170,8 +170,7 @@ module _ {M : Type 1} (𝓤 : URA M) (H : Heap 𝓤) (A : Atoms 𝓤) (W : Given
         (and-then ! (load ! (from ! (stop !)) (look ! 4 refl)) (no-more !)) (λ v.
         use1 W (later (some (λ (d : Due). ((‵ (flft (α ∷ []) fullShare) ⊛ ‵ ftrue) ⊛ ‵ (due.the-row .own d (v ∷ [])))
         ⊛ some (λ (last : Clock × Unit {0}). (‵ (fres δ (clock.the-row .coded .code (last .0))) ⊛ ‵ ftrue) ⊛ raw
-        (fact 𝓤 (Said (last .0) d))))))
-        (id⊢ 𝓤 _) $ await ! tt $ pick ! (λ d. split ! $ move ! (1 ∷ []) $
+        (fact 𝓤 (Said (last .0) d)))))) (id⊢ 𝓤 _) $ await ! tt $ pick ! (λ d. split ! $ move ! (1 ∷ []) $
         pick ! (λ last. split ! $ move ! (1 ∷ []) $ heard ! (Said (last .0) d) (λ said.
         split ! $ move ! (2 ∷ []) $ split ! $ split ! $
         -- the lifetime ends, and the clock is back: [the token; true; what due owns; the clock's last value; true; the lender's part;
@@ -209,8 +208,7 @@ module _ {M : Type 1} (𝓤 : URA M) (H : Heap 𝓤) (A : Atoms 𝓤) (W : Given
   beaten-walks C Λ fm known-advance known-done-at =
       walked 𝓤 H A beaten.ended stayed (beaten.clauses 𝓤 H A mem run) (WpFn 𝓤 H C Λ code.function)
       (λ κs. (struct.vals subscription.the-type subscription-laws.the-laws, tt))
-      (λ κs. (struct.tells subscription.the-type subscription-laws.the-laws, tt))
-      (λ κs qs bounds a g are. via 𝓤 _ (fst∗ 𝓤 _ (emp 𝓤))
+      (λ κs. (struct.tells subscription.the-type subscription-laws.the-laws, tt)) (λ κs qs bounds a g are. via 𝓤 _ (fst∗ 𝓤 _ (emp 𝓤))
       (walk 𝓤 H A W mem run (a .0) C Λ fm known-advance known-done-at (are .0)
       (struct.lawful subscription.the-type subscription-laws.the-laws 𝓤 H A W .typed (a .0) _ (are .0) .0)
       (struct.owed subscription.the-type subscription-laws.the-laws (a .0) _ (are .0) .1 .1 .0 .1)))

@@ -12,8 +12,7 @@ decide-opened-spec =
     (λ c κs. search needs)
     (λ c κs. search needs)
     (λ c.
-    c .start .ensures
-    ∙ rw (c .before .before .before .match .keys1, sym (c .before .before .is-fine .ensures) ∙ c .before .if1 .taken))
+    c .start .ensures ∙ rw (c .before .before .before .match .keys1, sym (c .before .before .is-fine .ensures) ∙ c .before .if1 .taken))
     (λ c κs. search needs)
     (λ c κs. search needs)
     (λ c κs. search needs)

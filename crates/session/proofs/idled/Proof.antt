@@ -9,6 +9,5 @@ pub idled-spec : {M : Type 1} → statement M
 unfolding idled
 idled-spec =
     tie.close (tie.spec (λ c. search needs) (λ c. search needs) (λ c κs. search needs) (λ c. search needs) (λ c κs. search needs)
-    (λ c. rw (c .enum-told .given .1))
-    (λ c. c .idled-open .ensures ∙ rw (c .before .enum-told2 .given .1))
+    (λ c. rw (c .enum-told .given .1)) (λ c. c .idled-open .ensures ∙ rw (c .before .enum-told2 .given .1))
     (λ c. c .idled-open2 .ensures ∙ rw (c .before .enum-told3 .given .1)))

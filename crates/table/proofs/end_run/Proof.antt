@@ -16,9 +16,7 @@ hear-requires c κs =
 happens-requires : tie.Need-happens-requires
 happens-requires c κs =
     let h = c .before .before .before .before .before .before .before .before .before in
-    let room = h .before .before .before .before .before .before .before .pre .room in
     let e = h .hear .ensures in
-    let few = e .within in
     let size = put-length (e .went .bytes) in
     (e .went .table .table, omega arith, omega arith, search needs)
 
@@ -26,28 +24,13 @@ returns : tie.Need-returns
 returns c =
     let y = c .before .before .before .before in
     let i = y .before .before .before .before in
-    let h = i .before .before .before .before .before .before in
-    let s = h .before .before .before .before .before .before .before in
-    let a = s .args in
-    let e = h .hear .ensures in
-    let l = e .within in
-    let m = y .happens .ensures .within in
-    record {
-      within = omega arith;
-      went = all-told _ (a .table .now) (a .to .session) _ (e .knows) (e .went) (i .if1 .taken) (y .happens .ensures .went);
-    }
+    let e = i .before .before .before .before .before .before .hear .ensures in
+    record { within = omega arith; went = all-told _ _ _ _ (e .knows) (e .went) (i .if1 .taken) (y .happens .ensures .went) }
 
 returns-2 : tie.Need-returns-2
 returns-2 c =
-    let h = c .before .before .before .before .before .before in
-    let s = h .before .before .before .before .before .before .before in
-    let a = s .args in
-    let e = h .hear .ensures in
-    let l = e .within in
-    record {
-      within = omega arith;
-      went = not-told _ (a .table .now) (a .to .session) _ (e .knows) (e .went) (c .if1 .left);
-    }
+    let e = c .before .before .before .before .before .before .hear .ensures in
+    record { within = omega arith; went = not-told _ _ _ _ (e .knows) (e .went) (c .if1 .left) }
 
 pub end-run-spec : {M : Type 1} → statement M
 end-run-spec =

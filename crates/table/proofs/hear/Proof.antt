@@ -1,6 +1,6 @@
 -- `table::hear` meets its contract. Assumes nothing.
 use borrow.Author.Needs.{needs}
-use mathlib.Core.Path.{ap, sym, _∙_}
+use mathlib.Core.Path.{sym, ap, _∙_}
 use Rattle.model.specs.Records.{settings-of}
 use Rattle.table.proofs.Regions.{part-good}
 use Rattle.table.proofs.Receives.{end-lent, heard}
@@ -9,30 +9,21 @@ use Rattle.table.proofs.hear.Tie as tie
 
 end-run-requires : tie.Need-end-run-requires
 end-run-requires c κs =
-    let s = c .before .before .before .before .before .before .before .before .before in
-    let p = s .pre in
-    (part-good (s .args .table .now) (s .args .to .session) (p .0 .table) (p .0 .session), p .1)
+    let p = c .before .before .before .before .before .before .before .before .before .pre in
+    (part-good _ _ (p .0 .table) (p .0 .session), p .1)
 
 answer-requires : tie.Need-answer-requires
 answer-requires c κs =
     let k = c .before .before .before .before .before .before in
-    let g = k .before .before .before in
-    let s = g .before .before .before .before .before .before .before in
-    let a = s .args in
-    end-lent (a .table .now) (a .out .now) (a .to) (a .bytes .now) (a .place .now) (s .pre .0) (g .is-granted .result)
-    (k .end-run .result) _ _
-    (k .end-run .ensures)
+    end-lent (k .before .before .before .before .before .before .before .before .before .before .pre .0) (k .end-run .ensures)
 
 returns : tie.Need-returns
 returns c =
     let y = c .before .before in
     let k = y .before .before .before .before .before .before .before in
     let g = k .before .before .before in
-    let s = g .before .before .before .before .before .before .before in
-    let a = s .args in
-    heard (a .table .now) (a .out .now) (a .to) (a .bytes .now) (a .place .now) (s .pre .0) (g .is-granted .result) (k .end-run .result) _ _
-    (k .end-run .ensures) (sym (g .is-granted .ensures ∙ ap (λ w. settings-of w .granted) (g .before .settings .ensures .0))) _ _
-    (y .answer .ensures)
+    heard (g .before .before .before .before .before .before .before .pre .0) (k .end-run .ensures)
+    (sym (g .is-granted .ensures ∙ ap (λ w. settings-of w .granted) (g .before .settings .ensures .0))) (y .answer .ensures)
 
 pub hear-spec : {M : Type 1} → statement M
 hear-spec =

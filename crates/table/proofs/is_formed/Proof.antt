@@ -1,25 +1,19 @@
 -- `table::is_formed` meets its contract. The invariant: the test of the regions that are left is the test of all. Assumes nothing.
 use borrow.Author.Needs.{needs}
 use borrow.Author.Tests.{not-true, not-false}
-use mathlib.Core.Path.{_≡_, refl, sym, ap, _∙_}
-use mathlib.Core.Bool.{Bool}
-use mathlib.Core.List.{List}
+use mathlib.Core.Path.{refl, sym, ap, _∙_}
 use Prim.Native.Nat.{ℕ, _-_}
 use lib.ListN.{length}
 use Rattle.model.specs.Limits.{session-count}
-use Rattle.text.proofs.Areas.{pass-from, pass-on, pass-stops, pass-ends}
+use Rattle.text.proofs.Areas.{Passing, pass-on, pass-stops, pass-ends}
 use Rattle.region.specs.Region.{region-size, region-formed}
 use Rattle.table.specs.Table.{region-at, table-formed}
 use Rattle.table.proofs.Regions.{length-in}
 use Rattle.table.proofs.is_formed.Statement.{statement}
 use Rattle.table.proofs.is_formed.Tie as tie
 
--- those from session s on are
-abbrev formed-from : List ℕ → ℕ → Bool
-formed-from t s = pass-from (λ (s : ℕ). region-formed) region-at (λ (s : ℕ). region-size) session-count t s
-
 abbrev Inv-loop : tie.InvT-loop
-Inv-loop table s₀ s = formed-from table s ≡ formed-from table 0
+Inv-loop table s₀ s = Passing (λ (s : ℕ). region-formed) region-at (λ (s : ℕ). region-size) session-count table s
 
 abbrev μ-loop : tie.MeasureT-loop
 μ-loop table s₀ s = session-count - s
@@ -38,31 +32,24 @@ unfolding table-formed
 returns-2 c =
     let f = c .before in
     let l = f .before .before .before in
-    let t = f .before .before .before .before .before .before .before .before .args .table .now in
     rw (sym (l .before .before .is-formed .ensures) ∙ not-false _ (l .before .if1 .left))
-    (pass-stops (λ (s : ℕ). region-formed) region-at (λ (s : ℕ). region-size) session-count t (l .loop .s)
-    (f .before .before .loop-test .taken)
-    (sym (f .is-formed2 .ensures ∙ ap region-formed (f .before .region-of .ensures)) ∙ not-true _ (c .if2 .taken)) (l .loop .inv))
+    (pass-stops (l .loop .inv) (f .before .before .loop-test .taken)
+    (sym (f .is-formed2 .ensures ∙ ap region-formed (f .before .region-of .ensures)) ∙ not-true _ (c .if2 .taken)))
 
 loop-again : tie.Need-loop-again Inv-loop μ-loop
 loop-again c =
     let f = c .before in
-    let l = f .before .before .before in
-    let t = f .before .before .before .before .before .before .before .before .args .table .now in
-    pass-on (λ (s : ℕ). region-formed) region-at (λ (s : ℕ). region-size) session-count t (l .loop .s) (f .before .before .loop-test .taken)
-    (sym (f .is-formed2 .ensures ∙ ap region-formed (f .before .region-of .ensures)) ∙ not-false _ (c .if2 .left)) (l .loop .inv)
+    pass-on (f .before .before .before .loop .inv) (f .before .before .loop-test .taken)
+    (sym (f .is-formed2 .ensures ∙ ap region-formed (f .before .region-of .ensures)) ∙ not-false _ (c .if2 .left))
 
 returns-3 : tie.Need-returns-3 Inv-loop μ-loop
 unfolding table-formed
 returns-3 c =
     let l = c .before in
-    let t = l .before .before .before .before .before .args .table .now in
-    rw (sym (l .before .before .is-formed .ensures) ∙ not-false _ (l .before .if1 .left))
-    (pass-ends (λ (s : ℕ). region-formed) region-at (λ (s : ℕ). region-size) session-count t (l .loop .s) (c .loop-test .left)
-    (l .loop .inv))
+    rw (sym (l .before .before .is-formed .ensures) ∙ not-false _ (l .before .if1 .left)) (pass-ends (l .loop .inv) (c .loop-test .left))
 
 pub is-formed-spec : {M : Type 1} → statement M
 is-formed-spec =
     tie.close (tie.spec Inv-loop μ-loop (λ c. search needs) (λ c. search needs) (λ c. search needs) (λ c κs. search needs) returns
-    (λ c. refl)
-    (λ c κs. search needs) is-formed-requires-2 returns-2 (λ c. search needs) (λ c. search needs) loop-again returns-3)
+    (λ c. record { left = refl }) (λ c κs. search needs) is-formed-requires-2 returns-2 (λ c. search needs) (λ c. search needs) loop-again
+    returns-3)

@@ -7,13 +7,9 @@ use Rattle.table.proofs.lengthen.Tie as tie
 
 returns : tie.Need-returns
 returns c =
-    let k = c .before .before in
-    let s = k .before .before .before .before in
-    lengthened (s .args .table .now) (s .args .s) (s .args .bytes .now) (s .pre .0) (s .pre .1) (k .lengthen .ensures)
+    let k = c .before .before in let p = k .before .before .before .before .pre in lengthened _ _ _ (p .0) (p .1) (k .lengthen .ensures)
 
 pub lengthen-spec : {M : Type 1} → statement M
 lengthen-spec =
     tie.close (tie.spec (λ c. search needs) (λ c. search needs) (λ c. search needs) (λ c. search needs) (λ c. search needs)
-    (λ c. search needs)
-    (λ c κs. let s = c .before .before .before in part-good (s .args .table .now) (s .args .s) (s .pre .0) (s .pre .1))
-    (λ c. search needs) returns)
+    (λ c. search needs) (λ c κs. let p = c .before .before .before .pre in part-good _ _ (p .0) (p .1)) (λ c. search needs) returns)

@@ -10,22 +10,16 @@ use Rattle.table.proofs.Alone.{became-alone, opened-fresh}
 use Rattle.table.proofs.open.Statement.{statement}
 use Rattle.table.proofs.open.Tie as tie
 
-open-requires : tie.Need-open-requires
-open-requires c κs =
-    let s = c .before .before in
-    part-good (s .args .table .now) (s .args .s) (s .pre .0) (s .pre .1)
-
 returns : tie.Need-returns
 returns c =
     let k = c .before .before in
     let s = k .before .before .before in
     let t = s .args .table .now in
     let n = s .args .s in
-    became-alone t n opening (s .pre .0) (s .pre .1) (k .«open» .last .0) (k .«open» .ensures .0)
-    (k .«open» .ensures .1 ∙ opened-fresh (decode t .shared) (session-of (part t n))
-    (ap is-closed (sym (part-is t n (s .pre .1))) ∙ s .pre .2))
+    became-alone t n opening (s .pre .0) (s .pre .1) _ (k .«open» .ensures .0) (k .«open» .ensures .1
+    ∙ opened-fresh (decode t .shared) (session-of (part t n)) (ap is-closed (sym (part-is t n (s .pre .1))) ∙ s .pre .2))
 
 pub open-spec : {M : Type 1} → statement M
 open-spec =
     tie.close (tie.spec (λ c. search needs) (λ c. search needs) (λ c. search needs) (λ c. search needs) (λ c. search needs)
-    (λ c. search needs) open-requires (λ c. search needs) returns)
+    (λ c. search needs) (λ c κs. let p = c .before .before .pre in part-good _ _ (p .0) (p .1)) (λ c. search needs) returns)

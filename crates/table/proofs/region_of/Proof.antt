@@ -7,5 +7,4 @@ use Rattle.table.proofs.region_of.Tie as tie
 pub region-of-spec : {M : Type 1} → statement M
 region-of-spec =
     tie.close (tie.spec (λ c. search needs) (λ c. search needs) (λ c. search needs) (λ c. search needs) (λ c. search needs)
-    (λ c. search needs)
-    (λ c. let s = c .before in part-in (s .args .table .now) (s .args .s)))
+    (λ c. search needs) (λ c. let s = c .before in part-in (s .args .table .now) (s .args .s)))

@@ -16,24 +16,17 @@ loop-again : tie.Need-loop-again Inv-loop μ-loop
 loop-again c =
     let k = c .before .before in
     let t = k .before .before in
-    let l = t .before .loop in
-    let s = t .before .before .before .before in
-    closed-next (s .args .table .now) (s .pre .0) (l .table) (l .s) (l .inv) (k .start .last .0) (t .loop-test .taken)
-    (k .start .ensures .0) (k .start .ensures .1)
+    closed-next (t .before .before .before .before .pre .0) (t .before .loop .inv) (t .loop-test .taken) (k .start .ensures .0)
+    (k .start .ensures .1)
 
 returns : tie.Need-returns Inv-loop μ-loop
 returns c =
     let k = c .before .before in
     let t = k .before .before in
-    let l = t .before .loop in
-    let s = t .before .before .before .before in
-    closed-all (s .args .table .now) (s .pre .0) (l .table) (l .s) (l .inv) (s .args .payload .now) (k .start2 .last .0)
-    (t .loop-test .left) (k .start2 .ensures)
+    closed-all (t .before .before .before .before .pre .0) (t .before .loop .inv) (t .loop-test .left) (k .start2 .ensures)
 
 pub start-spec : {M : Type 1} → statement M
 start-spec =
-    tie.close (tie.spec Inv-loop μ-loop
-    (λ c. closed-none _)
-    (λ c. search needs) (λ c. search needs) (λ c. search needs) (λ c. search needs) (λ c. search needs) (λ c. search needs)
-    (λ c κs. search needs) (λ c. search needs) (λ c. search needs) loop-again (λ c. search needs) (λ c. search needs) (λ c. search needs)
-    (λ c κs. search needs) (λ c. search needs) returns)
+    tie.close (tie.spec Inv-loop μ-loop (λ c. closed-none _) (λ c. search needs) (λ c. search needs) (λ c. search needs) (λ c. search needs)
+    (λ c. search needs) (λ c. search needs) (λ c κs. search needs) (λ c. search needs) (λ c. search needs) loop-again (λ c. search needs)
+    (λ c. search needs) (λ c. search needs) (λ c κs. search needs) (λ c. search needs) returns)

@@ -23,15 +23,13 @@ returns c =
 returns-2 : tie.Need-returns-2 Inv-loop μ-loop
 returns-2 c =
     let l = c .before .before .before .before in
-    all-stops _ _ _ (c .before .before .before .loop-test .taken)
-    (rw (le-leb _ _ (c .before .if1 .left), lt-leb _ _ (c .if2 .taken)))
+    all-stops _ _ _ (c .before .before .before .loop-test .taken) (rw (le-leb _ _ (c .before .if1 .left), lt-leb _ _ (c .if2 .taken)))
     (l .loop .inv)
 
 loop-again : tie.Need-loop-again Inv-loop μ-loop
 loop-again c =
     let l = c .before .before .before .before in
-    all-goes-on _ _ _ (c .before .before .before .loop-test .taken)
-    (rw (le-leb _ _ (c .before .if1 .left), le-leb _ _ (c .if2 .left)))
+    all-goes-on _ _ _ (c .before .before .before .loop-test .taken) (rw (le-leb _ _ (c .before .if1 .left), le-leb _ _ (c .if2 .left)))
     (l .loop .inv)
 
 pub all-within-spec : {M : Type 1} → statement M
