@@ -2,24 +2,27 @@
 use mathlib.Core.Path.{_≡_, refl, sym, ap, subst, _∙_}
 use Prim.Native.Nat.{ℕ, zero, suc, _+_, _-_, _≤_, _<_}
 use native.Mathlib.Omega.{arith}
-use mathlib.Core.Bool.{Bool, true, false, cond}
+use mathlib.Core.Bool.{Bool, true, cond}
 use mathlib.Core.List.{List, [], _∷_, _++_, map, append-assoc}
-use lib.Dec.{eqb}
-use lib.ListN.{length, take, length-append}
+use lib.Dec.{leb}
+use borrow.Author.Tests.{leb-true}
+use lib.ListN.{length, length-append}
 use lib.Seq.{take-all}
 use Rattle.model.specs.Limits.{header-length, identifier-length}
 use Rattle.model.specs.Bytes.{digit-0, digit-1, all, in-bytes}
-use Rattle.model.specs.Records.{record-head, said, settings-length, settings-items, values, settings-of, tightening-of, scanned-items}
-use Rattle.model.specs.Layouts.{identifier-rows, data-from, data-of, characters, layout-0052, rows-length}
-use Rattle.model.specs.Kinds.{kinds, kind-at}
+use Rattle.model.specs.Records.{record-head, said, settings-length, settings-items, values, settings-of, tightening-of}
+use Rattle.model.specs.Layouts.{Layout, data-from, data-of, characters, data-length, layout-at, layouts-0052, layouts-0061}
+use Rattle.model.specs.Kinds.{Kind, kinds, kind-at}
 use Rattle.model.specs.Frames.{header, frame, frame-0002, frame-0004, frame-0005, event-frame, frame-kind, frame-record}
+use Rattle.model.proofs.Framed.{at-every}
+use Rattle.model.proofs.KindLaws.{every-layout}
 use Rattle.text.specs.Put.{Put}
 use Rattle.text.proofs.Numbers.{digits-length}
 use Rattle.text.proofs.Puts.{put-then, put-before, put-as}
 use Rattle.frame.specs.declared.Content.the-variants.{Started, Refused, Accepted, Notice}
 use Rattle.frame.specs.declared.Frame.{Frame}
 use Rattle.frame.specs.declared.To.{To}
-use Rattle.frame.specs.Places.{place-size, result-of, event-in}
+use Rattle.frame.specs.Places.{place-items, place-size, result-of, event-in}
 use Rattle.frame.specs.Layout.{placed, Payloads, data-in, served, all-served}
 use Rattle.frame.specs.Output.{Wrote, frame-length, frame-of, reply-of, record-length, Sendable}
 
@@ -69,24 +72,19 @@ wrote-frame {o₂ = o₂} {o₃ = o₃} {d = d} {at = at} {n = n} {end = end} {r
 
 -- ==== how long they are, and which bytes serve them
 
-parts-short : (b : Bool) → header-length + rows-length true (take (cond b 1 4) identifier-rows) ≤ 128
-parts-short true = omega arith
-parts-short false = omega arith
+abbrev short : Kind → Layout → Bool
+short k l = leb (header-length + data-length l) (k .longest)
 
 pub copy-short : (kind revision : ℕ) → kind < length kinds → frame-length (Notice kind revision) ≤ (kind-at kind) .longest
-copy-short zero revision h = parts-short (eqb revision 1)
-copy-short (suc zero) revision h = omega arith
-copy-short (suc (suc kind)) revision h = absurd (omega arith)
+copy-short kind revision h = leb-true _ _ (every-layout short refl kind h revision)
 
-parts-served : (b : Bool)
-    → all (served settings-length identifier-length) (map (placed scanned-items) (take (cond b 1 4) identifier-rows)) ≡ true
-parts-served true = refl
-parts-served false = refl
+abbrev serves : ℕ → Layout → Bool
+serves kind l = all (served settings-length (place-size kind)) (map (placed (place-items kind)) (l .rows))
 
 pub notice-served : (kind revision : ℕ) → kind < length kinds
     → all-served (Notice kind revision) settings-length (place-size kind) ≡ true
-notice-served zero revision h = parts-served (eqb revision 1)
-notice-served (suc zero) revision h = refl
+notice-served zero revision h = at-every (serves 0) layouts-0052 refl revision
+notice-served (suc zero) revision h = at-every (serves 1) layouts-0061 refl revision
 notice-served (suc (suc kind)) revision h = absurd (omega arith)
 
 -- ==== a frame that says what another says
@@ -125,7 +123,7 @@ pub is-copy : (st p : List ℕ) (kind revision : ℕ) (no-acknowledge : Bool) �
 unfolding event-frame data-in settings-of tightening-of result-of
 is-copy st p zero revision no-acknowledge h l =
     ap (λ (x : List ℕ). frame 52 revision (cond no-acknowledge digit-1 digit-0)
-    (data-of (layout-0052 revision) (record { settings = values settings-items st; told = said x ∷ [] })))
+    (data-of (layout-at layouts-0052 revision) (record { settings = values settings-items st; told = said x ∷ [] })))
     (take-all identifier-length p (omega arith))
 is-copy st p (suc zero) revision no-acknowledge h l = refl
 is-copy st p (suc (suc kind)) revision no-acknowledge h l = absurd (omega arith)

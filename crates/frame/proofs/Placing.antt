@@ -12,11 +12,13 @@ use Rattle.model.specs.Bytes.{all, digits, little}
 use Rattle.model.specs.Records.{Item, number, text, time, item-length, parts-from, Value, counted, value-of, values-of, values}
 use Rattle.model.specs.Records.{number-in, text-in, number-at, text-at, settings-items, scanned-items}
 use Rattle.model.specs.Layouts.{Sources, settings, source, Row, number as number-row, text as text-row, blank, known, width-of, characters}
-use Rattle.model.specs.Layouts.{identifier-rows}
+use Rattle.model.specs.Layouts.{layouts-0052, layouts-0061}
 use Rattle.frame.specs.declared.Content.{Content}
 use Rattle.frame.specs.declared.Content.the-variants.{Started, Refused, Accepted, Notice}
 use Rattle.frame.specs.Layout.{layout-of, items-told, items-of, item-at, place-of, placed, placed-width, Payloads, bytes-of, shown}
 use Rattle.frame.specs.Output.{Real}
+use Rattle.frame.specs.Places.{result-items}
+use Rattle.model.proofs.Framed.{at-every}
 
 -- ==== value i of a payload is read from the bytes of item i
 
@@ -103,14 +105,10 @@ width-placed told (blank width) = refl
 width-placed told (known width n) = refl
 
 -- the rows of every frame do
-suits-identifiers : (b : Bool) → all (suits scanned-items) (take (cond b 1 4) identifier-rows) ≡ true
-suits-identifiers true = refl
-suits-identifiers false = refl
-
 pub all-suit : (content : Content) → Real content → all (suits (items-told content)) (layout-of content .rows) ≡ true
 all-suit Started h = refl
 all-suit (Refused mid error) h = refl
 all-suit (Accepted mid) h = refl
-all-suit (Notice zero revision) h = suits-identifiers (eqb revision 1)
-all-suit (Notice (suc zero) revision) h = refl
+all-suit (Notice zero revision) h = at-every (λ l. all (suits scanned-items) (l .rows)) layouts-0052 refl revision
+all-suit (Notice (suc zero) revision) h = at-every (λ l. all (suits result-items) (l .rows)) layouts-0061 refl revision
 all-suit (Notice (suc (suc kind)) revision) h = absurd (omega arith)

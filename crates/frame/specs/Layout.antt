@@ -6,7 +6,7 @@ use lib.Dec.{leb, eqb}
 use lib.ListN.{length, getD, take, drop}
 use Rattle.model.specs.Bytes.{all, spaces, digits, little}
 use Rattle.model.specs.Records.{Item, time, item-length, payload-length, values, settings-items}
-use Rattle.model.specs.Layouts.{Sources, settings, Row, number, text, blank, known, Layout, label-length, data-of}
+use Rattle.model.specs.Layouts.{Sources, settings, Row, number, text, blank, known, Layout, label-length, data-of, layout-at}
 use Rattle.model.specs.Layouts.{layout-0002, layout-0004, layout-0005}
 use Rattle.model.specs.Kinds.{kind-at}
 use Rattle.frame.specs.Places.{place-items}
@@ -22,7 +22,7 @@ abbrev pub layout-of : Content → Layout
 layout-of Started = layout-0002
 layout-of (Refused mid error) = layout-0004 mid error
 layout-of (Accepted mid) = layout-0005 mid
-layout-of (Notice kind revision) = ((kind-at kind) .layout) revision
+layout-of (Notice kind revision) = layout-at ((kind-at kind) .layouts) revision
 
 abbrev pub items-told : Content → List Item
 items-told Started = []

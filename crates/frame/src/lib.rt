@@ -280,7 +280,7 @@ fn notice_extent(kind: usize, revision: u64) -> Extent
     ensures { λ r. ⌜ r ≡ extent-of (Notice kind revision) ⌝ }
 {
     if kind == model::IDENTIFIERS {
-        let count = if revision == 1 { 1 } else { IDENTIFIER_COUNT };
+        let count = if revision < 2 { 1 } else { IDENTIFIER_COUNT };
         return Extent {
             label: NUMBERED,
             count,
@@ -470,7 +470,8 @@ pub struct Frame {
 // A frame's header.
 fn put_header(out: &mut [u8], at: usize, size: u64, f: Frame) -> usize
     requires { ⌜ at + header-length ≤ length (now out) ⌝ }
-    ensures { λ r. ⌜ Wrote (now (out .entry)) at header-length (header-bytes size (f .mid) (f .revision) (f .«byte_12»)) r (now (out .exit)) ⌝ }
+    ensures { λ r. ⌜ Wrote (now (out .entry)) at header-length (header-bytes size (f .mid) (f .revision) (f .«byte_12»)) r
+        (now (out .exit)) ⌝ }
 {
     let at = text::put_digits(out, at, NUMBER_DIGITS, size);
     let at = text::put_digits(out, at, NUMBER_DIGITS, f.mid);

@@ -10,7 +10,7 @@ use Rattle.model.specs.Limits.{identifier-length, copy-every, given-up-a
 use Rattle.model.specs.Bytes.{spaces, digits}
 use Rattle.model.specs.Records.{Settings, settings-length, settings-of, tightening-length, tightening-of}
 use Rattle.model.specs.Events.{Event, identified, tightened, Notice}
-use Rattle.model.specs.Layouts.{characters, data-from}
+use Rattle.model.specs.Layouts.{characters, data-from, revision-count, layouts-0052, layouts-0061}
 use Rattle.model.specs.Frames.{header, frame, frame-0002, event-frame}
 use Rattle.model.specs.Kinds.{Room, Kind, kinds, kind-at, identifiers, tightenings, copy-most, copies-most, longest-reply, event-most}
 use Rattle.model.specs.Kinds.{receive-most, tick-most, call-most}
@@ -34,7 +34,7 @@ pub the-table : table
     ∷ []
 the-table = refl
 
--- 01, "Frames we write": how long 0002 is, and the longest frame of each kind
+-- 01, "Frames we write": how long 0002 is, and the longest frame of each kind, which is that of its newest revision
 abbrev sample : Settings
 sample = settings-of (spaces settings-length)
 
@@ -44,7 +44,10 @@ result =
 
 abbrev frames : List (List ℕ)
 frames =
-    frame-0002 sample ∷ event-frame sample 2 false (identified (spaces identifier-length)) ∷ event-frame sample 1 false result ∷ []
+    frame-0002 sample
+    ∷ event-frame sample (revision-count layouts-0052) false (identified (spaces identifier-length))
+    ∷ event-frame sample (revision-count layouts-0061) false result
+    ∷ []
 
 pub the-lengths : map length frames
     ≡ longest-reply ∷ map (λ k. k .longest) kinds

@@ -14,7 +14,8 @@ use Rattle.model.specs.Limits.{header-length, identifier-length, message
 use Rattle.model.specs.Bytes.{NUL, dash, colon, is-digit, is-text, is-space, all, places, decimal}
 use Rattle.model.specs.Tests.{first}
 use Rattle.model.specs.Records.{is-record, payload, Item, number, text, time, item-length, payload-length, parts-from, parts}
-use Rattle.model.specs.Records.{good-in-time, is-time-from, good-item, good-parts, good-payload, good-record, value-of, values-of, values}
+use Rattle.model.specs.Records.{good-in-time, is-time-from, good-item, good-parts, good-payload, good-record}
+use Rattle.model.specs.Records.{value-of, values-of, values}
 use Rattle.model.specs.Records.{settings-kind, tightening-kind, scanned-kind, Settings, settings-items, settings-of, read-settings}
 use Rattle.model.specs.Records.{tightening-items, tightening-of, identifier-in, scanned-items, Tool, scanned, tightening, read-tool}
 use Rattle.model.specs.Runs.{Run, longer, Piece, cut, Message, is-flag, is-message, message-of, read-run}

@@ -1,18 +1,19 @@
 -- The frames that we write, as a line server reads them: no NUL in them, and the length that they begin with is their own. It holds of
 -- every frame whose fields are numbers in so many digits, whatever the number, and texts without NUL. Assumes nothing.
-use Prim.Native.Nat.{ℕ, zero, suc, _+_, _*_, _/_, _%_, _≤_, _<_}
+use Prim.Native.Nat.{ℕ, zero, suc, _+_, _*_, _-_, _/_, _%_, _≤_, _<_}
 use mathlib.Core.Path.{_≡_, refl, _∙_}
 use mathlib.Core.Bool.{Bool, true, false, cond, _&&_, and-eq-true-iff}
 use mathlib.Core.List.{List, [], _∷_, _++_}
 use native.Mathlib.Omega.{arith}
 use lib.Dec.{leb, eqb}
-use lib.ListN.{length, take, length-append, length-replicate}
+use lib.ListN.{length, getD, take, length-append, length-replicate}
 use borrow.Author.Tests.{le-leb, leb-true}
 use Rattle.model.specs.Limits.{header-length, identifier-length}
 use Rattle.model.specs.Bytes.{NUL, space, digit-0, digit-1, is-digit, is-text, all, spaces, decimal, digits}
 use Rattle.model.specs.Records.{Value, counted, said, number-at, text-at, Settings}
 use Rattle.model.specs.Layouts.{Sources, settings, source, Row, number, text, blank, known, width-of, characters, label-length, label}
-use Rattle.model.specs.Layouts.{Layout, data-from, data-of, layout-0002, layout-0004, layout-0005, identifier-rows}
+use Rattle.model.specs.Layouts.{Layout, data-from, data-of, layout-0002, layout-0004, layout-0005}
+use Rattle.model.specs.Layouts.{Layouts, layout-at, layouts-0052, layouts-0061}
 use Rattle.model.specs.Kinds.{kind-at}
 use Rattle.model.specs.Events.{Event, identified, tightened, kind-of, told-of}
 use Rattle.model.specs.Frames.{header, frame, sources, nothing, frame-0002, frame-0004, frame-0005, event-frame}
@@ -34,6 +35,20 @@ module _ {A : Type 0} (P : A → Type 0) where
 pub either : {A : Type 0} (P : A → Type 0) (b : Bool) (x y : A) → P x → P y → P (cond b x y)
 either P true x y h k = h
 either P false x y h k = k
+
+-- ==== the layouts of a notice: what a test finds of each of them it finds of every revision
+
+pub getD-all : {A : Type 0} (test : A → Bool) (xs : List A) (i : ℕ) (d : A) → test d ≡ true → all test xs ≡ true
+    → test (getD xs i d) ≡ true
+getD-all test [] i d h k = h
+getD-all test (x ∷ xs) zero d h k = and-eq-true-iff (test x) (all test xs) .0 k .0
+getD-all test (x ∷ xs) (suc i) d h k = getD-all test xs i d h (and-eq-true-iff (test x) (all test xs) .0 k .1)
+
+pub at-every : (test : Layout → Bool) (ls : Layouts) → all test (ls .newest ∷ ls .older) ≡ true → (revision : ℕ)
+    → test (layout-at ls revision) ≡ true
+at-every test ls h revision =
+    let t = and-eq-true-iff (test (ls .newest)) (all test (ls .older)) .0 h in
+    getD-all test (ls .older) (revision - 1) (ls .newest) (t .0) (t .1)
 
 -- ==== bytes that are no NUL
 
@@ -222,20 +237,16 @@ framed-0005 mid = framed-layout nothing nothing-fits 5 1 space (layout-0005 mid)
 byte-12-shown : (b : Bool) → Shown (cond b digit-1 digit-0)
 byte-12-shown b = either Shown b digit-1 digit-0 (λ e. omega arith) (λ e. omega arith)
 
-slim-notice : (e : Event) (revision : ℕ) → slim (((kind-at (kind-of e)) .layout) revision) ≡ true
-slim-notice (identified x) revision = go (eqb revision 1)
-  where
-    go : (b : Bool) → slim (record { numbered = true; rows = take (cond b 1 4) identifier-rows }) ≡ true
-    go true = refl
-    go false = refl
-slim-notice (tightened r) revision = refl
+slim-notice : (e : Event) (revision : ℕ) → slim (layout-at ((kind-at (kind-of e)) .layouts) revision) ≡ true
+slim-notice (identified x) revision = at-every slim layouts-0052 refl revision
+slim-notice (tightened r) revision = at-every slim layouts-0061 refl revision
 
 module _ (st : Settings) (clean : CleanSettings st) (revision : ℕ) (no-acknowledge : Bool) where
   pub framed-event : (e : Event) → CleanEvent e → Framed (event-frame st revision no-acknowledge e)
   unfolding event-frame
   framed-event e h =
       framed-layout (sources st (told-of e)) (record { settings = clean; told = fit-told e h }) ((kind-at (kind-of e)) .notice) revision
-      (cond no-acknowledge digit-1 digit-0) (((kind-at (kind-of e)) .layout) revision) (byte-12-shown no-acknowledge)
+      (cond no-acknowledge digit-1 digit-0) (layout-at ((kind-at (kind-of e)) .layouts) revision) (byte-12-shown no-acknowledge)
       (slim-notice e revision)
 
   pub notice-event : (e : Event) → is-notice (event-frame st revision no-acknowledge e) ≡ true

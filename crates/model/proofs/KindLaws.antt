@@ -9,9 +9,11 @@ use lib.ListN.{length, getD}
 use borrow.Author.Tests.{eqb-false, not-true}
 use Rattle.model.specs.Limits.{tightenings-held}
 use Rattle.model.specs.Bytes.{all}
+use Rattle.model.specs.Layouts.{Layout, layout-at}
 use Rattle.model.specs.Kinds.{Room, the-newest, up-to, Kind, kinds, kind-at}
 use Rattle.model.specs.Wire.{has-notice}
 use Rattle.model.proofs.Clean.{both}
+use Rattle.model.proofs.Framed.{at-every}
 
 pub neither : (a b : Bool) → (a || b) ≡ false → (a ≡ false) × (b ≡ false)
 neither true b e = absurd (true≢false e)
@@ -61,3 +63,13 @@ small (up-to most) = leb most tightenings-held
 
 pub rooms-small : (i : ℕ) → i < length kinds → small ((kind-at i) .room) ≡ true
 rooms-small i u = all-at (λ k. small (k .room)) kinds _ refl i u
+
+-- ==== their layouts: what a test finds of each of them it finds of every kind and revision
+
+abbrev pub throughout : (Kind → Layout → Bool) → Kind → Bool
+throughout test k = all (test k) (k .layouts .newest ∷ k .layouts .older)
+
+pub every-layout : (test : Kind → Layout → Bool) → all (throughout test) kinds ≡ true → (i : ℕ) → i < length kinds → (revision : ℕ)
+    → test (kind-at i) (layout-at ((kind-at i) .layouts) revision) ≡ true
+every-layout test h i u revision =
+    at-every (test (kind-at i)) ((kind-at i) .layouts) (all-at (throughout test) kinds _ h i u) revision

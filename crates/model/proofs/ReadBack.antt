@@ -1,12 +1,12 @@
 -- A reader gets back what was written, by the same rows, and needs to know no more rows than it wants. Assumes nothing.
 use mathlib.Core.Path.{_≡_, refl, sym, ap, ap₂, _∙_}
-use Prim.Native.Nat.{ℕ, zero, suc, _+_, _-_, _*_, _/_, _%_, _^_, _<_}
+use Prim.Native.Nat.{ℕ, zero, suc, _+_, _-_, _*_, _/_, _%_, _^_, _≤_, _<_}
 use native.Mathlib.Nat.{add-zero, suc-add, add-suc, div-add-mod', div-lt-iff-lt-mul, pow-suc}
 use native.Mathlib.Omega.{arith}
 use mathlib.Core.Bool.{Bool, true, and-eq-true-iff}
 use mathlib.Core.List.{List, [], _∷_, _++_, map, append-assoc}
-use lib.ListN.{length, take, drop, length-replicate}
-use lib.Seq.{take-at, drop-at}
+use lib.ListN.{length, take, drop, length-replicate, take-append-drop}
+use lib.Seq.{take-at, drop-at, take-take}
 use borrow.Author.Tests.{ltb-true, eqb-true}
 use Rattle.model.specs.Bytes.{space, all, digits, decimal, decimal-from}
 use Rattle.model.specs.Records.{Value, counted, number-at, text-at}
@@ -88,3 +88,14 @@ module _ (b : Sources) where
         → read-fields numbered xs (data-from numbered 1 (xs ++ ys) b) ≡ map (value-in b) xs
     read-fewer xs ys ok =
         ap (read-fields numbered xs) (data-append xs ys 1) ∙ read-back xs 1 (data-from numbered (1 + length xs) ys b) ok
+
+    -- the data of the first so many rows is what that of more of them begins with
+    pub data-begins : (rows : List Row) (n m : ℕ) → n ≤ m
+        → take (length (data-from numbered 1 (take n rows) b)) (data-from numbered 1 (take m rows) b) ≡ data-from numbered 1 (take n rows) b
+    data-begins rows n m h =
+        let xs = take n rows in
+        let ys = drop n (take m rows) in
+        let d = data-from numbered 1 xs b in
+        let e : take m rows ≡ xs ++ ys = sym (take-append-drop n (take m rows)) ∙ ap (λ (l : List Row). l ++ ys) (take-take n m rows h) in
+        ap (λ (l : List Row). take (length d) (data-from numbered 1 l b)) e
+        ∙ ap (take (length d)) (data-append xs ys 1) ∙ take-at d (data-from numbered (1 + length xs) ys b) (length d) refl

@@ -1,11 +1,11 @@
 -- 01, "What a message does", "Notices and the clock" and "Frames we write": the kinds of notice, a row each, with all that tells one kind
 -- from another. Assumes nothing: these are definitions.
 use Prim.Native.Nat.{ℕ, suc, _+_, _*_}
-use mathlib.Core.List.{List, [], _∷_, map}
+use mathlib.Core.List.{List, [], _∷_}
 use lib.ListN.{length, getD}
 use Rattle.model.specs.Limits.{session-count, tightenings-held}
 use Rattle.model.specs.Records.{record-head}
-use Rattle.model.specs.Layouts.{Layout, layout-0052, layout-0061}
+use Rattle.model.specs.Layouts.{Layouts, layouts-0052, layouts-0061}
 
 -- how many notices a kind holds: beside the open one the newest alone waits; or so many in all, the open one counted
 pub data Room : Type 0 where
@@ -18,37 +18,34 @@ pub record Kind : Type 0 where
   pub notice : ℕ
   pub acknowledge : ℕ
   pub unsubscribe : ℕ
-  -- subscribing has revisions 1 to this one
-  pub newest : ℕ
   -- the own errors: of a subscribe by one that is subscribed, of an unsubscribe by one that is not
   pub already : ℕ
   pub not-subscribed : ℕ
   pub room : Room
-  -- the layout of its notice, by the revision
-  pub layout : ℕ → Layout
+  -- the layouts of its notice: subscribing has as many revisions
+  pub layouts : Layouts
   -- how long its longest frame is
   pub longest : ℕ
 
--- the four messages; revisions; the two errors; room; layout and length
-abbrev pub a-kind : ℕ → ℕ → ℕ → ℕ → ℕ → ℕ → ℕ → Room → (ℕ → Layout) → ℕ → Kind
-a-kind subscribe notice acknowledge unsubscribe newest already not-subscribed room layout longest = record {
+-- the four messages; the two errors; room; layouts and length
+abbrev pub a-kind : ℕ → ℕ → ℕ → ℕ → ℕ → ℕ → Room → Layouts → ℕ → Kind
+a-kind subscribe notice acknowledge unsubscribe already not-subscribed room layouts longest = record {
   subscribe = subscribe;
   notice = notice;
   acknowledge = acknowledge;
   unsubscribe = unsubscribe;
-  newest = newest;
   already = already;
   not-subscribed = not-subscribed;
   room = room;
-  layout = layout;
+  layouts = layouts;
   longest = longest;
 }
 
 -- in the order in which a tick looks at them
 abbrev pub kinds : List Kind
 kinds =
-    a-kind 0051 0052 0053 0054 2 06 07 the-newest layout-0052 128
-    ∷ a-kind 0060 0061 0062 0063 1 09 10 (up-to tightenings-held) layout-0061 231
+    a-kind 0051 0052 0053 0054 06 07 the-newest layouts-0052 128
+    ∷ a-kind 0060 0061 0062 0063 09 10 (up-to tightenings-held) layouts-0061 231
     ∷ []
 
 -- their places
@@ -60,7 +57,7 @@ tightenings = 1
 
 -- (past the last there is none)
 abbrev pub kind-at : ℕ → Kind
-kind-at place = getD kinds place (a-kind 0 0 0 0 0 0 0 the-newest layout-0052 0)
+kind-at place = getD kinds place (a-kind 0 0 0 0 0 0 the-newest layouts-0052 0)
 
 abbrev pub room-of : ℕ → Room
 room-of place = (kind-at place) .room

@@ -1,9 +1,9 @@
 -- 01, "Frames we write": the data of a frame by rows, a row for each field. Assumes nothing: these are definitions.
-use Prim.Native.Nat.{ℕ, suc, _+_}
+use Prim.Native.Nat.{ℕ, suc, _+_, _-_}
 use mathlib.Core.Bool.{Bool, true, false, cond}
-use mathlib.Core.List.{List, [], _∷_, _++_}
+use mathlib.Core.List.{List, [], _∷_, _++_, map}
 use lib.Dec.{eqb}
-use lib.ListN.{take}
+use lib.ListN.{length, getD, take}
 use Rattle.model.specs.Limits.{identifier-length, time-length}
 use Rattle.model.specs.Bytes.{spaces, digits}
 use Rattle.model.specs.Records.{Value, number-at, text-at}
@@ -92,15 +92,31 @@ layout-0004 mid error = record { numbered = false; rows = known 4 mid ∷ known 
 abbrev pub layout-0005 : ℕ → Layout
 layout-0005 mid = record { numbered = false; rows = known 4 mid ∷ [] }
 
--- ==== the layouts of the notices, by the revision that is subscribed to
+-- ==== the layouts of the notices, by the revision that is subscribed to: of the older ones, from 1 on, and of the newest
+
+pub record Layouts : Type 0 where
+  pub older : List Layout
+  pub newest : Layout
+
+-- how many revisions there are
+abbrev pub revision-count : Layouts → ℕ
+revision-count ls = suc (length (ls .older))
+
+-- (above the newest there is none)
+abbrev pub layout-at : Layouts → ℕ → Layout
+layout-at ls revision = getD (ls .older) (revision - 1) (ls .newest)
+
+-- numbered, the first so many of some rows
+abbrev pub first-of : List Row → ℕ → Layout
+first-of rows count = record { numbered = true; rows = take count rows }
 
 -- the identifier; revision 2 has three parts more, all spaces
 abbrev pub identifier-rows : List Row
 identifier-rows =
     text identifier-length told 0 ∷ blank identifier-length ∷ blank identifier-length ∷ blank identifier-length ∷ []
 
-abbrev pub layout-0052 : ℕ → Layout
-layout-0052 revision = record { numbered = true; rows = take (cond (eqb revision 1) 1 4) identifier-rows }
+abbrev pub layouts-0052 : Layouts
+layouts-0052 = record { older = map (first-of identifier-rows) (1 ∷ []); newest = first-of identifier-rows 4 }
 
 -- fields 04 to 23 of revision 1: a tightening's items in their order, and its number
 abbrev pub result-rows : List Row
@@ -132,5 +148,16 @@ result-rows =
     ∷ number 10 told 19
     ∷ []
 
-abbrev pub layout-0061 : ℕ → Layout
-layout-0061 revision = record { numbered = true; rows = controller-rows ++ result-rows }
+-- the rows behind those of the controller, of the older revisions and of the newest
+abbrev pub results-older : List (List Row)
+results-older = []
+
+abbrev pub results-newest : List Row
+results-newest = result-rows
+
+-- behind those of the controller
+abbrev pub of-controller : List Row → Layout
+of-controller rows = record { numbered = true; rows = controller-rows ++ rows }
+
+abbrev pub layouts-0061 : Layouts
+layouts-0061 = record { older = map of-controller results-older; newest = of-controller results-newest }

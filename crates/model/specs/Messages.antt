@@ -6,6 +6,7 @@ use mathlib.Core.Option.{Option, none, some}
 use lib.Dec.{eqb}
 use Rattle.model.specs.Bytes.{within, is-text, all}
 use Rattle.model.specs.Tests.{Test, _gives_, first}
+use Rattle.model.specs.Layouts.{revision-count}
 use Rattle.model.specs.Kinds.{Kind, kinds}
 
 -- ==== the table: each message's lengths, its revisions, its effect and its own error
@@ -39,7 +40,7 @@ entry mid least greatest rs effect =
 abbrev pub kind-rows : ℕ → List Kind → List Entry
 kind-rows place [] = []
 kind-rows place (k ∷ ks) =
-    entry (k .subscribe) 20 20 (revisions 1 (k .newest)) (subscribes place (k .already))
+    entry (k .subscribe) 20 20 (revisions 1 (revision-count (k .layouts))) (subscribes place (k .already))
     ∷ entry (k .acknowledge) 20 20 not-read (acknowledges place)
     ∷ entry (k .unsubscribe) 20 20 not-read (unsubscribes place (k .not-subscribed))
     ∷ kind-rows (suc place) ks

@@ -1,44 +1,44 @@
 -- `frame::notice_row` meets its contract, by the kind. Assumes nothing.
 use borrow.Author.Needs.{needs}
 use mathlib.Core.Path.{ap, _∙_}
-use lib.Dec.{eqb}
-use native.Mathlib.Omega.{arith}
+use mathlib.Core.List.{[], _∷_}
 use Rattle.model.specs.Records.{scanned-items}
-use Rattle.model.specs.Layouts.{result-rows}
+use Rattle.model.specs.Layouts.{identifier-rows}
 use Rattle.frame.specs.Layout.{placed}
 use Rattle.frame.specs.Places.{result-items}
-use Rattle.frame.proofs.Rows.{second-kind, among-parts, same-part, first-rows, rows-behind}
+use Rattle.frame.proofs.Rows.{second-kind, among, same-row, controllers-row, behind-within, behind-row, first-revision}
 use Rattle.frame.proofs.notice_row.Statement.{statement}
 use Rattle.frame.proofs.notice_row.Tie as tie
 
 identifier-row-requires : tie.Need-identifier-row-requires
 identifier-row-requires c κs =
-    let s = c .before in among-parts (eqb (s .args .revision) 1) (s .args .k) (rw (c .if1 .taken) at (s .pre .1))
+    let s = c .before in among identifier-rows (1 ∷ []) 4 (s .args .revision) (s .args .k) (rw (c .if1 .taken) at (s .pre .1))
 
 returns : tie.Need-returns
 returns c =
     let s = c .before .before in
     let e = c .before .if1 .taken in
-    rw e (c .identifier-row .ensures ∙ ap (placed scanned-items) (same-part (eqb (s .args .revision) 1) (s .args .k) (rw e at (s .pre .1))))
+    rw e (c .identifier-row .ensures ∙ ap (placed scanned-items)
+    (same-row identifier-rows (1 ∷ []) 4 (s .args .revision) (s .args .k) (rw e at (s .pre .1))))
 
 returns-2 : tie.Need-returns-2
 returns-2 c =
     let s = c .before .before .before in
     rw (second-kind _ (s .pre .0) (c .before .before .if1 .left))
-    (c .controller-row .ensures ∙ first-rows result-rows result-items (s .args .k) (c .before .if2 .taken))
+    (c .controller-row .ensures ∙ controllers-row (s .args .revision) (s .args .k) (c .before .if2 .taken))
 
 result-row-requires : tie.Need-result-row-requires
 result-row-requires c κs =
     let s = c .before .before in
-    let h = rw (second-kind _ (s .pre .0) (c .before .if1 .left)) at (s .pre .1) in
-    let g = c .if2 .left in
-    omega arith
+    let r = s .args .revision in
+    behind-within r (s .args .k) (first-revision r) (c .if2 .left) (rw (second-kind _ (s .pre .0) (c .before .if1 .left)) at (s .pre .1))
 
 returns-3 : tie.Need-returns-3
 returns-3 c =
     let s = c .before .before .before in
+    let r = s .args .revision in
     rw (second-kind _ (s .pre .0) (c .before .before .if1 .left))
-    (c .result-row .ensures ∙ ap (placed result-items) (rows-behind result-rows (s .args .k) (c .before .if2 .left)))
+    (c .result-row .ensures ∙ ap (placed result-items) (behind-row r (s .args .k) (first-revision r) (c .before .if2 .left)))
 
 pub notice-row-spec : {M : Type 1} → statement M
 notice-row-spec =

@@ -17,4 +17,5 @@ returns c =
 pub put-0002-spec : {M : Type 1} → statement M
 put-0002-spec =
     tie.close
-    (tie.spec (λ c κs. search needs) (λ c. search needs) (λ c. search needs) (λ c. search needs) put-frame-requires (λ c. search needs) returns)
+    (tie.spec (λ c κs. search needs) (λ c. search needs) (λ c. search needs) (λ c. search needs)
+    put-frame-requires (λ c. search needs) returns)
