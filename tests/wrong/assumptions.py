@@ -46,7 +46,7 @@ ASSUMES = {
 EXPORT = re.compile(r'\bextern\s*""\s*fn (\w+)((?:(?!\bfn\b).)*)', re.S)
 
 SAYS = re.compile(r"Assumes (.*?)\.(?: |$)")
-NOTHING = ("nothing", "nothing: these are definitions")
+NOTHING = ()
 RULES = "the logic's rules (`Given`), nothing else"
 
 

@@ -1,4 +1,4 @@
--- How the outcome of a call is put together: of a refusal, and of what was done. Assumes nothing.
+-- How the outcome of a call is put together: of a refusal, and of what was done.
 use mathlib.Core.Path.{_≡_, refl, sym, ap, subst, _∙_}
 use Prim.Native.Nat.{ℕ, zero, suc, _≤_}
 use native.Mathlib.Nat.{zero-add}

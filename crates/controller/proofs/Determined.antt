@@ -1,6 +1,5 @@
 -- The contract leaves nothing open: any two outcomes that it allows of one call have the same four numbers, the same output, the same
 -- meaning of the table, as long a table, and past what is used the same bytes of it; and a call that is refused leaves the same table.
--- Assumes nothing.
 use mathlib.Core.Path.{_≡_, sym, ap, _∙_}
 use Prim.Native.Nat.{ℕ}
 use mathlib.Core.List.{List}

@@ -1,4 +1,4 @@
--- The table keeps no event numbers: what it means has none. Assumes nothing.
+-- The table keeps no event numbers: what it means has none.
 use mathlib.Core.Path.{_≡_, refl, sym, ap, ap₂}
 use Prim.Native.Nat.{ℕ, zero, suc}
 use mathlib.Core.List.{List, [], _∷_, map}

@@ -1,5 +1,4 @@
 -- Whatever calls are made, whatever they are lent: their answers and what they write are those of the model's run of the same calls.
--- Assumes nothing.
 use mathlib.Core.Path.{_≡_, refl, sym, ap, ap₂, _∙_}
 use Prim.Native.Nat.{ℕ}
 use mathlib.Core.Bool.{Bool, true}

@@ -1,5 +1,5 @@
 -- 01, "What the product holds": 2,048 bytes of output suffice. Whatever a call writes stands in the output that it was lent, whole, and
--- past that the output is as it was; and it goes to one of the sessions. Assumes nothing.
+-- past that the output is as it was; and it goes to one of the sessions.
 use mathlib.Core.Path.{_≡_, refl, sym, ap, _∙_}
 use Prim.Native.Nat.{ℕ, zero, suc, _+_, _≤_, _<_}
 use native.Mathlib.Nat.{zero-add}

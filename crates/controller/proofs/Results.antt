@@ -1,4 +1,4 @@
--- A tightening as it is kept: the payload of its record with another identifier before the rest and its number behind it. Assumes nothing.
+-- A tightening as it is kept: the payload of its record with another identifier before the rest and its number behind it.
 use mathlib.Core.Path.{_≡_, refl, sym, ap, ap₂, _∙_}
 use Prim.Native.Nat.{suc, ℕ, _+_, _-_, _≤_, _<_}
 use native.Mathlib.Nat.{zero-add, add-assoc}

@@ -1,4 +1,4 @@
--- A tool record by its kind: how long its payload is, and which event it is. Assumes nothing.
+-- A tool record by its kind: how long its payload is, and which event it is.
 use mathlib.Core.Path.{_≡_, refl, sym, ap, subst, _∙_}
 use Prim.Native.Nat.{ℕ, _+_, _≤_}
 use native.Mathlib.Omega.{arith}

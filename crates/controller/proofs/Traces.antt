@@ -1,4 +1,4 @@
--- 01, "What the product holds": number 2 never occurs in a history that begins with a start that is done. Assumes nothing.
+-- 01, "What the product holds": number 2 never occurs in a history that begins with a start that is done.
 use mathlib.Core.Path.{_≡_, refl, sym, ap, subst, _∙_}
 use Prim.Native.Nat.{ℕ, zero, suc}
 use native.Mathlib.Omega.{arith}

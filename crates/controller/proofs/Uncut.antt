@@ -1,5 +1,5 @@
 -- 01, "Runs and headers": received bytes, handed on call by call, are read as the model reads them uncut; so that how they were cut
--- does not matter. Assumes nothing.
+-- does not matter.
 use mathlib.Core.Path.{_≡_, refl, sym, ap, ap₂, _∙_}
 use Prim.Native.Nat.{ℕ, _≤_}
 use mathlib.Core.List.{List, _∷_, _++_}

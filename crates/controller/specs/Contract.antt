@@ -1,4 +1,4 @@
--- 01, "What the product holds": the contract of a call, one record for every call. Assumes nothing: these are definitions.
+-- 01, "What the product holds": the contract of a call, one record for every call.
 use mathlib.Core.Path.{_≡_}
 use Prim.Native.Nat.{ℕ, _≤_}
 use mathlib.Core.Bool.{true}

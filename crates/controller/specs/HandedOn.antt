@@ -1,4 +1,4 @@
--- 01, "Runs and headers": how a host hands received bytes to the calls. Assumes nothing: these are definitions.
+-- 01, "Runs and headers": how a host hands received bytes to the calls.
 use Prim.Native.Nat.{ℕ, _≤_}
 use mathlib.Core.List.{List, [], _∷_, _++_}
 use lib.ListN.{length, take, drop}

@@ -1,4 +1,4 @@
--- 01, "What the product holds": a history of calls in which only these calls write the table. Assumes nothing: these are definitions.
+-- 01, "What the product holds": a history of calls in which only these calls write the table.
 use mathlib.Core.Path.{_≡_}
 use Prim.Native.Nat.{ℕ}
 use mathlib.Core.Bool.{true}

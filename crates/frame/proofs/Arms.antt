@@ -1,4 +1,4 @@
--- A match on a number that has an arm for each below n, and one behind them. Assumes nothing.
+-- A match on a number that has an arm for each below n, and one behind them.
 use mathlib.Core.Path.{_≡_}
 use Prim.Native.Nat.{ℕ, zero, suc, _≤_, _<_}
 use native.Mathlib.Omega.{arith}

@@ -1,4 +1,4 @@
--- Frames in their output records, and which of the model's frames each is. Assumes nothing.
+-- Frames in their output records, and which of the model's frames each is.
 use mathlib.Core.Path.{_≡_, refl, sym, ap, subst, _∙_}
 use Prim.Native.Nat.{ℕ, zero, suc, _+_, _-_, _≤_, _<_}
 use native.Mathlib.Omega.{arith}

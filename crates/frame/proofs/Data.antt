@@ -1,4 +1,4 @@
--- The data of a frame, row by row: the loop that writes it. Assumes nothing.
+-- The data of a frame, row by row: the loop that writes it.
 use mathlib.Core.Path.{_≡_, refl, sym, ap, subst, _∙_}
 use Prim.Native.Nat.{ℕ, _+_, _≤_, _<_}
 use native.Mathlib.Nat.{add-zero}

@@ -1,4 +1,4 @@
--- Laws of the header's tests, over any run. Assumes nothing.
+-- Laws of the header's tests, over any run.
 use mathlib.Core.Path.{_≡_, refl, sym, _∙_, ap}
 use Prim.Native.Nat.{ℕ, _≤_, _<_}
 use native.Mathlib.Omega.{arith}

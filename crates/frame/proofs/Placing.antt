@@ -1,4 +1,4 @@
--- The place of a value in the bytes of its source: what a row shows of the values is what it shows of the bytes. Assumes nothing.
+-- The place of a value in the bytes of its source: what a row shows of the values is what it shows of the bytes.
 use mathlib.Core.Path.{_≡_, refl, sym, ap, _∙_}
 use Prim.Native.Nat.{ℕ, zero, suc, _+_, _<_}
 use native.Mathlib.Nat.{add-zero, add-assoc, zero-add}

@@ -1,4 +1,4 @@
--- The rows of the notices: which of the lists of rows each is of. Assumes nothing.
+-- The rows of the notices: which of the lists of rows each is of.
 use mathlib.Core.Path.{_≡_, refl, sym, ap, subst, _∙_}
 use Prim.Native.Nat.{ℕ, zero, suc, _+_, _-_, _≤_, _<_}
 use native.Mathlib.Omega.{arith}

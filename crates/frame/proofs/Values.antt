@@ -1,4 +1,4 @@
--- What each sort of row asks of the bytes, and that it was written. Assumes nothing.
+-- What each sort of row asks of the bytes, and that it was written.
 use mathlib.Core.Path.{_≡_, sym, ap, subst, _∙_}
 use Prim.Native.Nat.{ℕ, _+_, _≤_}
 use mathlib.Core.Bool.{Bool, true, false, cond, and-eq-true-iff}

@@ -1,4 +1,4 @@
--- What the header reader answers, in the model's terms. 01, "Runs and headers". Assumes nothing: these are definitions.
+-- What the header reader answers, in the model's terms. 01, "Runs and headers".
 use Prim.Native.Nat.{ℕ}
 use mathlib.Core.List.{List}
 use mathlib.Core.Option.{Option, none, some}

@@ -1,4 +1,4 @@
--- The layouts of the frames that we write, where the values stand as bytes. 01, "Frames we write". Assumes nothing: these are definitions.
+-- The layouts of the frames that we write, where the values stand as bytes. 01, "Frames we write".
 use Prim.Native.Nat.{ℕ, _+_}
 use mathlib.Core.Bool.{Bool, true, cond, _&&_}
 use mathlib.Core.List.{List, [], map}

@@ -1,5 +1,5 @@
 -- What the writers of fields, frames and output records are lent, and what they do. 01, "Frames we write", and "House records", output
--- records. Assumes nothing: these are definitions.
+-- records.
 use mathlib.Core.Path.{_≡_}
 use Prim.Native.Nat.{ℕ, suc, _+_, _≤_, _<_}
 use mathlib.Core.Bool.{true, cond}

@@ -1,5 +1,4 @@
--- The notices that are kept: what a place of a kind holds, and how many bytes it has. 01, "Notices and the clock". Assumes nothing: these
--- are definitions.
+-- The notices that are kept: what a place of a kind holds, and how many bytes it has. 01, "Notices and the clock".
 use Prim.Native.Nat.{ℕ}
 use mathlib.Core.Bool.{cond}
 use mathlib.Core.List.{List, [], _∷_, _++_}

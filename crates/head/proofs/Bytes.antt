@@ -1,4 +1,4 @@
--- A session's phase and idle count in their two bytes. Assumes nothing.
+-- A session's phase and idle count in their two bytes.
 use mathlib.Core.Path.{_≡_, refl}
 use Prim.Native.Nat.{ℕ, zero, suc, _≤_}
 use native.Mathlib.Omega.{arith}

@@ -1,4 +1,4 @@
--- A session's phase and idle count as the table holds them. docs/TABLE.md has the map. Assumes nothing: these are definitions.
+-- A session's phase and idle count as the table holds them. docs/TABLE.md has the map.
 use mathlib.Core.Path.{_≡_}
 use Prim.Native.Nat.{ℕ, zero, suc, _<_}
 use mathlib.Core.Bool.{Bool, true, _&&_}

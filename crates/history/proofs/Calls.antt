@@ -1,5 +1,5 @@
 -- What a call does, as it is read off the calls: the reading of every session stays true, and to the notices of each kind to each
--- session one of the things is done that a call can do. Assumes nothing.
+-- session one of the things is done that a call can do.
 use Prim.Native.Nat.{ℕ, suc, _<_}
 use mathlib.Core.Path.{_≡_, refl, sym, _∙_, ap, subst}
 use mathlib.Core.Bool.{Bool, true, false, cond, _&&_}

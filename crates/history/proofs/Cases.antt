@@ -1,6 +1,6 @@
 -- 01, "Counted and compared": the cases (a) to (l), of the product, and the slips that look right. Whatever the contracts allow along the
 -- calls of a case, the answers and the output's bytes are those of the model's run of these calls, and read back they are what the case's
--- row of the table says. Assumes nothing.
+-- row of the table says.
 use Prim.Native.Nat.{ℕ, _-_, _≤_}
 use mathlib.Core.Path.{_≡_, refl, sym, _∙_, ap, ap₂, subst}
 use mathlib.Core.Bool.{Bool, true, false, cond, _&&_, true≢false}

@@ -1,5 +1,5 @@
 -- The words in which demand 3 is read off calls, on small histories, computed. Each is session 0, started and subscribed to tightenings
--- with acknowledge, and a tightening that goes out to it; then what a row says. Assumes nothing.
+-- with acknowledge, and a tightening that goes out to it; then what a row says.
 use Prim.Native.Nat.{ℕ, zero, suc, _-_, _/_, _%_}
 use mathlib.Core.Path.{_≡_, refl}
 use mathlib.Core.Bool.{Bool, true, false}

@@ -1,5 +1,5 @@
 -- THE SIX FUNCTIONS THAT C CALLS, IN WHOLE HISTORIES: what C is told is what the model has it told, number 2 is not among it, and
--- demand 3 holds. The calls that were lent too little of the table or of the answer leave table and output as they were. Assumes nothing.
+-- demand 3 holds. The calls that were lent too little of the table or of the answer leave table and output as they were.
 use Prim.Native.Nat.{ℕ, suc, _≤_, _<_, min}
 use mathlib.Core.Path.{_≡_, refl, sym, _∙_, ap, ap₂, subst}
 use mathlib.Core.Bool.{Bool, true, false, _&&_}

@@ -1,5 +1,4 @@
 -- Demand 3, its last sentence: an opening gets at most one frame for each message that it sent plus six for each event that it took.
--- Assumes nothing.
 use Prim.Native.Nat.{ℕ, zero, suc, _+_, _*_, _≤_, _<_}
 use mathlib.Core.Path.{_≡_, refl, sym, _∙_, ap, subst}
 use mathlib.Core.Bool.{Bool, true, false, cond, true≢false}

@@ -1,5 +1,5 @@
 -- The output read back: reading the bytes of any emissions as house records gives exactly the records of these emissions, so that neither
--- silence nor a byte more can stand for them. Assumes nothing.
+-- silence nor a byte more can stand for them.
 use Prim.Native.Nat.{ℕ, zero, suc, _+_, _-_, _*_, _/_, _%_, _≤_, _<_}
 use mathlib.Core.Path.{_≡_, refl, sym, _∙_, ap, ap₂}
 use mathlib.Core.Bool.{Bool, true, false, cond}

@@ -1,5 +1,4 @@
 -- DEMAND 3, OF THE PRODUCT: whatever calls are made after a start that is done, whatever they are lent, and only they write the table.
--- Assumes nothing.
 use Prim.Native.Nat.{ℕ, _≤_, _<_}
 use mathlib.Core.Path.{_≡_, refl, sym, _∙_, ap, ap₂, subst}
 use mathlib.Core.Bool.{Bool, true, false, cond, _&&_, _||_}

@@ -1,5 +1,5 @@
 -- TWO RECEIVERS, one of which cuts the bytes that a session is sent at each NUL while the other counts them off by their lengths, see the
--- same frames: those that the product wrote. Assumes nothing.
+-- same frames: those that the product wrote.
 use Prim.Native.Nat.{ℕ, zero, suc, _+_, _≤_, _<_}
 use mathlib.Core.Path.{_≡_, refl, sym, _∙_, ap, ap₂}
 use mathlib.Core.Bool.{Bool, true, false, cond, true≢false}

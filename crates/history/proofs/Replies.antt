@@ -1,5 +1,5 @@
 -- What is counted as a copy of a notice has the message number of its kind, and what is not counted has none of theirs: so the bytes of the
--- output show what is counted. Assumes nothing.
+-- output show what is counted.
 use Prim.Native.Nat.{ℕ, _<_}
 use mathlib.Core.Path.{_≡_, refl, sym, _∙_, ap, subst}
 use mathlib.Core.Bool.{Bool, true, false, cond}

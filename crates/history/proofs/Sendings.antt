@@ -1,5 +1,5 @@
 -- What goes out to a session at once: a reply at most, and only to a message; no reply has the number of a kind of notice, and every copy
--- is of a kind in the table. Assumes nothing.
+-- is of a kind in the table.
 use Prim.Native.Nat.{ℕ, zero, suc, _+_, _≤_, _<_}
 use mathlib.Core.Path.{_≡_, refl, sym, _∙_, ap, subst}
 use mathlib.Core.Bool.{Bool, true, false, cond, _||_, true≢false}

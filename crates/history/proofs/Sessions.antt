@@ -1,5 +1,5 @@
 -- What a moment does to a session, as it is read off the calls: the reading stays true, and to the notices of each kind one of the
--- things is done that a call can do. Assumes nothing.
+-- things is done that a call can do.
 use Prim.Native.Nat.{ℕ, suc, _-_, _≤_, _<_}
 use mathlib.Core.Path.{_≡_, refl, sym, _∙_, ap, subst}
 use mathlib.Core.Bool.{Bool, true, false, cond, _&&_, _||_, not, and-true, and-false, or-false, true≢false}

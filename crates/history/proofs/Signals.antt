@@ -1,5 +1,4 @@
 -- What a reader of the output makes of what goes out to a session: a close, a 0002, a 0005. Notices are none of these, nor is a 0004.
--- Assumes nothing.
 use Prim.Native.Nat.{ℕ, suc, _<_}
 use mathlib.Core.Path.{_≡_, refl, _∙_, ap, fun-ext}
 use mathlib.Core.Bool.{Bool, true, false, cond, _&&_}

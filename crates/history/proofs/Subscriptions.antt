@@ -1,5 +1,4 @@
 -- What a deed does to a subscription is one of the things that a call can do to the notices of its kind. One proof for every kind.
--- Assumes nothing.
 use Prim.Native.Nat.{ℕ, suc, _%_, _≤_, _<_}
 use mathlib.Core.Path.{_≡_, refl}
 use mathlib.Core.Bool.{Bool, true, false, cond, _&&_, true≢false}

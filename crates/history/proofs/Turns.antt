@@ -1,5 +1,5 @@
 -- Every call of the model does, to the notices of each kind to each session, one of the things that a call can do. No call is looked at
--- for itself: what it does is read off the model's two tables of calls. Assumes nothing.
+-- for itself: what it does is read off the model's two tables of calls.
 use Prim.Native.Nat.{ℕ, zero, suc, _<_}
 use mathlib.Core.Path.{_≡_, refl, sym, _∙_, ap, ap₂, subst}
 use mathlib.Core.Bool.{Bool, true, false, cond, _&&_}

@@ -1,6 +1,6 @@
 -- WHAT A LINE SERVER SEES, OF THE PRODUCT: whatever calls are made after a start that is done, whatever they are lent, and only they write
 -- the table. Each frame is read alike by its NUL and by its length; a reply is the first that its call wrote, and answers the message that
--- this call completed, to the session that sent it. Assumes nothing.
+-- this call completed, to the session that sent it.
 use Prim.Native.Nat.{ℕ, zero, suc, _+_, _≤_, _<_}
 use mathlib.Core.Path.{_≡_, refl, sym, _∙_, ap, subst}
 use mathlib.Core.Bool.{Bool, true, false, cond, true≢false}

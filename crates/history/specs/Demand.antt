@@ -1,4 +1,4 @@
--- Demand 3, of a history of calls: the marks of its turns, and what is asked of them. Assumes nothing: these are definitions.
+-- Demand 3, of a history of calls: the marks of its turns, and what is asked of them.
 use Prim.Native.Nat.{ℕ, zero, suc, _+_, _*_, _≤_, _<_}
 use mathlib.Core.Path.{_≡_}
 use mathlib.Core.Bool.{true, false, cond}

@@ -1,5 +1,5 @@
 -- Histories of the six functions that C calls: of all calls that their contracts allow, each lent as many of the table's bytes as the
--- host says, an output and an answer, each of them perhaps too short. Assumes nothing: these are definitions.
+-- host says, an output and an answer, each of them perhaps too short.
 use Prim.Native.Nat.{ℕ, _≤_, _<_, min}
 use mathlib.Core.Path.{_≡_}
 use mathlib.Core.Bool.{true, false, _&&_}

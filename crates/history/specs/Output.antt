@@ -1,4 +1,4 @@
--- 01, "House records": what a reader makes of an output's bytes. Assumes nothing: these are definitions.
+-- 01, "House records": what a reader makes of an output's bytes.
 use Prim.Native.Nat.{ℕ, zero, suc, _+_, _-_}
 use mathlib.Core.Bool.{Bool, true, false, cond}
 use mathlib.Core.List.{List, [], _∷_, _++_}

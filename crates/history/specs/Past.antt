@@ -1,5 +1,5 @@
 -- What demand 3 speaks of, read off the calls so far, their bytes and their answers; the newest call stands first. Nothing here looks
--- into the table. Assumes nothing: these are definitions.
+-- into the table.
 use Prim.Native.Nat.{ℕ}
 use mathlib.Core.Bool.{Bool, true, false, not, cond, _&&_, _||_}
 use mathlib.Core.List.{List, [], _∷_, _++_}

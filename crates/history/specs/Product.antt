@@ -1,4 +1,4 @@
--- Demand 3, of the product: of every history of calls that the contracts of the six calls allow. Assumes nothing: these are definitions.
+-- Demand 3, of the product: of every history of calls that the contracts of the six calls allow.
 use Prim.Native.Nat.{ℕ, _<_}
 use mathlib.Core.Path.{_≡_}
 use mathlib.Core.Bool.{false, _&&_}

@@ -1,4 +1,4 @@
--- A history as it is seen from outside: the calls, their answers and the records of their output. Assumes nothing: these are definitions.
+-- A history as it is seen from outside: the calls, their answers and the records of their output.
 use Prim.Native.Nat.{ℕ}
 use mathlib.Core.Bool.{Bool, true, false, cond, _&&_}
 use mathlib.Core.List.{List, [], _∷_}

@@ -1,5 +1,5 @@
 -- What a line server sees of a history: where each frame ends that a call wrote, and which message a reply follows. It is read off the
--- calls, their answers and the bytes that they wrote; nothing here looks into the table. Assumes nothing: these are definitions.
+-- calls, their answers and the bytes that they wrote; nothing here looks into the table.
 use Prim.Native.Nat.{ℕ, zero, suc, _+_, _<_}
 use mathlib.Core.Path.{_≡_}
 use mathlib.Core.Bool.{true, false, cond}

@@ -1,4 +1,4 @@
--- A lane's control in its bytes. Assumes nothing.
+-- A lane's control in its bytes.
 use mathlib.Core.Path.{_≡_, refl, sym, ap, _∙_}
 use Prim.Native.Nat.{ℕ, zero, suc, _≤_, _<_, _^_, zero-le}
 use native.Mathlib.Omega.{arith}

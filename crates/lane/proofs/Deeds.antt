@@ -1,5 +1,5 @@
 -- A deed to a subscription by value is the model's, whatever notices it holds: which of them are held after it, and whether the first
--- of those is sent. Assumes nothing.
+-- of those is sent.
 use mathlib.Core.Path.{_≡_, refl, sym}
 use Prim.Native.Nat.{ℕ, _-_, _≤_, _<_, zero-le}
 use native.Mathlib.Omega.{arith}

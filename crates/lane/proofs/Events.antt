@@ -1,4 +1,4 @@
--- An event that was taken in a lane is the model's. Assumes nothing.
+-- An event that was taken in a lane is the model's.
 use mathlib.Core.Path.{_≡_, refl, sym, ap, _∙_, subst}
 use Prim.Native.Nat.{ℕ, _+_, _*_, _≤_, _<_, zero-le}
 use native.Mathlib.Nat.{mul-le-mul-right, suc-mul}

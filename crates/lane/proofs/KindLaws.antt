@@ -1,4 +1,4 @@
--- What the proofs ask of the kinds of notice, by one computed test over them. Assumes nothing.
+-- What the proofs ask of the kinds of notice, by one computed test over them.
 use mathlib.Core.Path.{_≡_, refl, sym}
 use Prim.Native.Nat.{ℕ, _+_, _<_, _≤_}
 use mathlib.Core.Bool.{Bool, true, false, cond, _&&_, and-eq-true-iff, true≢false}

@@ -1,4 +1,4 @@
--- A deed that was carried out in a lane is the model's. Assumes nothing.
+-- A deed that was carried out in a lane is the model's.
 use mathlib.Core.Path.{_≡_, refl, sym, ap, _∙_}
 use Prim.Native.Nat.{ℕ, zero, suc, _+_, _-_, _*_, _≤_, _<_}
 use native.Mathlib.Nat.{suc-mul, mul-le-mul-right}

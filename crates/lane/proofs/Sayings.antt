@@ -1,5 +1,5 @@
 -- What is said of a lane: where a notice is open, it is the one in the first place; a copy of it, and a copy of an event, has the revision
--- and the byte 12 that the control tells. What is sent is such a copy, and of the lane as it is afterwards. Assumes nothing.
+-- and the byte 12 that the control tells. What is sent is such a copy, and of the lane as it is afterwards.
 use mathlib.Core.Path.{_≡_, refl, sym, ap}
 use Prim.Native.Nat.{ℕ, zero, suc, _%_}
 use mathlib.Core.Bool.{Bool, true, false, cond, true≢false}

@@ -1,5 +1,4 @@
 -- What a lane has to know of a kind of notice, as a row: no other definition of this crate goes by the kind. 01, "Notices and the clock".
--- Assumes nothing: these are definitions.
 use Prim.Native.Nat.{ℕ, _+_, _*_}
 use mathlib.Core.Bool.{Bool, true, false}
 use Rattle.model.specs.Kinds.{Room, the-newest, up-to, room-of}

@@ -1,5 +1,5 @@
 -- A lane: a session's subscription to one kind of notice, and the notices that it holds, in one run of bytes. 01, "Notices and the
--- clock". docs/TABLE.md has the map. Assumes nothing: these are definitions.
+-- clock". docs/TABLE.md has the map.
 use mathlib.Core.Path.{_≡_}
 use Prim.Native.Nat.{ℕ, zero, suc, _+_, _-_, _≤_, _<_}
 use mathlib.Core.Bool.{Bool, true, false, cond, _&&_}

@@ -1,4 +1,4 @@
--- A rule of two lists, place by place, as one test that computes: where it passes for the lists, it passes at each place. Assumes nothing.
+-- A rule of two lists, place by place, as one test that computes: where it passes for the lists, it passes at each place.
 use mathlib.Core.Bool.{Bool, true, false, _&&_, So, and-eq-true-iff, false≢true}
 use mathlib.Core.List.{List, [], _∷_}
 use Prim.Native.Nat.{ℕ, zero, suc, _<_}

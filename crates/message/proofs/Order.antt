@@ -1,4 +1,4 @@
--- The tests of a message in the paper's order, over a row that says what the entry says. Assumes nothing.
+-- The tests of a message in the paper's order, over a row that says what the entry says.
 use mathlib.Core.Path.{_≡_, refl, subst}
 use mathlib.Core.Bool.{Bool, true, not, cond, _&&_}
 use mathlib.Core.List.{List, [], _∷_}

@@ -1,5 +1,4 @@
 -- The rule of the table of messages, that a row says what the model's entry at its place says, and the search for a number in it.
--- Assumes nothing.
 use mathlib.Core.Path.{_≡_, refl, sym, ap, _∙_}
 use mathlib.Core.Bool.{Bool, true, false, _&&_, So, and-eq-true-iff, false≢true}
 use mathlib.Core.List.{List, []}

@@ -1,4 +1,4 @@
--- A test's answer from the fact, as one set for `search`. Assumes nothing.
+-- A test's answer from the fact, as one set for `search`.
 use mathlib.Core.Path.{_≡_, sym}
 use mathlib.Core.Bool.{false}
 use Prim.Native.Nat.{ℕ}

@@ -1,4 +1,4 @@
--- What this crate's inner functions leave, from which the contracts of the public ones are proved. Assumes nothing: these are definitions.
+-- What this crate's inner functions leave, from which the contracts of the public ones are proved.
 use Prim.Native.Nat.{ℕ}
 use mathlib.Core.Path.{_≡_}
 use mathlib.Core.Bool.{Bool, true, false}

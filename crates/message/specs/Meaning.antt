@@ -1,5 +1,5 @@
 -- 01, "What a message does": what each case of this crate's enums, and its record, is among the model's definitions. The contracts of
--- the public functions speak through these. Assumes nothing: these are definitions.
+-- the public functions speak through these.
 use Prim.Native.Nat.{ℕ}
 use mathlib.Core.Bool.{Bool, true, false}
 use mathlib.Core.Option.{Option, none, some}

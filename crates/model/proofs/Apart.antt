@@ -1,5 +1,5 @@
 -- What one session is told, and its state, are a fold over what it sees of a history: no other session's bytes, openings, times or
--- subscriptions show in it, but for the identifiers that are accepted from them. Assumes nothing.
+-- subscriptions show in it, but for the identifiers that are accepted from them.
 use Prim.Native.Nat.{ℕ, zero, suc, _<_}
 use mathlib.Core.Path.{_≡_, refl, sym, _∙_, ap, ap₂, subst}
 use mathlib.Core.Bool.{Bool, true, false, cond, true≢false}

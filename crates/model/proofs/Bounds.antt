@@ -1,4 +1,4 @@
--- The table of messages, row by row as the paper has it; and how much goes out at most. Assumes nothing.
+-- The table of messages, row by row as the paper has it; and how much goes out at most.
 use mathlib.Core.Path.{_≡_, refl}
 use Prim.Native.Nat.{ℕ, zero, suc, _%_, _≤_, _<_}
 use mathlib.Core.Bool.{Bool, true, false, cond}

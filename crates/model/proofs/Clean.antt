@@ -1,5 +1,4 @@
 -- Clean texts: whatever a start or a tool record brings in was tested, and a run is cut at its NUL, so that nothing of it has one.
--- Assumes nothing.
 use Prim.Native.Nat.{ℕ, suc, _+_, _≤_}
 use mathlib.Core.Path.{_≡_, refl, sym, _∙_, subst}
 use mathlib.Core.Bool.{Bool, true, false, cond, not, _&&_, _||_, and-eq-true-iff}

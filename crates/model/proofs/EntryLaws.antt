@@ -1,4 +1,4 @@
--- What the proofs ask of an entry of the table of messages: one computed test over the table, and its law for any number. Assumes nothing.
+-- What the proofs ask of an entry of the table of messages: one computed test over the table, and its law for any number.
 use Prim.Native.Nat.{ℕ}
 use mathlib.Core.Path.{_≡_, refl, sym, _∙_, ap, subst}
 use mathlib.Core.Bool.{Bool, true, false, not, _&&_, _||_}

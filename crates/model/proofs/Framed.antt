@@ -1,5 +1,5 @@
 -- The frames that we write, as a line server reads them: no NUL in them, and the length that they begin with is their own. It holds of
--- every frame whose fields are numbers in so many digits, whatever the number, and texts without NUL. Assumes nothing.
+-- every frame whose fields are numbers in so many digits, whatever the number, and texts without NUL.
 use Prim.Native.Nat.{ℕ, zero, suc, _+_, _*_, _-_, _/_, _%_, _≤_, _<_}
 use mathlib.Core.Path.{_≡_, refl, _∙_}
 use mathlib.Core.Bool.{Bool, true, false, cond, _&&_, and-eq-true-iff}

@@ -1,5 +1,5 @@
 -- A moment that one session sees is that session's step, and nothing to the others. And one that all sessions see is what they see one
--- after the other, in order of session, however many there are: a whole tick is the ticks of the sessions. Assumes nothing.
+-- after the other, in order of session, however many there are: a whole tick is the ticks of the sessions.
 use Prim.Native.Nat.{ℕ, zero, suc, _+_, _<_}
 use mathlib.Core.Path.{_≡_, refl, sym, ap, ap₂, _∙_}
 use mathlib.Core.Bool.{Bool, true, false, cond}

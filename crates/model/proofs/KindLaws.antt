@@ -1,4 +1,4 @@
--- What the proofs ask of the table of kinds of notice, by computed tests over it. Assumes nothing.
+-- What the proofs ask of the table of kinds of notice, by computed tests over it.
 use Prim.Native.Nat.{ℕ, zero, suc, _<_}
 use mathlib.Core.Path.{_≡_, refl, sym, ap}
 use mathlib.Core.Bool.{Bool, true, false, not, _&&_, _||_, true≢false}

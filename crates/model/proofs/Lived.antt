@@ -1,5 +1,5 @@
 -- A session's state, and what goes out to it, after any run of calls: a fold of its own step over what it sees of their moments,
--- whatever its number. Assumes nothing.
+-- whatever its number.
 use Prim.Native.Nat.{ℕ, zero, suc, _<_}
 use mathlib.Core.Path.{_≡_, refl, ap, ap₂, sym, _∙_}
 use mathlib.Core.List.{List, [], _∷_, _++_, append-assoc}

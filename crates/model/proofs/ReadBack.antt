@@ -1,4 +1,4 @@
--- A reader gets back what was written, by the same rows, and needs to know no more rows than it wants. Assumes nothing.
+-- A reader gets back what was written, by the same rows, and needs to know no more rows than it wants.
 use mathlib.Core.Path.{_≡_, refl, sym, ap, ap₂, _∙_}
 use Prim.Native.Nat.{ℕ, zero, suc, _+_, _-_, _*_, _/_, _%_, _^_, _≤_, _<_}
 use native.Mathlib.Nat.{add-zero, suc-add, add-suc, div-add-mod', div-lt-iff-lt-mul, pow-suc}

@@ -1,4 +1,4 @@
--- Of what a call is lent, its refusal asks no more than the three tests do; and no call's own tests give their numbers. Assumes nothing.
+-- Of what a call is lent, its refusal asks no more than the three tests do; and no call's own tests give their numbers.
 use Prim.Native.Nat.{ℕ, _<_}
 use mathlib.Core.Path.{_≡_, refl, sym, _∙_, ap}
 use mathlib.Core.Bool.{Bool, true, false, not, cond, _&&_}

@@ -1,5 +1,5 @@
 -- Laws of a row, for any cells and any call: what the call does to one cell, and what that cell says; and cells of another kind
--- that go along with these. Assumes nothing.
+-- that go along with these.
 use Prim.Native.Nat.{ℕ, zero, suc, _+_, _≤_, _<_}
 use mathlib.Core.Path.{_≡_, refl, sym, _∙_, ap, ap₂, subst}
 use mathlib.Core.Bool.{Bool, true, false, cond}

@@ -1,6 +1,6 @@
 -- What goes out to one session, whatever its number: copies of notices, whose texts were clean when they came and stay so, and before them
 -- a reply to the message that the session has sent. Each is a frame that is read alike by its NUL and by its length. Proved once over the
--- kind of a notice. Assumes nothing.
+-- kind of a notice.
 use Prim.Native.Nat.{ℕ, suc, _-_, _%_, _≤_}
 use mathlib.Core.Path.{_≡_, refl, sym, subst}
 use mathlib.Core.Bool.{Bool, true, false, cond, _&&_}

@@ -1,5 +1,5 @@
 -- What a call is to a session, by the table of sights, is what the call does: what the session sees of its moment, and the event that it
--- is. So a call goes for a session. Assumes nothing.
+-- is. So a call goes for a session.
 use Prim.Native.Nat.{ℕ, suc, _<_}
 use mathlib.Core.Path.{_≡_, refl, sym, _∙_, ap}
 use mathlib.Core.Bool.{Bool, true, false, not, cond, _&&_, true≢false}

@@ -1,5 +1,5 @@
 -- What a call sends, whatever came before it: frames that a line server reads alike by their NUL and by their length, and at most one
--- reply, the first of them, to the session whose bytes completed the message that it answers. Assumes nothing.
+-- reply, the first of them, to the session whose bytes completed the message that it answers.
 use Prim.Native.Nat.{ℕ, zero, suc, _<_}
 use mathlib.Core.Path.{_≡_, refl, sym, _∙_, ap, subst}
 use mathlib.Core.Bool.{true, cond}

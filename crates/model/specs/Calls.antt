@@ -1,5 +1,4 @@
 -- The calls: their refusals, what they do, their answers and their output. 01, "What the product holds".
--- Assumes nothing: these are definitions.
 use Prim.Native.Nat.{ℕ, zero, suc, _+_, _/_, _%_, _^_}
 use mathlib.Core.Bool.{Bool, true, false, not, cond, _&&_}
 use mathlib.Core.List.{List, [], _∷_, _++_}

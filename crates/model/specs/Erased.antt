@@ -1,5 +1,5 @@
 -- Event numbers are for speaking of histories only: no answer and no byte shows them, and a program need not keep them. Here they are
--- forgotten: each notice is numbered 0, and so is the count of events. Assumes nothing: these are definitions.
+-- forgotten: each notice is numbered 0, and so is the count of events.
 use Prim.Native.Nat.{ℕ}
 use mathlib.Core.List.{List, [], _∷_, map}
 use Rattle.model.specs.Events.{Notice}

@@ -1,4 +1,4 @@
--- The rows the other way: what a reader makes of the data of a frame. 01, "Frames we write". Assumes nothing: these are definitions.
+-- The rows the other way: what a reader makes of the data of a frame. 01, "Frames we write".
 use Prim.Native.Nat.{ℕ, _^_}
 use mathlib.Core.Bool.{Bool, true}
 use mathlib.Core.List.{List, [], _∷_}

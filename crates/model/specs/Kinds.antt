@@ -1,5 +1,5 @@
 -- 01, "What a message does", "Notices and the clock" and "Frames we write": the kinds of notice, a row each, with all that tells one kind
--- from another. Assumes nothing: these are definitions.
+-- from another.
 use Prim.Native.Nat.{ℕ, suc, _+_, _*_}
 use mathlib.Core.List.{List, [], _∷_}
 use lib.ListN.{length, getD}

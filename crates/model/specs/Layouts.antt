@@ -1,4 +1,4 @@
--- 01, "Frames we write": the data of a frame by rows, a row for each field. Assumes nothing: these are definitions.
+-- 01, "Frames we write": the data of a frame by rows, a row for each field.
 use Prim.Native.Nat.{ℕ, suc, _+_, _-_}
 use mathlib.Core.Bool.{Bool, true, false, cond}
 use mathlib.Core.List.{List, [], _∷_, _++_, map}

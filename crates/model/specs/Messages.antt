@@ -1,4 +1,4 @@
--- 01, "What a message does": the table of messages, and the tests that a message meets. Assumes nothing: these are definitions.
+-- 01, "What a message does": the table of messages, and the tests that a message meets.
 use Prim.Native.Nat.{ℕ, suc}
 use mathlib.Core.Bool.{Bool, true, false, not, cond, _&&_}
 use mathlib.Core.List.{List, [], _∷_, _++_}

@@ -1,5 +1,5 @@
 -- What one session sees of a history of calls, and what it is told; and the same as a fold over what it sees, in which the calls for
--- other sessions do not stand. Assumes nothing: these are definitions.
+-- other sessions do not stand.
 use Prim.Native.Nat.{ℕ, zero, suc, _<_}
 use mathlib.Core.Path.{_≡_}
 use mathlib.Core.Bool.{Bool, true, false, cond}

@@ -1,5 +1,5 @@
 -- What all sessions share, and what is left of it by an event or a start. 01, "What the product holds", "House records" and "Frames
--- we write". Assumes nothing: these are definitions.
+-- we write".
 use Prim.Native.Nat.{ℕ, suc, _+_}
 use mathlib.Core.List.{List}
 use mathlib.Core.Option.{Option, none, some}

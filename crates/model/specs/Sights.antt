@@ -1,5 +1,4 @@
--- What a call is to session s, if it is done, whatever the world: one table, off which a history is read. Assumes nothing: these are
--- definitions.
+-- What a call is to session s, if it is done, whatever the world: one table, off which a history is read.
 use Prim.Native.Nat.{ℕ}
 use mathlib.Core.Bool.{Bool, true, false, cond}
 use mathlib.Core.Option.{Option, none, some}

@@ -1,4 +1,4 @@
--- What a line server sees on the wire: where a frame ends, and what a reply answers. Assumes nothing: these are definitions.
+-- What a line server sees on the wire: where a frame ends, and what a reply answers.
 use Prim.Native.Nat.{ℕ, _≤_}
 use mathlib.Core.Path.{_≡_}
 use mathlib.Core.Bool.{Bool, true, false, _||_}

@@ -1,4 +1,4 @@
--- Records and the items of their payloads: an item later. Assumes nothing.
+-- Records and the items of their payloads: an item later.
 use mathlib.Core.Path.{_≡_, sym, ap, _∙_}
 use Prim.Native.Nat.{ℕ, _+_, _≤_, _<_}
 use native.Mathlib.Omega.{arith}

@@ -1,4 +1,4 @@
--- Times, a place later. Assumes nothing.
+-- Times, a place later.
 use mathlib.Core.Path.{_≡_, sym, ap, _∙_}
 use Prim.Native.Nat.{ℕ, suc, _+_, _≤_, _<_}
 use native.Mathlib.Omega.{arith}

@@ -1,4 +1,4 @@
--- The items of a payload as a table has them. 01, "House records". Assumes nothing: these are definitions.
+-- The items of a payload as a table has them. 01, "House records".
 use Prim.Native.Nat.{ℕ}
 use mathlib.Core.Bool.{Bool, true, cond, _&&_}
 use mathlib.Core.List.{List, map}

@@ -1,4 +1,4 @@
--- What the readers of records answer, in the model's terms. 01, "House records". Assumes nothing: these are definitions.
+-- What the readers of records answer, in the model's terms. 01, "House records".
 use Prim.Native.Nat.{ℕ}
 use mathlib.Core.Bool.{Bool, cond}
 use mathlib.Core.List.{List}

@@ -1,5 +1,5 @@
 -- What is lent is tested first: the number that this gives, or the number that the call's own tests give; and what is known where
--- nothing is refused. Assumes nothing.
+-- nothing is refused.
 use mathlib.Core.Path.{_≡_, refl, sym, ap, _∙_}
 use Prim.Native.Nat.{ℕ, suc, _≤_, _<_}
 use native.Mathlib.Omega.{arith}

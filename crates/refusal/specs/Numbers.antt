@@ -1,5 +1,4 @@
 -- 01, "What the product holds", the table of numbers: with which number a call is refused that is lent a table and an output.
--- Assumes nothing: these are definitions.
 use Prim.Native.Nat.{ℕ}
 use mathlib.Core.List.{List, []}
 use lib.ListN.{length}

@@ -1,4 +1,4 @@
--- The areas of a region: what is known of each, and what the region means after one of them was replaced. Assumes nothing.
+-- The areas of a region: what is known of each, and what the region means after one of them was replaced.
 use mathlib.Core.Path.{_≡_, refl, sym, ap, ap₂, _∙_}
 use Prim.Native.Nat.{ℕ, _+_, _-_, _≤_, _<_}
 use native.Mathlib.Nat.{add-sub-cancel-left}

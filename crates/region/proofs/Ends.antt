@@ -1,4 +1,4 @@
--- The end of a run, to a session in its region. Assumes nothing.
+-- The end of a run, to a session in its region.
 use mathlib.Core.Path.{_≡_, refl, sym, ap, ap₂, subst, _∙_}
 use mathlib.Core.Bool.{Bool, true, false, cond}
 use mathlib.Core.List.{List, [], _∷_, _++_, append-nil}

@@ -1,4 +1,4 @@
--- What a run comes to: the decision on it, and the identifier that it makes known. Assumes nothing.
+-- What a run comes to: the decision on it, and the identifier that it makes known.
 use mathlib.Core.Path.{_≡_, sym, ap, subst, _∙_}
 use mathlib.Core.Bool.{Bool, true, false}
 use mathlib.Core.List.{List, _++_}

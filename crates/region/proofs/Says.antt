@@ -1,5 +1,4 @@
 -- What is sent is a copy of what is the open notice afterwards, whatever the deed, save for an event, which is sent itself.
--- Assumes nothing.
 use mathlib.Core.Path.{_≡_, refl, sym, ap, ap₂, _∙_}
 use Prim.Native.Nat.{ℕ, zero, suc, _<_}
 use native.Mathlib.Omega.{arith}

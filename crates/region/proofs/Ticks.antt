@@ -1,4 +1,4 @@
--- A tick and an event, to a session in its region. Assumes nothing.
+-- A tick and an event, to a session in its region.
 use mathlib.Core.Path.{_≡_, refl, sym, ap, ap₂, _∙_}
 use mathlib.Core.Bool.{Bool, true, false, cond, true≢false}
 use mathlib.Core.List.{List, [], _∷_}

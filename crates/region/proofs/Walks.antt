@@ -1,4 +1,4 @@
--- The loops over the kinds: the lanes change, are cleared, are read. Assumes nothing.
+-- The loops over the kinds: the lanes change, are cleared, are read.
 use mathlib.Core.Path.{_≡_, refl, sym, ap, ap₂, subst, _∙_}
 use Prim.Native.Nat.{ℕ, suc, _+_, _-_, _≤_, _<_}
 use native.Mathlib.Numerals.{add-one}

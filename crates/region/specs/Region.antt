@@ -1,5 +1,5 @@
 -- A session in its region of the table, 1,024 bytes: its phase and idle count, its run, and a lane for each kind of notice.
--- docs/TABLE.md has the map. Assumes nothing: these are definitions.
+-- docs/TABLE.md has the map.
 use mathlib.Core.Path.{_≡_}
 use Prim.Native.Nat.{ℕ}
 use mathlib.Core.Bool.{Bool, true, _&&_}

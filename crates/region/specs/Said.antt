@@ -1,5 +1,5 @@
 -- What is said of a region once it has changed: copies of the notices that are then open, of an event itself, a reply. Each change tells by
--- value what there is to say. 01, "What a message does" and "Notices and the clock". Assumes nothing: these are definitions.
+-- value what there is to say. 01, "What a message does" and "Notices and the clock".
 use mathlib.Core.Path.{_≡_}
 use Prim.Native.Nat.{ℕ, suc, _≤_, _<_}
 use mathlib.Core.Bool.{Bool, true, false, cond}

@@ -1,5 +1,5 @@
 -- One call of the program's: what it leaves of the table means the state that the model's program goes on to, and its lines are that
--- one's new lines. Assumes nothing.
+-- one's new lines.
 use mathlib.Core.Path.{_≡_, refl, sym, ap, ap₂, subst, _∙_}
 use Prim.Native.Nat.{ℕ, zero, suc}
 use native.Mathlib.Omega.{arith}

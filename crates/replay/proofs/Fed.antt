@@ -1,4 +1,4 @@
--- 01, "Counted and compared": received bytes are handed to a call, and what it left of them to the next. Assumes nothing.
+-- 01, "Counted and compared": received bytes are handed to a call, and what it left of them to the next.
 use mathlib.Core.Path.{_≡_, refl, sym, ap, _∙_}
 use Prim.Native.Nat.{ℕ, zero, suc, _<_}
 use native.Mathlib.Omega.{arith}

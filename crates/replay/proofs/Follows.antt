@@ -1,4 +1,4 @@
--- What becomes of the table and of the lines, call after call. Assumes nothing.
+-- What becomes of the table and of the lines, call after call.
 use mathlib.Core.Path.{_≡_, refl, sym, ap, ap₂, subst, _∙_}
 use Prim.Native.Nat.{ℕ, _+_, _≤_, _<_}
 use native.Mathlib.Omega.{arith}

@@ -1,4 +1,4 @@
--- 01, "Counted and compared": what is read comes in pieces, and is served as if it had come at once. Assumes nothing.
+-- 01, "Counted and compared": what is read comes in pieces, and is served as if it had come at once.
 use mathlib.Core.Path.{_≡_, refl, sym, ap, ap₂, _∙_}
 use Prim.Native.Nat.{ℕ, zero, suc, _+_, _-_, _≤_, _<_}
 use native.Mathlib.Nat.{zero-add}

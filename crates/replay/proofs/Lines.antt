@@ -1,4 +1,4 @@
--- The lines of a call, put together. Assumes nothing.
+-- The lines of a call, put together.
 use mathlib.Core.Path.{_≡_, refl, sym, ap, _∙_}
 use Prim.Native.Nat.{ℕ, suc, _+_, _-_, _≤_, _<_}
 use native.Mathlib.Omega.{arith}

@@ -1,4 +1,4 @@
--- 01, "Counted and compared": a record is a call, or received bytes; and the records of an input one after the other. Assumes nothing.
+-- 01, "Counted and compared": a record is a call, or received bytes; and the records of an input one after the other.
 use mathlib.Core.Path.{_≡_, refl, sym, ap, _∙_}
 use Prim.Native.Nat.{ℕ, suc, _+_, _-_, _≤_, _<_}
 use native.Mathlib.Omega.{arith}

@@ -1,4 +1,4 @@
--- The size of the record that bytes begin with, and the records that they are cut into. Assumes nothing.
+-- The size of the record that bytes begin with, and the records that they are cut into.
 use mathlib.Core.Path.{_≡_, refl, sym, ap, _∙_}
 use Prim.Native.Nat.{ℕ, zero, suc, _+_, _≤_, _<_}
 use native.Mathlib.Omega.{arith}

@@ -1,4 +1,4 @@
--- 01, "Counted and compared": what a call has the program print are the model's lines for it. Assumes nothing.
+-- 01, "Counted and compared": what a call has the program print are the model's lines for it.
 use mathlib.Core.Path.{_≡_, refl, sym, ap, ap₂, _∙_}
 use Prim.Native.Nat.{ℕ, suc, _+_, _-_, _%_, _≤_, _<_}
 use native.Mathlib.Omega.{arith}

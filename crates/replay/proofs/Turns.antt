@@ -1,4 +1,4 @@
--- What the program does with a record: the call that it stands for, and that received bytes are used up. Assumes nothing.
+-- What the program does with a record: the call that it stands for, and that received bytes are used up.
 use mathlib.Core.Path.{_≡_, refl, sym, ap, subst, _∙_}
 use Prim.Native.Nat.{ℕ, zero, suc, _+_, _-_, _≤_, _<_}
 use native.Mathlib.Omega.{arith}

@@ -1,4 +1,4 @@
--- 01, "Runs and headers": what a call left is handed to the next, and that comes to the same as reading the bytes uncut. Assumes nothing.
+-- 01, "Runs and headers": what a call left is handed to the next, and that comes to the same as reading the bytes uncut.
 use mathlib.Core.Path.{_≡_, refl, sym, ap, ap₂, _∙_}
 use Prim.Native.Nat.{ℕ, zero, suc, _<_}
 use native.Mathlib.Omega.{arith}

@@ -1,4 +1,4 @@
--- 01, "Counted and compared": the lines that an output stands for, read off its bytes. Assumes nothing: these are definitions.
+-- 01, "Counted and compared": the lines that an output stands for, read off its bytes.
 use Prim.Native.Nat.{ℕ, suc, _-_}
 use mathlib.Core.Bool.{cond}
 use mathlib.Core.List.{List, [], _∷_, _++_, map}

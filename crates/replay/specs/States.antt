@@ -1,5 +1,4 @@
--- 01, "Counted and compared": the program's table and its lines, beside a state of the model's program. Assumes nothing: these are
--- definitions.
+-- 01, "Counted and compared": the program's table and its lines, beside a state of the model's program.
 use mathlib.Core.Path.{_≡_}
 use Prim.Native.Nat.{ℕ, _+_, _≤_}
 use mathlib.Core.Bool.{true, cond}

@@ -1,4 +1,4 @@
--- 01, "Counted and compared": the records of an input. Assumes nothing: these are definitions.
+-- 01, "Counted and compared": the records of an input.
 use Prim.Native.Nat.{ℕ, _+_}
 use mathlib.Core.Bool.{Bool, cond, not, _&&_}
 use mathlib.Core.List.{List, flatten}

@@ -1,4 +1,4 @@
--- A run in its area: what more bytes make of it. Assumes nothing.
+-- A run in its area: what more bytes make of it.
 use mathlib.Core.Path.{_≡_, sym, ap, ap₂, _∙_}
 use Prim.Native.Nat.{ℕ, _+_, _-_, _≤_, _<_, min}
 use native.Mathlib.Nat.{le-trans}

@@ -1,4 +1,4 @@
--- Where a piece of received bytes ends: nothing before i is a NUL. Assumes nothing.
+-- Where a piece of received bytes ends: nothing before i is a NUL.
 use mathlib.Core.Path.{_≡_, refl, sym, ap, _∙_}
 use Prim.Native.Nat.{ℕ, suc, _+_, _≤_, _<_}
 use native.Mathlib.Numerals.{add-one}

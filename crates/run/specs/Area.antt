@@ -1,5 +1,5 @@
 -- A session's run as the table holds it, in 48 bytes: how many bytes it has in two of them, then those that are kept.
--- 01, "Runs and headers". Assumes nothing: these are definitions.
+-- 01, "Runs and headers".
 use mathlib.Core.Path.{_≡_}
 use Prim.Native.Nat.{ℕ, _≤_, min}
 use mathlib.Core.Bool.{Bool, true}

@@ -1,6 +1,6 @@
 -- The contract of an export leaves nothing open: any two outcomes that it allows of one call return the same number, leave the same answer
 -- and output, the same meaning of the table, as long a table, and past what is used the same bytes of it; and one that is refused or not
--- made leaves the same table. Assumes nothing.
+-- made leaves the same table.
 use mathlib.Core.Path.{_≡_, sym, _∙_}
 use Prim.Native.Nat.{ℕ}
 use mathlib.Core.List.{List}

@@ -1,4 +1,4 @@
--- A call made by C is the call, its four numbers written out. Assumes nothing.
+-- A call made by C is the call, its four numbers written out.
 use mathlib.Core.Path.{_≡_, refl, sym, ap, subst, _∙_}
 use Prim.Native.Nat.{ℕ, _≤_, _<_}
 use native.Mathlib.Omega.{arith}

@@ -1,4 +1,4 @@
--- 01, "What the product holds": a call as C makes it. The four numbers go to a further lent run. Assumes nothing: these are definitions.
+-- 01, "What the product holds": a call as C makes it. The four numbers go to a further lent run.
 use mathlib.Core.Path.{_≡_}
 use Prim.Native.Nat.{ℕ, _≤_}
 use mathlib.Core.Bool.{true}

@@ -1,5 +1,5 @@
 -- What is true of every decision: its kind is one that there is, it leaves an idle count that a session can have, and it mirrors only what
--- is a message. Assumes nothing.
+-- is a message.
 use mathlib.Core.Path.{_≡_, refl}
 use mathlib.Core.Bool.{Bool, true, false, cond}
 use mathlib.Core.List.{List}

@@ -1,4 +1,4 @@
--- What a run does to a session by value is what the model has it do, whatever subscriptions the session has. Assumes nothing.
+-- What a run does to a session by value is what the model has it do, whatever subscriptions the session has.
 use mathlib.Core.Path.{_≡_, refl, sym, _∙_, ap}
 use mathlib.Core.Bool.{Bool, true, false, cond}
 use mathlib.Core.List.{List, [], _∷_, _++_, map}

@@ -1,4 +1,4 @@
--- A tick to a session by value is what the model has it do, whatever subscriptions the session has. Assumes nothing.
+-- A tick to a session by value is what the model has it do, whatever subscriptions the session has.
 use mathlib.Core.Path.{_≡_, refl}
 use mathlib.Core.Bool.{Bool, true, false, cond}
 use mathlib.Core.List.{List}

@@ -1,4 +1,4 @@
--- What is done to a subscription by value is what the model does to it, whatever notices it holds. Assumes nothing.
+-- What is done to a subscription by value is what the model does to it, whatever notices it holds.
 use mathlib.Core.Path.{_≡_, refl}
 use mathlib.Core.Bool.{Bool, true, false, cond}
 use mathlib.Core.List.{List, [], _∷_, _++_}

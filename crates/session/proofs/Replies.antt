@@ -1,4 +1,4 @@
--- The reply to a message, and what else goes out to one session, as output records. Assumes nothing.
+-- The reply to a message, and what else goes out to one session, as output records.
 use mathlib.Core.Path.{_≡_, refl, sym, ap, _∙_}
 use Prim.Native.Nat.{ℕ}
 use mathlib.Core.List.{List, [], _∷_, _++_, append-nil}

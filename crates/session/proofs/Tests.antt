@@ -1,4 +1,4 @@
--- Whether a count that goes up by 1 comes to its limit. Assumes nothing.
+-- Whether a count that goes up by 1 comes to its limit.
 use mathlib.Core.Path.{_≡_}
 use mathlib.Core.Bool.{true, false}
 use Prim.Native.Nat.{ℕ, _+_, _≤_, _<_}

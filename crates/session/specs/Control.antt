@@ -1,5 +1,5 @@
 -- 01, "Notices and the clock": what the functions of this crate answer, over the values that they are given. proofs/ ties each to
--- the model, for whatever notices are held. Assumes nothing: these are definitions.
+-- the model, for whatever notices are held.
 use Prim.Native.Nat.{ℕ, _+_, _-_, _%_}
 use mathlib.Core.Bool.{Bool, true, false, cond}
 use lib.Dec.{ltb, leb, eqb}

@@ -1,5 +1,4 @@
--- 01, "What a message does": what a run does to a session, decided over values. proofs/ ties it to the model. Assumes nothing: these are
--- definitions.
+-- 01, "What a message does": what a run does to a session, decided over values. proofs/ ties it to the model.
 use Prim.Native.Nat.{ℕ}
 use mathlib.Core.Bool.{Bool, true, false, cond}
 use mathlib.Core.List.{List}

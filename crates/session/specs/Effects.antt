@@ -1,5 +1,4 @@
--- What this crate's answers come to for a whole session, in the model's terms, whatever subscriptions it has. Assumes nothing: these are
--- definitions.
+-- What this crate's answers come to for a whole session, in the model's terms, whatever subscriptions it has.
 use Prim.Native.Nat.{ℕ, _≤_}
 use mathlib.Core.Path.{_≡_}
 use mathlib.Core.Bool.{Bool, true, false, cond}

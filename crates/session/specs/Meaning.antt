@@ -1,5 +1,5 @@
 -- What a subscription, and a session, by value is among the model's definitions. The lists are the notices that a subscription holds, in
--- order, which are kept elsewhere. Assumes nothing: these are definitions.
+-- order, which are kept elsewhere.
 use Prim.Native.Nat.{ℕ, _≤_, _<_}
 use mathlib.Core.Path.{_≡_}
 use mathlib.Core.Bool.{Bool, true, false}

@@ -1,4 +1,4 @@
--- What the sessions share, in its bytes: what a write leaves of it. Assumes nothing.
+-- What the sessions share, in its bytes: what a write leaves of it.
 use mathlib.Core.Path.{_≡_, refl, ap, _∙_}
 use Prim.Native.Nat.{suc, ℕ, _+_, _-_, _<_, _≤_}
 use native.Mathlib.Omega.{arith}

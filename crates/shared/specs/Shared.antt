@@ -1,5 +1,5 @@
 -- What all sessions share, as the first bytes of the table hold it: the settings, the identifier in force and the last
--- tightening number. 01, "What the product holds". Assumes nothing: these are definitions.
+-- tightening number. 01, "What the product holds".
 use mathlib.Core.Path.{_≡_}
 use Prim.Native.Nat.{ℕ}
 use mathlib.Core.Bool.{Bool, true}

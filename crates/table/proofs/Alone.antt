@@ -1,4 +1,4 @@
--- A moment that one session sees, and the others pass over: its step is the world's. Assumes nothing.
+-- A moment that one session sees, and the others pass over: its step is the world's.
 use mathlib.Core.Path.{_≡_, refl, sym, ap, _∙_}
 use Prim.Native.Nat.{ℕ, _<_}
 use mathlib.Core.Bool.{true, false≢true}

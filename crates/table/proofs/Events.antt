@@ -1,4 +1,4 @@
--- An event: who takes it, and what it leaves to all sessions. Assumes nothing.
+-- An event: who takes it, and what it leaves to all sessions.
 use mathlib.Core.Path.{_≡_, sym, ap, ap₂, subst, _∙_}
 use Prim.Native.Nat.{ℕ, suc, _+_, _*_, _^_, _≤_, _<_}
 use native.Mathlib.Nat.{add-zero, add-suc, suc-add, pow-suc, pow-le-pow-right}

@@ -1,5 +1,4 @@
 -- Only the first bytes of a table have a meaning: it means the same, and is as well formed, whatever stands past those that are used.
--- Assumes nothing.
 use Prim.Native.Nat.{ℕ, _-_, _≤_}
 use mathlib.Core.Path.{_≡_, sym, _∙_, ap, ap₂}
 use mathlib.Core.Bool.{Bool, _&&_}

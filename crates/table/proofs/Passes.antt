@@ -1,4 +1,4 @@
--- A tick and an event to one session: first its region changes, and then what it has to say is written. Assumes nothing.
+-- A tick and an event to one session: first its region changes, and then what it has to say is written.
 use mathlib.Core.Path.{_≡_, sym, ap, ap₂, _∙_}
 use Prim.Native.Nat.{ℕ, _+_, _≤_}
 use mathlib.Core.Bool.{true}

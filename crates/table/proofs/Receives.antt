@@ -1,4 +1,4 @@
--- Received bytes: what they do to their session, and the identifier that they may make known to all. Assumes nothing.
+-- Received bytes: what they do to their session, and the identifier that they may make known to all.
 use mathlib.Core.Path.{_≡_, refl, sym, ap, ap₂, subst, _∙_}
 use mathlib.Core.Bool.{Bool, true, false, cond, true≢false}
 use mathlib.Core.List.{List, [], _∷_}

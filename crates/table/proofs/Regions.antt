@@ -1,4 +1,4 @@
--- The areas of the table: what is known of each, and what the table means after one of them was replaced. Assumes nothing.
+-- The areas of the table: what is known of each, and what the table means after one of them was replaced.
 use mathlib.Core.Path.{_≡_, refl, sym, ap, subst, _∙_}
 use Prim.Native.Nat.{ℕ, _+_, _-_, _≤_, _<_}
 use native.Mathlib.Nat.{add-sub-cancel-left}

@@ -1,4 +1,4 @@
--- What is written of a table is what its sessions say. Assumes nothing.
+-- What is written of a table is what its sessions say.
 use mathlib.Core.Path.{refl, subst, _≡_, sym, ap, _∙_}
 use Prim.Native.Nat.{ℕ, suc, _+_, _≤_, _<_}
 use native.Mathlib.Numerals.{add-one}

@@ -1,4 +1,4 @@
--- A start, region by region. Assumes nothing.
+-- A start, region by region.
 use mathlib.Core.Path.{_≡_, refl, sym, ap, subst, _∙_}
 use Prim.Native.Nat.{ℕ, _+_, _≤_, _<_}
 use native.Mathlib.Numerals.{add-one}

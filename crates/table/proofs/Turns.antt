@@ -1,4 +1,4 @@
--- What all sessions see, they see one after the other: a loop over the sessions is the moment. Assumes nothing.
+-- What all sessions see, they see one after the other: a loop over the sessions is the moment.
 use mathlib.Core.Path.{_≡_, refl, sym, ap, subst, _∙_}
 use Prim.Native.Nat.{ℕ, suc, _+_, _-_, _*_, _≤_, _<_}
 use native.Mathlib.Nat.{suc-mul, mul-le-mul-right}

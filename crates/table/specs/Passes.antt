@@ -1,5 +1,4 @@
--- What passes over the table: an event, received bytes. 01, "What a message does" and "Notices and the clock". Assumes nothing: these
--- are definitions.
+-- What passes over the table: an event, received bytes. 01, "What a message does" and "Notices and the clock".
 use mathlib.Core.Path.{_≡_}
 use Prim.Native.Nat.{ℕ, _+_, _^_, _≤_, _<_}
 use mathlib.Core.Bool.{false}

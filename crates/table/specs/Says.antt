@@ -1,5 +1,5 @@
 -- What is said of a table, and what is lent for it: first the table has changed, and then it is lent beside the output.
--- 01, "Frames we write" and "Notices and the clock". Assumes nothing: these are definitions.
+-- 01, "Frames we write" and "Notices and the clock".
 use mathlib.Core.Path.{_≡_}
 use Prim.Native.Nat.{ℕ, _+_, _≤_, _<_}
 use mathlib.Core.Bool.{Bool, true}

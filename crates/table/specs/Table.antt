@@ -1,5 +1,4 @@
 -- The lent table: what all sessions share, then a region for each session. 01, "What the product holds"; docs/TABLE.md has the map.
--- Assumes nothing: these are definitions.
 use mathlib.Core.Path.{_≡_}
 use Prim.Native.Nat.{ℕ, _+_, _*_, _≤_}
 use mathlib.Core.Bool.{Bool, true, _&&_}

@@ -1,5 +1,4 @@
 -- Laws of areas of any sizes: after one's elements were replaced, that one reads as they do, and the others as they did.
--- Assumes nothing.
 use mathlib.Core.Path.{_≡_, refl, sym, ap, ap₂, _∙_}
 use Prim.Native.Nat.{ℕ, zero, suc, _+_, _-_, _≤_, _<_}
 use native.Mathlib.Nat.{add-sub-cancel-left}

@@ -1,5 +1,5 @@
 -- Laws of cells: their number, the last of them, and a queue in them; and after one of areas of any sizes was replaced, that one reads as
--- what was put there, and the others as they did. Assumes nothing.
+-- what was put there, and the others as they did.
 use mathlib.Core.Path.{_≡_, refl, sym, ap, ap₂, _∙_}
 use Prim.Native.Nat.{ℕ, zero, suc, _+_, _-_, _*_, _≤_}
 use native.Mathlib.Nat.{zero-add, add-zero, suc-mul, zero-mul, add-comm, add-sub-cancel-left}

@@ -1,4 +1,4 @@
--- The list laws of the project, over any lists. Assumes nothing.
+-- The list laws of the project, over any lists.
 use mathlib.Core.Path.{_≡_, refl, sym, ap, ap₂, _∙_}
 use Prim.Native.Nat.{ℕ, zero, suc, _+_, _-_, _≤_, _<_, min}
 use native.Mathlib.Nat.{add-zero, add-suc, suc-add, add-sub-cancel-left, zero-min, min-zero, suc-min-suc, sub-zero, suc-sub-suc}

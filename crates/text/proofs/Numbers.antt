@@ -1,4 +1,4 @@
--- Numbers in bytes: how wide they are, and a byte or a digit more. Assumes nothing.
+-- Numbers in bytes: how wide they are, and a byte or a digit more.
 use mathlib.Core.Path.{_≡_, refl, sym, ap, _∙_}
 use Prim.Native.Nat.{ℕ, zero, suc, _+_, _-_, _*_, _/_, _%_, _^_, _≤_, _<_}
 use native.Mathlib.Nat.{suc-mul, mul-le-mul-right, pow-suc, pow-le-pow-right}

@@ -1,4 +1,4 @@
--- Writes one after another. Assumes nothing.
+-- Writes one after another.
 use mathlib.Core.Path.{_≡_, refl, sym, ap, ap₂, subst, _∙_}
 use Prim.Native.Nat.{ℕ, _+_}
 use native.Mathlib.Nat.{add-zero, add-assoc}

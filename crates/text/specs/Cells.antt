@@ -1,4 +1,4 @@
--- A list as cells of equal size. Assumes nothing: these are definitions.
+-- A list as cells of equal size.
 use Prim.Native.Nat.{ℕ, zero, suc}
 use mathlib.Core.List.{List, [], _∷_}
 use lib.ListN.{take, drop}

@@ -1,4 +1,4 @@
--- What a writer does to the bytes that it is lent. Assumes nothing: these are definitions.
+-- What a writer does to the bytes that it is lent.
 use mathlib.Core.Path.{_≡_}
 use Prim.Native.Nat.{ℕ, _+_}
 use mathlib.Core.List.{List}

@@ -1,4 +1,4 @@
--- What one call does to the notices of one kind to one session, of a notice that is open, gone, not sent yet or waiting. Assumes nothing.
+-- What one call does to the notices of one kind to one session, of a notice that is open, gone, not sent yet or waiting.
 use Prim.Native.Nat.{ℕ, zero, suc, _+_, _-_, _*_, _/_, _≤_, _<_}
 use mathlib.Core.Path.{_≡_, refl, sym, ap}
 use mathlib.Core.Bool.{Bool, true, false, cond, true≢false}

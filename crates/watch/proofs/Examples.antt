@@ -1,4 +1,4 @@
--- The words of demand 3 on small histories, computed. Assumes nothing.
+-- The words of demand 3 on small histories, computed.
 use Prim.Native.Nat.{ℕ}
 use mathlib.Core.Path.{_≡_, refl, sym}
 use mathlib.Core.Bool.{Bool, true, false, true≢false}

@@ -1,4 +1,4 @@
--- What the calls of a whole history do to the notices of one kind to one session. Assumes nothing.
+-- What the calls of a whole history do to the notices of one kind to one session.
 use Prim.Native.Nat.{ℕ, suc, _+_, _-_, _*_, _/_, _≤_, _<_, min}
 use mathlib.Core.Path.{_≡_, refl, sym, _∙_, ap, subst}
 use mathlib.Core.Bool.{Bool, true, false, cond, true≢false}

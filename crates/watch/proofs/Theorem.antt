@@ -1,4 +1,4 @@
--- Demand 3 of every history of such calls that begins with nothing open and nothing waiting. Assumes nothing.
+-- Demand 3 of every history of such calls that begins with nothing open and nothing waiting.
 use Prim.Native.Nat.{ℕ, _+_, _*_, _/_, _≤_, min}
 use mathlib.Core.Path.{_≡_, refl, sym, _∙_, ap, subst}
 use mathlib.Core.Bool.{Bool, true, false, cond}

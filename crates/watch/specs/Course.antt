@@ -1,5 +1,5 @@
 -- What a call can do to the notices of one kind to one session, and a history of such calls: what the proof of demand 3 asks of a machine.
--- The statement of demand 3 (Marks) does not speak of it. Assumes nothing: these are definitions.
+-- The statement of demand 3 (Marks) does not speak of it.
 use Prim.Native.Nat.{ℕ, suc, _%_, _≤_, _<_}
 use mathlib.Core.Path.{_≡_}
 use mathlib.Core.Bool.{Bool, true, false}

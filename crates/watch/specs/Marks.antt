@@ -1,6 +1,5 @@
 -- Demand 3, said of the notices of one kind to one session: what each call of a history is to them (a mark), and what must hold of
 -- the marks of a whole history. Nothing here knows how the marks are made, or how the machine is built.
--- Assumes nothing: these are definitions.
 use Prim.Native.Nat.{ℕ, suc, _+_, _/_, _≤_, _<_, min}
 use mathlib.Core.Path.{_≡_}
 use mathlib.Core.Bool.{Bool, true, false, cond}

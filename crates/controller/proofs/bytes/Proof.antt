@@ -1,4 +1,4 @@
--- `controller::bytes` meets its contract. Assumes nothing.
+-- `controller::bytes` meets its contract.
 use borrow.Author.Needs.{needs}
 use lib.ListN.{length}
 use mathlib.Core.Path.{refl, sym, _∙_}

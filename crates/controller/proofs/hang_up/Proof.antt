@@ -1,4 +1,4 @@
--- `controller::hang_up` meets its contract. Assumes nothing.
+-- `controller::hang_up` meets its contract.
 use borrow.Author.Needs.{needs}
 use mathlib.Core.Path.{refl, sym, _∙_}
 use native.Mathlib.Omega.{arith}

@@ -1,4 +1,4 @@
--- `controller::report` meets its contract. Assumes nothing.
+-- `controller::report` meets its contract.
 use borrow.Author.Needs.{needs}
 use native.Mathlib.Omega.{arith}
 use Rattle.controller.proofs.Tools.{tightening-size, scan-size, bad-reported, tightening-reported, scan-reported}

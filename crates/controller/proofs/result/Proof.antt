@@ -1,4 +1,4 @@
--- `controller::result` meets its contract. Assumes nothing.
+-- `controller::result` meets its contract.
 use borrow.Author.Needs.{needs}
 use mathlib.Core.Path.{refl, sym, ap, _∙_}
 use Prim.Native.Nat.{ℕ, _+_}

@@ -1,4 +1,4 @@
--- `controller::start` meets its contract. Assumes nothing.
+-- `controller::start` meets its contract.
 use borrow.Author.Needs.{needs}
 use mathlib.Core.Path.{refl, sym, ap, _∙_}
 use native.Mathlib.Omega.{arith}

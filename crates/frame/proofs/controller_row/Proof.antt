@@ -1,9 +1,8 @@
--- `frame::controller_row` meets its contract: its arms are the rows. Assumes nothing.
+-- `frame::controller_row` meets its contract: its arms are the rows.
 use Rattle.frame.proofs.Arms.{last-arm}
 use Rattle.frame.proofs.controller_row.Statement.{statement}
 use Rattle.frame.proofs.controller_row.Tie as tie
 
 pub controller-row-spec : {M : Type 1} → statement M
 controller-row-spec =
-    tie.close
-    (tie.spec (λ c. rw (c .match .keys1)) (λ c. rw (c .match .keys2)) (λ c. rw (last-arm 2 _ (c .match .rest) (c .before .pre))))
+    tie.close (tie.spec (λ c. rw (c .match .keys1)) (λ c. rw (c .match .keys2)) (λ c. rw (last-arm 2 _ (c .match .rest) (c .before .pre))))

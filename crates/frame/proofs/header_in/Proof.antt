@@ -1,4 +1,4 @@
--- `frame::header_in` meets its contract: a message's header has what its readers ask for. Assumes nothing.
+-- `frame::header_in` meets its contract: a message's header has what its readers ask for.
 use borrow.Author.Needs.{needs}
 use borrow.Author.Tests.{not-true, not-false}
 use mathlib.Core.Path.{refl, sym, _∙_}
@@ -19,12 +19,6 @@ whole c =
     let a = c .before .before .before .args in
     header-sound (a .run .now) (a .count) (sym (c .before .is-message .ensures) ∙ not-false _ (c .if1 .left))
 
-decimal-requires : tie.Need-decimal-requires
-decimal-requires c κs = (simp length-take (omega arith), whole (c .before) .mid)
-
-revision-requires : tie.Need-revision-requires
-revision-requires c κs = (simp length-take (omega arith), whole (c .before .before .before) .revision)
-
 returns-2 : tie.Need-returns-2
 returns-2 c =
     let i = c .before .before .before .before .before in
@@ -43,10 +37,10 @@ header-in-spec =
     (λ c. search needs)
     (λ c. search needs)
     (λ c. let w = whole c in search needs)
-    decimal-requires
+    (λ c κs. (simp length-take (omega arith), whole (c .before) .mid))
     (λ c. search needs)
     (λ c. search needs)
     (λ c. let w = whole (c .before .before) in search needs)
-    revision-requires
+    (λ c κs. (simp length-take (omega arith), whole (c .before .before .before) .revision))
     (λ c. let w = whole (c .before .before .before .before .before) in search needs)
     returns-2)

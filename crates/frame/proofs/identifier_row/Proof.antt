@@ -1,4 +1,4 @@
--- `frame::identifier_row` meets its contract: its arms are the rows. Assumes nothing.
+-- `frame::identifier_row` meets its contract: its arms are the rows.
 use mathlib.Core.Path.{_≡_, refl, sym, ap}
 use Prim.Native.Nat.{ℕ, zero, suc, _<_}
 use native.Mathlib.Omega.{arith}
@@ -19,5 +19,5 @@ blank-part (suc (suc (suc (suc k)))) h few = absurd (omega arith)
 
 pub identifier-row-spec : {M : Type 1} → statement M
 identifier-row-spec =
-    tie.close
-    (tie.spec (λ c. rw (c .match .keys1)) (λ c. sym (ap (placed scanned-items) (blank-part _ (c .match .rest .1) (c .before .pre)))))
+    tie.close (tie.spec (λ c. rw (c .match .keys1))
+    (λ c. sym (ap (placed scanned-items) (blank-part _ (c .match .rest .1) (c .before .pre)))))

@@ -1,4 +1,4 @@
--- `frame::is_flag` meets its contract: an arm by its key, the closing arm by what the byte is not. Assumes nothing.
+-- `frame::is_flag` meets its contract: an arm by its key, the closing arm by what the byte is not.
 use Rattle.frame.proofs.Tests.{tests}
 use Rattle.frame.proofs.is_flag.Statement.{statement}
 use Rattle.frame.proofs.is_flag.Tie as tie

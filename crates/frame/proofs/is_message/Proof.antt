@@ -1,4 +1,4 @@
--- `frame::is_message` meets its contract: at each return the tests that led there say what the run is. Assumes nothing.
+-- `frame::is_message` meets its contract: at each return the tests that led there say what the run is.
 use borrow.Author.Needs.{needs}
 use borrow.Author.Tests.{lt-leb, le-leb, not-true, not-false}
 use mathlib.Core.Path.{sym, _∙_}
@@ -14,9 +14,6 @@ returns-3 c =
     let a = t .before .before .before .args in
     no-length (a .run .now) (a .count) (t .before .if1 .left) (t .if2 .left)
     (sym (c .before .is-digits .ensures) ∙ not-true _ (c .if3 .taken))
-
-decimal-requires : tie.Need-decimal-requires
-decimal-requires c κs = (simp length-take (omega arith), sym (c .before .is-digits .ensures) ∙ not-false _ (c .if3 .left))
 
 returns-4 : tie.Need-returns-4
 returns-4 c =
@@ -68,27 +65,8 @@ returns-7 c =
 
 pub is-message-spec : {M : Type 1} → statement M
 is-message-spec =
-    tie.close
-    (tie.spec
-    (λ c. rw (lt-leb _ _ (c .if1 .taken)))
-    (λ c. rw (le-leb _ _ (c .before .if1 .left), lt-leb _ _ (c .if2 .taken)))
-    (λ c. search needs)
-    (λ c. search needs)
-    (λ c. search needs)
-    (λ c κs. search needs)
-    returns-3
-    decimal-requires
-    returns-4
-    (λ c. search needs)
-    (λ c. search needs)
-    (λ c. search needs)
-    (λ c κs. search needs)
-    returns-5
-    (λ c. search needs)
-    (λ c. search needs)
-    (λ c. search needs)
-    (λ c κs. search needs)
-    returns-6
-    (λ c. search needs)
-    (λ c κs. search needs)
-    returns-7)
+    tie.close (tie.spec (λ c. rw (lt-leb _ _ (c .if1 .taken))) (λ c. rw (le-leb _ _ (c .before .if1 .left), lt-leb _ _ (c .if2 .taken)))
+    (λ c. search needs) (λ c. search needs) (λ c. search needs) (λ c κs. search needs) returns-3
+    (λ c κs. (simp length-take (omega arith), sym (c .before .is-digits .ensures) ∙ not-false _ (c .if3 .left)))
+    returns-4 (λ c. search needs) (λ c. search needs) (λ c. search needs) (λ c κs. search needs) returns-5 (λ c. search needs)
+    (λ c. search needs) (λ c. search needs) (λ c κs. search needs) returns-6 (λ c. search needs) (λ c κs. search needs) returns-7)

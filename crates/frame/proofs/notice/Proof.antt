@@ -1,4 +1,4 @@
--- `frame::notice` meets its contract: the numbers are those of the table of kinds. Assumes nothing.
+-- `frame::notice` meets its contract: the numbers are those of the table of kinds.
 use borrow.Author.Needs.{needs}
 use lib.ListN.{List·getD-map}
 use Rattle.model.specs.Kinds.{Kind, kinds, kind-at}

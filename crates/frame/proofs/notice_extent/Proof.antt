@@ -1,4 +1,4 @@
--- `frame::notice_extent` meets its contract, by kind and revision. Assumes nothing.
+-- `frame::notice_extent` meets its contract, by kind and revision.
 use borrow.Author.Needs.{needs}
 use Rattle.frame.proofs.Rows.{second-kind, first-index, later-index}
 use Rattle.frame.proofs.notice_extent.Statement.{statement}

@@ -1,4 +1,4 @@
--- `frame::notice_row` meets its contract, by the kind. Assumes nothing.
+-- `frame::notice_row` meets its contract, by the kind.
 use borrow.Author.Needs.{needs}
 use mathlib.Core.Path.{ap, _∙_}
 use mathlib.Core.List.{[], _∷_}
@@ -41,12 +41,4 @@ returns-3 c =
     (c .result-row .ensures ∙ ap (placed result-items) (behind-row r (s .args .k) (first-revision r) (c .before .if2 .left)))
 
 pub notice-row-spec : {M : Type 1} → statement M
-notice-row-spec =
-    tie.close
-    (tie.spec
-    identifier-row-requires
-    returns
-    (λ c κs. search needs)
-    returns-2
-    result-row-requires
-    returns-3)
+notice-row-spec = tie.close (tie.spec identifier-row-requires returns (λ c κs. search needs) returns-2 result-row-requires returns-3)

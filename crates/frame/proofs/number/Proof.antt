@@ -1,4 +1,4 @@
--- `frame::number` meets its contract: one of the two sources has the bytes. Assumes nothing.
+-- `frame::number` meets its contract: one of the two sources has the bytes.
 use borrow.Author.Tests.{eq-eqb, ne-eqb}
 use Rattle.frame.proofs.number.Statement.{statement}
 use Rattle.frame.proofs.number.Tie as tie

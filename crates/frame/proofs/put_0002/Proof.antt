@@ -1,4 +1,4 @@
--- `frame::put_0002` meets its contract. Assumes nothing.
+-- `frame::put_0002` meets its contract.
 use borrow.Author.Needs.{needs}
 use Rattle.frame.proofs.Built.{sendable, sent, is-0002}
 use Rattle.frame.proofs.put_0002.Statement.{statement}
@@ -16,6 +16,5 @@ returns c =
 
 pub put-0002-spec : {M : Type 1} → statement M
 put-0002-spec =
-    tie.close
-    (tie.spec (λ c κs. search needs) (λ c. search needs) (λ c. search needs) (λ c. search needs)
-    put-frame-requires (λ c. search needs) returns)
+    tie.close (tie.spec (λ c κs. search needs) (λ c. search needs) (λ c. search needs) (λ c. search needs) put-frame-requires
+    (λ c. search needs) returns)

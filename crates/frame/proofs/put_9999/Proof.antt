@@ -1,4 +1,4 @@
--- `frame::put_9999` meets its contract: the header as it came, in an output record. Assumes nothing.
+-- `frame::put_9999` meets its contract: the header as it came, in an output record.
 use borrow.Author.Needs.{needs}
 use lib.Seq.{length-take-le}
 use Rattle.text.proofs.Puts.{put-then, put-as}
@@ -19,15 +19,5 @@ returns c =
 
 pub put-9999-spec : {M : Type 1} → statement M
 put-9999-spec =
-    tie.close
-    (tie.spec
-    (λ c. search needs)
-    (λ c. search needs)
-    (λ c κs. search needs)
-    (λ c. search needs)
-    (λ c. search needs)
-    (λ c. search needs)
-    (λ c κs. search needs)
-    (λ c κs. search needs)
-    (λ c. search needs)
-    returns)
+    tie.close (tie.spec (λ c. search needs) (λ c. search needs) (λ c κs. search needs) (λ c. search needs) (λ c. search needs)
+    (λ c. search needs) (λ c κs. search needs) (λ c κs. search needs) (λ c. search needs) returns)

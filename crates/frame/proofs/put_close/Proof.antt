@@ -1,4 +1,4 @@
--- `frame::put_close` meets its contract: a record's head, and nothing behind it. Assumes nothing.
+-- `frame::put_close` meets its contract: a record's head, and nothing behind it.
 use borrow.Author.Needs.{needs}
 use Rattle.model.specs.Bytes.{in-bytes}
 use Rattle.model.specs.Frames.{close-record}

@@ -1,4 +1,4 @@
--- `frame::put_copy` meets its contract, whatever the kind. Assumes nothing.
+-- `frame::put_copy` meets its contract, whatever the kind.
 use borrow.Author.Needs.{needs}
 use native.Mathlib.Omega.{arith}
 use Rattle.frame.proofs.Built.{copy-short, notice-served, sendable, sent, is-copy}

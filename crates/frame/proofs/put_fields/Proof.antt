@@ -1,5 +1,5 @@
 -- `frame::put_fields` meets its contract. The invariant: the rows that are left, over what is there, are all of them over what was
--- there. Assumes nothing.
+-- there.
 use borrow.Author.Needs.{needs}
 use mathlib.Core.Path.{_≡_, ap}
 use Prim.Native.Nat.{_-_}

@@ -1,4 +1,4 @@
--- `frame::put_frame` meets its contract: the data first, then what stands before it and behind it. Assumes nothing.
+-- `frame::put_frame` meets its contract: the data first, then what stands before it and behind it.
 use borrow.Author.Needs.{needs}
 use Rattle.frame.proofs.Built.{wrote-frame}
 use Rattle.frame.proofs.put_frame.Statement.{statement}
@@ -16,16 +16,5 @@ returns c =
 
 pub put-frame-spec : {M : Type 1} → statement M
 put-frame-spec =
-    tie.close
-    (tie.spec
-    (λ c. search needs)
-    (λ c. search needs)
-    (λ c κs. search needs)
-    (λ c. search needs)
-    (λ c. search needs)
-    (λ c. search needs)
-    (λ c κs. search needs)
-    (λ c κs. search needs)
-    (λ c κs. search needs)
-    (λ c. search needs)
-    returns)
+    tie.close (tie.spec (λ c. search needs) (λ c. search needs) (λ c κs. search needs) (λ c. search needs) (λ c. search needs)
+    (λ c. search needs) (λ c κs. search needs) (λ c κs. search needs) (λ c κs. search needs) (λ c. search needs) returns)

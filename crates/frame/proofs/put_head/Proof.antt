@@ -1,4 +1,4 @@
--- `frame::put_head` meets its contract: two writes. Assumes nothing.
+-- `frame::put_head` meets its contract: two writes.
 use borrow.Author.Needs.{needs}
 use Rattle.text.proofs.Puts.{put-then}
 use Rattle.frame.proofs.put_head.Statement.{statement}

@@ -1,4 +1,4 @@
--- `frame::put_header` meets its contract: five writes. Assumes nothing.
+-- `frame::put_header` meets its contract: five writes.
 use borrow.Author.Needs.{needs}
 use mathlib.Core.List.{append-assoc}
 use Rattle.model.specs.Frames.{header}
@@ -24,12 +24,5 @@ returns c =
 
 pub put-header-spec : {M : Type 1} → statement M
 put-header-spec =
-    tie.close
-    (tie.spec
-    (λ c κs. search needs)
-    (λ c κs. search needs)
-    (λ c κs. search needs)
-    (λ c κs. search needs)
-    (λ c κs. search needs)
-    (λ c. search needs)
-    returns)
+    tie.close (tie.spec (λ c κs. search needs) (λ c κs. search needs) (λ c κs. search needs) (λ c κs. search needs) (λ c κs. search needs)
+    (λ c. search needs) returns)

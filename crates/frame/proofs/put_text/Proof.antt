@@ -1,4 +1,4 @@
--- `frame::put_text` meets its contract: one of the two sources has the bytes. Assumes nothing.
+-- `frame::put_text` meets its contract: one of the two sources has the bytes.
 use borrow.Author.Needs.{needs}
 use borrow.Author.Tests.{eq-eqb, ne-eqb}
 use Rattle.frame.proofs.put_text.Statement.{statement}

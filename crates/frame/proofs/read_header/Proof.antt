@@ -1,5 +1,5 @@
 -- `frame::read_header` meets its contract, by a walk of its MIR: `header_in` and `data_field` answer, and what they answer is put together.
--- Of the two callees it knows their contracts alone. Assumes nothing.
+-- Of the two callees it knows their contracts alone.
 use mathlib.Core.Path.{_≡_, refl}
 use Prim.Native.Nat.{ℕ, _<_, _^_}
 use mathlib.Core.List.{List, [], _∷_}

@@ -1,4 +1,4 @@
--- `frame::result_row` meets its contract: its arms are the rows. Assumes nothing.
+-- `frame::result_row` meets its contract: its arms are the rows.
 use Rattle.frame.proofs.Arms.{last-arm}
 use Rattle.frame.proofs.result_row.Statement.{statement}
 use Rattle.frame.proofs.result_row.Tie as tie
@@ -7,9 +7,23 @@ pub result-row-spec : {M : Type 1} → statement M
 result-row-spec =
     tie.close
     (tie.spec
-    (λ c. rw (c .match .keys1)) (λ c. rw (c .match .keys2)) (λ c. rw (c .match .keys3)) (λ c. rw (c .match .keys4))
-    (λ c. rw (c .match .keys5)) (λ c. rw (c .match .keys6)) (λ c. rw (c .match .keys7)) (λ c. rw (c .match .keys8))
-    (λ c. rw (c .match .keys9)) (λ c. rw (c .match .keys10)) (λ c. rw (c .match .keys11)) (λ c. rw (c .match .keys12))
-    (λ c. rw (c .match .keys13)) (λ c. rw (c .match .keys14)) (λ c. rw (c .match .keys15)) (λ c. rw (c .match .keys16))
-    (λ c. rw (c .match .keys17)) (λ c. rw (c .match .keys18)) (λ c. rw (c .match .keys19))
+    (λ c. rw (c .match .keys1))
+    (λ c. rw (c .match .keys2))
+    (λ c. rw (c .match .keys3))
+    (λ c. rw (c .match .keys4))
+    (λ c. rw (c .match .keys5))
+    (λ c. rw (c .match .keys6))
+    (λ c. rw (c .match .keys7))
+    (λ c. rw (c .match .keys8))
+    (λ c. rw (c .match .keys9))
+    (λ c. rw (c .match .keys10))
+    (λ c. rw (c .match .keys11))
+    (λ c. rw (c .match .keys12))
+    (λ c. rw (c .match .keys13))
+    (λ c. rw (c .match .keys14))
+    (λ c. rw (c .match .keys15))
+    (λ c. rw (c .match .keys16))
+    (λ c. rw (c .match .keys17))
+    (λ c. rw (c .match .keys18))
+    (λ c. rw (c .match .keys19))
     (λ c. rw (last-arm 19 _ (c .match .rest) (c .before .pre))))

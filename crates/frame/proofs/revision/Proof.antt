@@ -1,4 +1,4 @@
--- `frame::revision` meets its contract. Assumes nothing.
+-- `frame::revision` meets its contract.
 use borrow.Author.Needs.{needs}
 use borrow.Author.Tests.{ne-eqb}
 use mathlib.Core.Path.{_≡_, sym, _∙_}

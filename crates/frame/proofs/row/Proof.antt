@@ -1,4 +1,4 @@
--- `frame::row` meets its contract, by the content. Assumes nothing.
+-- `frame::row` meets its contract, by the content.
 use borrow.Author.Needs.{needs}
 use mathlib.Core.Path.{_≡_, sym, ap, subst, _∙_}
 use Prim.Native.Nat.{ℕ, _<_}
@@ -17,9 +17,6 @@ asked {f} {g} {k} e h = subst (λ (x : Content). Real x × (k < length (layout-o
 module _ {f g : Content} {k j : ℕ} (e : f ≡ g) (n : k ≡ j) where
   same-row : placed-row g j ≡ placed-row f k
   same-row = sym (ap (λ (x : Content). placed-row x k) e ∙ ap (placed-row g) n)
-
-returns : tie.Need-returns
-returns c = same-row (c .before .before .content .given .1) (c .if1 .taken)
 
 returns-3 : tie.Need-returns-3
 returns-3 c =
@@ -42,7 +39,7 @@ row-spec =
     (λ c. search needs)
     (λ c κs. asked (c .enum-told .given .1) (c .before .before .pre) .1)
     (λ c. search needs)
-    returns
+    (λ c. same-row (c .before .before .content .given .1) (c .if1 .taken))
     (λ c. search needs)
     (λ c. search needs)
     (λ c κs. asked (c .before .content3 .given .1) (c .before .before .before .pre))

@@ -1,4 +1,4 @@
--- `head::is_formed` meets its contract. Assumes nothing.
+-- `head::is_formed` meets its contract.
 use borrow.Author.Needs.{needs}
 use borrow.Author.Tests.{le-leb, lt-leb}
 use Rattle.head.specs.Head.{head-formed}

@@ -1,4 +1,4 @@
--- `head::load` meets its contract. Assumes nothing.
+-- `head::load` meets its contract.
 use borrow.Author.Needs.{needs}
 use Rattle.head.specs.Head.{head-of}
 use Rattle.head.proofs.load.Statement.{statement}

@@ -1,4 +1,4 @@
--- `head::phase_from` meets its contract. Assumes nothing.
+-- `head::phase_from` meets its contract.
 use borrow.Author.Needs.{needs}
 use Rattle.head.proofs.Bytes.{phase-else}
 use Rattle.head.proofs.phase_from.Statement.{statement}

@@ -1,4 +1,4 @@
--- `head::store` meets its contract. Assumes nothing.
+-- `head::store` meets its contract.
 use borrow.Author.Needs.{needs}
 use Rattle.head.proofs.Bytes.{stores}
 use Rattle.head.proofs.store.Statement.{statement}

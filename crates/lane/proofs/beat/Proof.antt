@@ -1,4 +1,4 @@
--- `lane::beat` meets its contract, by whether any is held. Assumes nothing.
+-- `lane::beat` meets its contract, by whether any is held.
 use borrow.Author.Needs.{needs}
 use Rattle.lane.proofs.Controls.{none-beats}
 use Rattle.lane.proofs.beat.Statement.{statement}

@@ -1,4 +1,4 @@
--- `lane::busy` meets its contract, by the room. Assumes nothing.
+-- `lane::busy` meets its contract, by the room.
 use borrow.Author.Needs.{needs}
 use borrow.Author.Tests.{le-leb, lt-leb}
 use mathlib.Core.Path.{_≡_, sym, ap, _∙_}

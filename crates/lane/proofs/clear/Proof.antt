@@ -1,4 +1,4 @@
--- `lane::clear` meets its contract: zeros are not subscribed. Assumes nothing.
+-- `lane::clear` meets its contract: zeros are not subscribed.
 use borrow.Author.Needs.{needs}
 use native.Mathlib.Omega.{arith}
 use Rattle.lane.proofs.Controls.{cleared}

@@ -1,4 +1,4 @@
--- `lane::deal` meets its contract: the step is carried out, and is the model's. Assumes nothing.
+-- `lane::deal` meets its contract: the step is carried out, and is the model's.
 use borrow.Author.Needs.{needs}
 use mathlib.Core.Path.{ap, _∙_, _≡_}
 use Rattle.frame.specs.Places.{notice-in}

@@ -1,4 +1,4 @@
--- `lane::first` meets its contract. Assumes nothing.
+-- `lane::first` meets its contract.
 use borrow.Author.Needs.{needs}
 use mathlib.Core.Path.{ap, _∙_}
 use native.Mathlib.Nat.{add-sub-cancel-left}

@@ -1,4 +1,4 @@
--- `lane::hold` meets its contract, by what becomes of the notice. Assumes nothing.
+-- `lane::hold` meets its contract, by what becomes of the notice.
 use borrow.Author.Needs.{needs}
 use Rattle.lane.proofs.Events.{keeps-not, keeps-once, keeps-opens, keeps-waits}
 use Rattle.lane.proofs.hold.Statement.{statement}

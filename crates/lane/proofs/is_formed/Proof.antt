@@ -1,4 +1,4 @@
--- `lane::is_formed` meets its contract: three bytes are tested. Assumes nothing.
+-- `lane::is_formed` meets its contract: three bytes are tested.
 use borrow.Author.Needs.{needs}
 use borrow.Author.Tests.{le-leb, lt-leb, le-ltb, lt-ltb}
 use Rattle.lane.specs.Lane.{lane-formed}

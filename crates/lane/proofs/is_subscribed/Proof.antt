@@ -1,4 +1,4 @@
--- `lane::is_subscribed` meets its contract, by the form. Assumes nothing.
+-- `lane::is_subscribed` meets its contract, by the form.
 use borrow.Author.Needs.{needs}
 use Rattle.lane.proofs.Controls.{subscribed-byte}
 use Rattle.lane.proofs.is_subscribed.Statement.{statement}

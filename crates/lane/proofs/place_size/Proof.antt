@@ -1,4 +1,4 @@
--- `lane::place_size` meets its contract. Assumes nothing.
+-- `lane::place_size` meets its contract.
 use borrow.Author.Needs.{needs}
 use Rattle.lane.proofs.place_size.Statement.{statement}
 use Rattle.lane.proofs.place_size.Tie as tie

@@ -1,4 +1,4 @@
--- `lane::put` meets its contract. Assumes nothing.
+-- `lane::put` meets its contract.
 use borrow.Author.Needs.{needs}
 use Prim.Native.Nat.{_+_, _*_, _≤_}
 use lib.ListN.{length}

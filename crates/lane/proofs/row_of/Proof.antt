@@ -1,4 +1,4 @@
--- `lane::row_of` meets its contract, by the kind. Assumes nothing.
+-- `lane::row_of` meets its contract, by the kind.
 use mathlib.Core.Path.{_≡_}
 use native.Mathlib.Omega.{arith}
 use Rattle.model.specs.Kinds.{tightenings}

@@ -1,4 +1,4 @@
--- `lane::shift_down` meets its contract. Assumes nothing.
+-- `lane::shift_down` meets its contract.
 use borrow.Author.Needs.{needs}
 use borrow.Author.Tests.{not-true, not-false}
 use Prim.Native.Nat.{_+_, _*_, _-_, _≤_}

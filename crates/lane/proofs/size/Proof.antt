@@ -1,4 +1,4 @@
--- `lane::size` meets its contract. Assumes nothing.
+-- `lane::size` meets its contract.
 use borrow.Author.Needs.{needs}
 use Rattle.lane.proofs.KindLaws.{kind-fits}
 use Rattle.lane.proofs.size.Statement.{statement}

@@ -1,4 +1,4 @@
--- `lane::store` meets its contract: three bytes, and the revision. Assumes nothing.
+-- `lane::store` meets its contract: three bytes, and the revision.
 use borrow.Author.Needs.{needs}
 use native.Mathlib.Omega.{arith}
 use Rattle.lane.proofs.KindLaws.{kind-fits}

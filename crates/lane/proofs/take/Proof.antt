@@ -1,4 +1,4 @@
--- `lane::take` meets its contract: the notice is held, and what is said of it is the model's. Assumes nothing.
+-- `lane::take` meets its contract: the notice is held, and what is said of it is the model's.
 use borrow.Author.Needs.{needs}
 use mathlib.Core.Path.{_≡_, ap, _∙_}
 use Rattle.model.specs.Kinds.{room-of}

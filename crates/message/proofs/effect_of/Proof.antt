@@ -1,4 +1,4 @@
--- `message::effect_of` meets its contract: a listed number by its key, the closing arm by what the number is not. Assumes nothing.
+-- `message::effect_of` meets its contract: a listed number by its key, the closing arm by what the number is not.
 use Rattle.model.specs.Messages.{entry-of}
 use Rattle.message.proofs.Tests.{tests}
 use Rattle.message.proofs.effect_of.Statement.{statement}

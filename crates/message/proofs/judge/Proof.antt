@@ -1,4 +1,4 @@
--- `message::judge` meets its contract: at each return the tests that were made say which case of the paper's order holds. Assumes nothing.
+-- `message::judge` meets its contract: at each return the tests that were made say which case of the paper's order holds.
 use borrow.Author.Needs.{needs}
 use borrow.Author.Tests.{not-true, not-false}
 use mathlib.Core.Path.{refl, sym, _∙_, ap}

@@ -1,4 +1,4 @@
--- `message::own_error` meets its contract: an effect with a test of its own by what the two functions below leave. Assumes nothing.
+-- `message::own_error` meets its contract: an effect with a test of its own by what the two functions below leave.
 use borrow.Author.Needs.{needs}
 use Rattle.message.proofs.own_error.Statement.{statement}
 use Rattle.message.proofs.own_error.Tie as tie

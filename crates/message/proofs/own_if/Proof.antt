@@ -1,4 +1,4 @@
--- `message::own_if` meets its contract. Assumes nothing.
+-- `message::own_if` meets its contract.
 use borrow.Author.Needs.{needs}
 use Rattle.message.proofs.own_if.Statement.{statement}
 use Rattle.message.proofs.own_if.Tie as tie

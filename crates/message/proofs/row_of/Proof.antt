@@ -1,4 +1,4 @@
--- `message::row_of` meets its contract. The loop's invariant: the entry of the number is among the rows from place k on. Assumes nothing.
+-- `message::row_of` meets its contract. The loop's invariant: the entry of the number is among the rows from place k on.
 use borrow.Author.Needs.{needs}
 use mathlib.Core.Path.{_≡_, sym, subst}
 use native.Mathlib.Omega.{arith}

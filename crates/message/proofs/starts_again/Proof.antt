@@ -1,4 +1,4 @@
--- `message::starts_again` meets its contract. Assumes nothing.
+-- `message::starts_again` meets its contract.
 use borrow.Author.Needs.{needs}
 use Rattle.message.proofs.starts_again.Statement.{statement}
 use Rattle.message.proofs.starts_again.Tie as tie

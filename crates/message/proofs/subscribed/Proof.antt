@@ -1,5 +1,4 @@
--- `message::subscribed` meets its contract: there is no kind past the last, since a standing names as many kinds as there are. Assumes
--- nothing.
+-- `message::subscribed` meets its contract: there is no kind past the last, since a standing names as many kinds as there are.
 use borrow.Author.Needs.{needs}
 use mathlib.Core.Path.{_≡_, sym, _∙_}
 use native.Mathlib.Omega.{arith}

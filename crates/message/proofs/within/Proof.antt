@@ -1,4 +1,4 @@
--- `message::within` meets its contract. Assumes nothing.
+-- `message::within` meets its contract.
 use borrow.Author.Tests.{le-leb, lt-leb}
 use Rattle.message.proofs.within.Statement.{statement}
 use Rattle.message.proofs.within.Tie as tie

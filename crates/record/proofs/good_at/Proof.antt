@@ -1,4 +1,4 @@
--- `record::good_at` meets its contract: an arm by its keys, the closing arm by what the place is not. Assumes nothing.
+-- `record::good_at` meets its contract: an arm by its keys, the closing arm by what the place is not.
 use borrow.Author.Needs.{needs}
 use borrow.Author.Tests.{ne-eqb}
 use mathlib.Core.Logic.{inl, inr, ⊎-elim}

@@ -1,4 +1,4 @@
--- `record::good_item` meets its contract: the form says which test. Assumes nothing.
+-- `record::good_item` meets its contract: the form says which test.
 use borrow.Author.Needs.{needs}
 use mathlib.Core.Path.{ap, _∙_}
 use native.Mathlib.Omega.{arith}

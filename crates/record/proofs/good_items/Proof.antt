@@ -1,5 +1,5 @@
 -- `record::good_items` meets its contract. The invariant: the test of the items that are left is the test of all, and their bytes are
--- there. Assumes nothing.
+-- there.
 use borrow.Author.Needs.{needs}
 use borrow.Author.Tests.{not-true, not-false}
 use mathlib.Core.Path.{_≡_, refl, sym, ap, _∙_}

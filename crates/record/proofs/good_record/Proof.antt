@@ -1,4 +1,4 @@
--- `record::good_record` meets its contract. Assumes nothing.
+-- `record::good_record` meets its contract.
 use borrow.Author.Needs.{needs}
 use borrow.Author.Tests.{not-true, not-false}
 use mathlib.Core.Path.{sym, ap, _∙_}

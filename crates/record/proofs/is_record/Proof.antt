@@ -1,4 +1,4 @@
--- `record::is_record` meets its contract. Assumes nothing.
+-- `record::is_record` meets its contract.
 use borrow.Author.Needs.{needs}
 use mathlib.Core.Path.{sym, ap, _∙_}
 use Prim.Native.Nat.{ℕ, _+_}

@@ -1,4 +1,4 @@
--- `record::is_settings` meets its contract: the table has the model's items. Assumes nothing.
+-- `record::is_settings` meets its contract: the table has the model's items.
 use borrow.Author.Needs.{needs}
 use mathlib.Core.Path.{ap}
 use mathlib.Core.Bool.{Bool}

@@ -1,4 +1,4 @@
--- `record::is_time` meets its contract. The invariant: the test of the bytes that are left is the test of all. Assumes nothing.
+-- `record::is_time` meets its contract. The invariant: the test of the bytes that are left is the test of all.
 use borrow.Author.Needs.{needs}
 use borrow.Author.Tests.{not-true, not-false}
 use mathlib.Core.Path.{_≡_, refl, sym, _∙_}

@@ -1,4 +1,4 @@
--- `record::meant` meets its contract, by the all-spaces test. Assumes nothing.
+-- `record::meant` meets its contract, by the all-spaces test.
 use borrow.Author.Needs.{needs}
 use mathlib.Core.Path.{sym, _∙_}
 use Rattle.record.proofs.meant.Statement.{statement}

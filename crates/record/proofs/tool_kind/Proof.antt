@@ -1,4 +1,4 @@
--- `record::tool_kind` meets its contract: the tables have the model's items. Assumes nothing.
+-- `record::tool_kind` meets its contract: the tables have the model's items.
 use borrow.Author.Needs.{needs}
 use mathlib.Core.Path.{sym, _∙_}
 use Rattle.model.specs.Records.{read-tool}

@@ -1,4 +1,4 @@
--- `refusal::hang_up` meets its contract. Assumes nothing.
+-- `refusal::hang_up` meets its contract.
 use borrow.Author.Needs.{needs}
 use borrow.Author.Tests.{le-leb, lt-leb}
 use mathlib.Core.Path.{sym, _∙_}

@@ -1,4 +1,4 @@
--- `refusal::open` meets its contract. Assumes nothing.
+-- `refusal::open` meets its contract.
 use borrow.Author.Needs.{needs}
 use borrow.Author.Tests.{le-leb, lt-leb, not-true, not-false}
 use mathlib.Core.Path.{sym, _∙_}

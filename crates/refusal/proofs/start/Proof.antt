@@ -1,4 +1,4 @@
--- `refusal::start` meets its contract. Assumes nothing.
+-- `refusal::start` meets its contract.
 use borrow.Author.Needs.{needs}
 use borrow.Author.Tests.{lt-ltb, le-ltb}
 use mathlib.Core.Path.{_∙_}

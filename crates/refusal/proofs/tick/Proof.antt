@@ -1,4 +1,4 @@
--- `refusal::tick` meets its contract. Assumes nothing.
+-- `refusal::tick` meets its contract.
 use borrow.Author.Needs.{needs}
 use borrow.Author.Tests.{lt-ltb, le-ltb, not-true, not-false}
 use mathlib.Core.Path.{sym, _∙_}

@@ -1,4 +1,4 @@
--- `refusal::tool_record` meets its contract. Assumes nothing.
+-- `refusal::tool_record` meets its contract.
 use borrow.Author.Needs.{needs}
 use mathlib.Core.Path.{sym, _∙_}
 use Rattle.refusal.specs.Numbers.{tool-number}

@@ -1,4 +1,4 @@
--- `region::announce` meets its contract: the data field, and spaces behind it, take the whole place. Assumes nothing.
+-- `region::announce` meets its contract: the data field, and spaces behind it, take the whole place.
 use borrow.Author.Needs.{needs}
 use Rattle.region.proofs.Rulings.{padded-there}
 use Rattle.region.proofs.announce.Statement.{statement}

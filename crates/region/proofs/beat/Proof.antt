@@ -1,5 +1,4 @@
 -- `region::beat` meets its contract. The invariant: what is left to be done to the lanes from a kind on, over what was done, is all of it.
--- Assumes nothing.
 use borrow.Author.Needs.{needs}
 use mathlib.Core.Path.{refl}
 use Prim.Native.Nat.{ℕ, _+_, _-_, _≤_}

@@ -1,4 +1,4 @@
--- `region::carry_out` meets its contract. Assumes nothing.
+-- `region::carry_out` meets its contract.
 use borrow.Author.Needs.{needs}
 use Rattle.region.proofs.Ends.{changed-so, carries-out}
 use Rattle.region.proofs.carry_out.Statement.{statement}

@@ -1,4 +1,4 @@
--- `region::clear_lanes` meets its contract. The invariant: the lanes of the kinds so far are cleared. Assumes nothing.
+-- `region::clear_lanes` meets its contract. The invariant: the lanes of the kinds so far are cleared.
 use borrow.Author.Needs.{needs}
 use mathlib.Core.Path.{ap, _∙_}
 use Prim.Native.Nat.{_+_, _-_, _≤_}

@@ -1,4 +1,4 @@
--- `region::clear_run` meets its contract. Assumes nothing.
+-- `region::clear_run` meets its contract.
 use borrow.Author.Needs.{needs}
 use Rattle.region.proofs.Areas.{run-replaced, run-over}
 use Rattle.region.proofs.clear_run.Statement.{statement}

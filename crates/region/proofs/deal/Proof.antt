@@ -1,4 +1,4 @@
--- `region::deal` meets its contract, by whether there is anything to do. Assumes nothing.
+-- `region::deal` meets its contract, by whether there is anything to do.
 use borrow.Author.Needs.{needs}
 use mathlib.Core.Path.{sym, subst}
 use Rattle.frame.specs.Places.{notice-in}

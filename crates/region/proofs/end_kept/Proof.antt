@@ -1,4 +1,4 @@
--- `region::end_kept` meets its contract. Assumes nothing.
+-- `region::end_kept` meets its contract.
 use borrow.Author.Needs.{needs}
 use mathlib.Core.Path.{refl}
 use mathlib.Core.List.{[]}

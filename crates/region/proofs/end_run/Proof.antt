@@ -1,4 +1,4 @@
--- `region::end_run` meets its contract, by whether the run began in the slice. Assumes nothing.
+-- `region::end_run` meets its contract, by whether the run began in the slice.
 use borrow.Author.Needs.{needs}
 use mathlib.Core.Path.{sym, refl, _∙_}
 use Rattle.region.proofs.Areas.{parts}

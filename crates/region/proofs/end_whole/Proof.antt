@@ -1,4 +1,4 @@
--- `region::end_whole` meets its contract. Assumes nothing.
+-- `region::end_whole` meets its contract.
 use borrow.Author.Needs.{needs}
 use mathlib.Core.Path.{sym, ap, subst, _∙_}
 use mathlib.Core.List.{List}

@@ -1,4 +1,4 @@
--- `region::hang_up` meets its contract. Assumes nothing.
+-- `region::hang_up` meets its contract.
 use borrow.Author.Needs.{needs}
 use mathlib.Core.Path.{ap, _∙_}
 use native.Mathlib.Omega.{arith}

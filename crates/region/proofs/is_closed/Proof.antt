@@ -1,4 +1,4 @@
--- `region::is_closed` meets its contract, by the phase. Assumes nothing.
+-- `region::is_closed` meets its contract, by the phase.
 use borrow.Author.Needs.{needs}
 use mathlib.Core.Path.{_≡_, sym, ap, _∙_}
 use mathlib.Core.List.{List}

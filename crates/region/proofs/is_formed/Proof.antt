@@ -1,4 +1,4 @@
--- `region::is_formed` meets its contract. Assumes nothing.
+-- `region::is_formed` meets its contract.
 use borrow.Author.Needs.{needs}
 use borrow.Author.Tests.{not-true, not-false}
 use mathlib.Core.Path.{sym, _∙_}

@@ -1,4 +1,4 @@
--- `region::lane` meets its contract. Assumes nothing.
+-- `region::lane` meets its contract.
 use borrow.Author.Needs.{needs}
 use Rattle.region.proofs.Areas.{lane-lies, lane-part}
 use Rattle.region.proofs.lane.Statement.{statement}

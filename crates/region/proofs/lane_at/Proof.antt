@@ -1,4 +1,4 @@
--- `region::lane_at` meets its contract, by the kind. Assumes nothing.
+-- `region::lane_at` meets its contract, by the kind.
 use borrow.Author.Needs.{needs}
 use Prim.Native.Nat.{ℕ, zero, suc, _<_}
 use mathlib.Core.Path.{_≡_, refl}

@@ -1,4 +1,4 @@
--- `region::lanes_formed` meets its contract. The invariant: the test of the lanes that are left is the test of all. Assumes nothing.
+-- `region::lanes_formed` meets its contract. The invariant: the test of the lanes that are left is the test of all.
 use borrow.Author.Needs.{needs}
 use borrow.Author.Tests.{not-true, not-false}
 use mathlib.Core.Path.{refl, sym, ap, _∙_}

@@ -1,4 +1,4 @@
--- `region::lengthen` meets its contract. Assumes nothing.
+-- `region::lengthen` meets its contract.
 use borrow.Author.Needs.{needs}
 use Rattle.region.proofs.Areas.{parts, run-replaced}
 use Rattle.region.proofs.lengthen.Statement.{statement}

@@ -1,4 +1,4 @@
--- `region::let_go` meets its contract, by whether it begins. Assumes nothing.
+-- `region::let_go` meets its contract, by whether it begins.
 use borrow.Author.Needs.{needs}
 use borrow.Author.Tests.{not-true, not-false}
 use Rattle.region.proofs.Ends.{unchanged, lanes-cleared}

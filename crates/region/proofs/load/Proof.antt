@@ -1,4 +1,4 @@
--- `region::load` meets its contract. Assumes nothing.
+-- `region::load` meets its contract.
 use borrow.Author.Needs.{needs}
 use mathlib.Core.Path.{sym, subst}
 use Rattle.head.specs.Head.{Storable}

@@ -1,4 +1,4 @@
--- `region::rule` meets its contract, by whether an identifier is made known. Assumes nothing.
+-- `region::rule` meets its contract, by whether an identifier is made known.
 use borrow.Author.Needs.{needs}
 use Rattle.region.proofs.Rulings.{data-few, ruled-silent, ruled-known}
 use Rattle.region.proofs.rule.Statement.{statement}

@@ -1,4 +1,4 @@
--- `region::rule_kept` meets its contract. Assumes nothing.
+-- `region::rule_kept` meets its contract.
 use borrow.Author.Needs.{needs}
 use mathlib.Core.Path.{sym, subst}
 use mathlib.Core.List.{List}

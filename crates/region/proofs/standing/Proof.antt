@@ -1,4 +1,4 @@
--- `region::standing` meets its contract. Assumes nothing.
+-- `region::standing` meets its contract.
 use borrow.Author.Needs.{needs}
 use Rattle.region.proofs.Walks.{stands-so}
 use Rattle.region.proofs.standing.Statement.{statement}

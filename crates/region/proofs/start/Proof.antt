@@ -1,4 +1,4 @@
--- `region::start` meets its contract: a phase, an empty run and cleared lanes make it well formed. Assumes nothing.
+-- `region::start` meets its contract: a phase, an empty run and cleared lanes make it well formed.
 use borrow.Author.Needs.{needs}
 use borrow.Rule.Slice.PartMut.{mid-len}
 use mathlib.Core.Path.{_∙_}

@@ -1,4 +1,4 @@
--- `region::store` meets its contract. Assumes nothing.
+-- `region::store` meets its contract.
 use borrow.Author.Needs.{needs}
 use Rattle.region.proofs.Areas.{head-replaced}
 use Rattle.region.proofs.store.Statement.{statement}

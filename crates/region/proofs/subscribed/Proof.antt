@@ -1,4 +1,4 @@
--- `region::subscribed` meets its contract. The invariant: what is told so far, and what is left to tell, is all of it. Assumes nothing.
+-- `region::subscribed` meets its contract. The invariant: what is told so far, and what is left to tell, is all of it.
 use borrow.Author.Needs.{needs}
 use mathlib.Core.Path.{refl, ap, _∙_}
 use native.Mathlib.Omega.{arith}

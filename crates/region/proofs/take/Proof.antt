@@ -1,4 +1,4 @@
--- `region::take` meets its contract, by the phase. Assumes nothing.
+-- `region::take` meets its contract, by the phase.
 use borrow.Author.Needs.{needs}
 use mathlib.Core.Path.{ap, _∙_}
 use Rattle.model.specs.Kinds.{room-of}

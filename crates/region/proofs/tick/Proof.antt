@@ -1,4 +1,4 @@
--- `region::tick` meets its contract, by what becomes of the idle count. Assumes nothing.
+-- `region::tick` meets its contract, by what becomes of the idle count.
 use borrow.Author.Needs.{needs}
 use mathlib.Core.Path.{sym, subst, _∙_}
 use native.Mathlib.Omega.{arith}

@@ -1,4 +1,4 @@
--- `region::tick_stays` meets its contract, by the phase. Assumes nothing.
+-- `region::tick_stays` meets its contract, by the phase.
 use borrow.Author.Needs.{needs}
 use Rattle.region.proofs.Ticks.{unlike-closed, unlike-opened, stays-quiet, stays-started}
 use Rattle.region.proofs.tick_stays.Statement.{statement}

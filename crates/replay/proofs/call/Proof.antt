@@ -1,4 +1,4 @@
--- `replay::call` meets its contract. Assumes nothing.
+-- `replay::call` meets its contract.
 use borrow.Author.Needs.{needs}
 use mathlib.Core.Path.{sym, _∙_}
 use Rattle.model.specs.Program.{open-kind, hang-up-kind}

@@ -1,5 +1,5 @@
 -- `replay::feed` meets its contract. The invariant: what is left is still to be handed on, and what was is the calls of the model's
--- program so far. Assumes nothing.
+-- program so far.
 use borrow.Author.Needs.{needs}
 use mathlib.Core.Path.{_≡_, refl, _∙_}
 use mathlib.Core.Bool.{cond}

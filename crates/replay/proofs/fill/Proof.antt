@@ -1,4 +1,4 @@
--- `replay::fill` meets its contract: it is lent what stands behind the bytes that wait. Assumes nothing.
+-- `replay::fill` meets its contract: it is lent what stands behind the bytes that wait.
 use borrow.Author.Needs.{needs}
 use borrow.Rule.Slice.PartMut.{take-put}
 use Prim.Native.Nat.{_-_}

@@ -1,4 +1,4 @@
--- `replay::flush` is safe and ends. Assumes nothing.
+-- `replay::flush` is safe and ends.
 use borrow.Author.Needs.{needs}
 use mathlib.Core.Path.{sym}
 use lib.Seq.{length-take-le}

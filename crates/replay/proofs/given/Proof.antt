@@ -1,4 +1,4 @@
--- `replay::given` meets its contract. Assumes nothing.
+-- `replay::given` meets its contract.
 use borrow.Author.Needs.{needs}
 use mathlib.Core.Path.{sym, _∙_}
 use Prim.Native.Nat.{_-_}

@@ -1,4 +1,4 @@
--- `replay::is_too_long` meets its contract. Assumes nothing.
+-- `replay::is_too_long` meets its contract.
 use borrow.Author.Needs.{needs}
 use Rattle.replay.proofs.Sizes.{is-short, is-long}
 use Rattle.replay.proofs.is_too_long.Statement.{statement}

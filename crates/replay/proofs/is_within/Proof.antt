@@ -1,4 +1,4 @@
--- `replay::is_within` meets its contract. Assumes nothing.
+-- `replay::is_within` meets its contract.
 use borrow.Author.Tests.{le-leb, lt-leb}
 use Rattle.replay.proofs.is_within.Statement.{statement}
 use Rattle.replay.proofs.is_within.Tie as tie

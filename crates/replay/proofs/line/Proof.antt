@@ -1,4 +1,4 @@
--- `replay::line` meets its contract. Assumes nothing.
+-- `replay::line` meets its contract.
 use borrow.Author.Needs.{needs}
 use mathlib.Core.Path.{_≡_, ap, _∙_}
 use Prim.Native.Nat.{ℕ, suc, _+_, _-_, _<_}

@@ -1,4 +1,4 @@
--- `replay::main` is safe and ends. Assumes nothing.
+-- `replay::main` is safe and ends.
 use borrow.Author.Needs.{needs}
 use native.Mathlib.Omega.{arith}
 use Rattle.replay.proofs.main.Statement.{statement}

@@ -1,4 +1,4 @@
--- `replay::print` meets its contract. Assumes nothing.
+-- `replay::print` meets its contract.
 use borrow.Author.Needs.{needs}
 use native.Mathlib.Omega.{arith}
 use Rattle.replay.proofs.Follows.{behind-put}

@@ -1,4 +1,4 @@
--- `replay::room` meets its contract. Assumes nothing.
+-- `replay::room` meets its contract.
 use borrow.Author.Needs.{needs}
 use native.Mathlib.Omega.{arith}
 use lib.ListN.{length}

@@ -1,5 +1,4 @@
 -- `replay::run` meets its contract. The invariant: what was read so far was served, and what waits stands at the input's front.
--- Assumes nothing.
 use mathlib.Core.Path.{_≡_, refl, sym, _∙_}
 use mathlib.Core.List.{[]}
 use Prim.Native.Nat.{_≤_}

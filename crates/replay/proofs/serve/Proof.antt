@@ -1,5 +1,5 @@
 -- `replay::serve` meets its contract. The invariant: what is left is still to be served, and what was is the records of the model's
--- program so far. Assumes nothing.
+-- program so far.
 use borrow.Author.Needs.{needs}
 use mathlib.Core.Path.{_≡_, refl, sym, ap, _∙_}
 use mathlib.Core.Bool.{not}

@@ -1,4 +1,4 @@
--- `replay::serve_and_move` meets its contract. Assumes nothing.
+-- `replay::serve_and_move` meets its contract.
 use borrow.Author.Needs.{needs}
 use mathlib.Core.Path.{sym}
 use native.Mathlib.Omega.{arith}

@@ -1,5 +1,4 @@
 -- `replay::show` meets its contract. The invariant: the lines that are left over what is there are all of them over what was there.
--- Assumes nothing.
 use borrow.Author.Needs.{needs}
 use mathlib.Core.Path.{_≡_, sym, ap}
 use mathlib.Core.List.{List}

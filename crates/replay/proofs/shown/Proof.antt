@@ -1,4 +1,4 @@
--- `replay::shown` meets its contract. The invariant is that of `text::copy`. Assumes nothing.
+-- `replay::shown` meets its contract. The invariant is that of `text::copy`.
 use borrow.Author.Needs.{needs}
 use Rattle.text.proofs.Puts.{Left, left-all, left-set, left-as, left-none}
 use mathlib.Core.Path.{ap}

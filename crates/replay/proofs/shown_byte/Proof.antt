@@ -1,4 +1,4 @@
--- `replay::shown_byte` meets its contract. Assumes nothing.
+-- `replay::shown_byte` meets its contract.
 use borrow.Author.Tests.{eq-eqb, ne-eqb}
 use Rattle.replay.proofs.shown_byte.Statement.{statement}
 use Rattle.replay.proofs.shown_byte.Tie as tie

@@ -1,4 +1,4 @@
--- `replay::tell` meets its contract. Assumes nothing.
+-- `replay::tell` meets its contract.
 use borrow.Author.Needs.{needs}
 use mathlib.Core.Path.{sym}
 use native.Mathlib.Omega.{arith}

@@ -1,4 +1,4 @@
--- `replay::turn` meets its contract. Assumes nothing.
+-- `replay::turn` meets its contract.
 use borrow.Author.Needs.{needs}
 use native.Mathlib.Omega.{arith}
 use Rattle.replay.proofs.Input.{turned-none, turned-served}

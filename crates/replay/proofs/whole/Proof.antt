@@ -1,4 +1,4 @@
--- `replay::whole` meets its contract. Assumes nothing.
+-- `replay::whole` meets its contract.
 use borrow.Author.Needs.{needs}
 use native.Mathlib.Omega.{arith}
 use Rattle.replay.proofs.Sizes.{size-cut, size-too-long, size-missing, size-whole}

@@ -1,4 +1,4 @@
--- `run::clear` meets its contract. Assumes nothing.
+-- `run::clear` meets its contract.
 use borrow.Author.Needs.{needs}
 use Rattle.run.proofs.Areas.{cleared}
 use Rattle.run.proofs.clear.Statement.{statement}

@@ -1,4 +1,4 @@
--- `run::consumed` meets its contract. Assumes nothing.
+-- `run::consumed` meets its contract.
 use borrow.Author.Needs.{needs}
 use Rattle.run.proofs.Pieces.{with-NUL, without-NUL}
 use Rattle.run.proofs.consumed.Statement.{statement}

@@ -1,4 +1,4 @@
--- `run::count` meets its contract. Assumes nothing.
+-- `run::count` meets its contract.
 use borrow.Author.Needs.{needs}
 use Rattle.run.proofs.Areas.{count-is}
 use Rattle.run.proofs.count.Statement.{statement}

@@ -1,4 +1,4 @@
--- `run::ends_at` meets its contract. The invariant: nothing that was passed is a NUL. Assumes nothing.
+-- `run::ends_at` meets its contract. The invariant: nothing that was passed is a NUL.
 use borrow.Author.Needs.{needs}
 use native.Mathlib.Omega.{arith}
 use Prim.Native.Nat.{_-_}

@@ -1,4 +1,4 @@
--- `run::kept` meets its contract. Assumes nothing.
+-- `run::kept` meets its contract.
 use borrow.Author.Needs.{needs}
 use Rattle.run.proofs.Areas.{kept-is}
 use Rattle.run.proofs.kept.Statement.{statement}

@@ -1,4 +1,4 @@
--- `run::kept_of` meets its contract. Assumes nothing.
+-- `run::kept_of` meets its contract.
 use borrow.Author.Needs.{needs}
 use mathlib.Core.Path.{_∙_, ap}
 use Prim.Native.Nat.{ℕ}

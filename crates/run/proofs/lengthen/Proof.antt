@@ -1,4 +1,4 @@
--- `run::lengthen` meets its contract. Assumes nothing.
+-- `run::lengthen` meets its contract.
 use borrow.Author.Needs.{needs}
 use native.Mathlib.Nat.{sub-zero}
 use Rattle.run.proofs.Areas.{lengthened}

@@ -1,4 +1,4 @@
--- `run::may_end` meets its contract. The invariant: as long as the lowest byte is no NUL, nothing that was passed is one. Assumes nothing.
+-- `run::may_end` meets its contract. The invariant: as long as the lowest byte is no NUL, nothing that was passed is one.
 use borrow.Author.Needs.{needs}
 use borrow.Author.Tests.{eqb-false}
 use mathlib.Core.Path.{_≡_, subst}

@@ -1,4 +1,4 @@
--- `run::past_blocks` meets its contract. The invariant: nothing that was passed is a NUL. Assumes nothing.
+-- `run::past_blocks` meets its contract. The invariant: nothing that was passed is a NUL.
 use borrow.Author.Needs.{needs}
 use Prim.Native.Nat.{_-_}
 use lib.ListN.{length}

@@ -1,4 +1,4 @@
--- `serifladder::give` meets its contract. Assumes nothing.
+-- `serifladder::give` meets its contract.
 use borrow.Author.Needs.{needs}
 use mathlib.Core.Path.{refl}
 use Rattle.text.proofs.Puts.{put-then}

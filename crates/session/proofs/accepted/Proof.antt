@@ -1,4 +1,4 @@
--- `session::accepted` meets its contract. Assumes nothing.
+-- `session::accepted` meets its contract.
 use borrow.Author.Needs.{needs}
 use mathlib.Core.Path.{_∙_}
 use Rattle.session.proofs.accepted.Statement.{statement}

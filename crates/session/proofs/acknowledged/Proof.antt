@@ -1,4 +1,4 @@
--- `session::acknowledged` meets its contract. Assumes nothing.
+-- `session::acknowledged` meets its contract.
 use borrow.Author.Needs.{needs}
 use mathlib.Core.Path.{_∙_}
 use Rattle.session.specs.Control.{acknowledged}

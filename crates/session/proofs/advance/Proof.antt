@@ -1,6 +1,6 @@
 -- `session::advance` meets its contract, by a walk of its MIR: the borrow is opened and the ticks are read, `beat_of` says the beat, what
 -- `ticks_after` makes of it is stored, `due_after` gives the answer, and the borrow is closed at the new clock. Of the three callees it
--- knows their contracts alone. Assumes nothing.
+-- knows their contracts alone.
 use mathlib.Core.Path.{_≡_, refl, ap, _∙_}
 use Prim.Native.Nat.{ℕ}
 use mathlib.Core.List.{[], _∷_, List}

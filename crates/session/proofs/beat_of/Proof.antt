@@ -1,4 +1,4 @@
--- `session::beat_of` meets its contract. Assumes nothing.
+-- `session::beat_of` meets its contract.
 use borrow.Author.Needs.{needs}
 use Rattle.session.specs.Control.{beat-at}
 use Rattle.session.proofs.Tests.{at-limit, below-limit}

@@ -1,6 +1,6 @@
 -- `session::beaten` meets its contract, by a walk of its MIR: a clock is made of the subscription's and lent to `advance` for a lifetime
 -- made for that call; when that has ended it is back, advanced, and `done_at` is told where it came to. Of the two callees it knows their
--- contracts alone. Assumes nothing.
+-- contracts alone.
 use mathlib.Core.Path.{_≡_, refl, _∙_}
 use Prim.Native.Nat.{ℕ, _<_, _^_}
 use mathlib.Core.List.{[], _∷_}

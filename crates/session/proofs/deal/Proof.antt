@@ -1,4 +1,4 @@
--- `session::deal` meets its contract. Assumes nothing.
+-- `session::deal` meets its contract.
 use borrow.Author.Needs.{needs}
 use Rattle.session.proofs.deal.Statement.{statement}
 use Rattle.session.proofs.deal.Tie as tie

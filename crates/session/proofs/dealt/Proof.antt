@@ -1,4 +1,4 @@
--- `session::dealt` meets its contract, by the deed. Assumes nothing.
+-- `session::dealt` meets its contract, by the deed.
 use borrow.Author.Needs.{needs}
 use mathlib.Core.Path.{_∙_}
 use Rattle.session.proofs.dealt.Statement.{statement}

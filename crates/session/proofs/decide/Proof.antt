@@ -1,5 +1,5 @@
 -- `session::decide` meets its contract, by a walk of its MIR: what `read_header` answers is held in a local, and taken apart for
--- `decide_read`. Of the two callees it knows their contracts alone. Assumes nothing.
+-- `decide_read`. Of the two callees it knows their contracts alone.
 use mathlib.Core.Path.{_≡_, refl, ap, _∙_}
 use Prim.Native.Nat.{ℕ, _<_, _^_}
 use mathlib.Core.List.{List, [], _∷_}

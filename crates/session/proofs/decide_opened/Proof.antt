@@ -1,4 +1,4 @@
--- `session::decide_opened` meets its contract. Assumes nothing.
+-- `session::decide_opened` meets its contract.
 use borrow.Author.Needs.{needs}
 use mathlib.Core.Path.{sym, _∙_}
 use borrow.Author.Tests.{ne-eqb}

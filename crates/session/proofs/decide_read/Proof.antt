@@ -1,4 +1,4 @@
--- `session::decide_read` meets its contract. Assumes nothing.
+-- `session::decide_read` meets its contract.
 use borrow.Author.Needs.{needs}
 use mathlib.Core.Path.{_∙_}
 use Rattle.session.specs.Decisions.{decision}

@@ -1,4 +1,4 @@
--- `session::decide_started` meets its contract. Assumes nothing.
+-- `session::decide_started` meets its contract.
 use borrow.Author.Needs.{needs}
 use mathlib.Core.Path.{sym, _∙_}
 use Rattle.session.proofs.decide_started.Statement.{statement}

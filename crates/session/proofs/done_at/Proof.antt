@@ -1,4 +1,4 @@
--- `session::done_at` meets its contract. Assumes nothing.
+-- `session::done_at` meets its contract.
 use borrow.Author.Needs.{needs}
 use Rattle.session.proofs.done_at.Statement.{statement}
 use Rattle.session.proofs.done_at.Tie as tie

@@ -1,4 +1,4 @@
--- `session::identify` meets its contract. Assumes nothing.
+-- `session::identify` meets its contract.
 use borrow.Author.Needs.{needs}
 use Rattle.session.proofs.identify.Statement.{statement}
 use Rattle.session.proofs.identify.Tie as tie

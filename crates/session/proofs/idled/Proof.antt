@@ -1,4 +1,4 @@
--- `session::idled` meets its contract. Assumes nothing.
+-- `session::idled` meets its contract.
 use borrow.Author.Needs.{needs}
 use mathlib.Core.Path.{_∙_}
 use Rattle.session.specs.Control.{idled}

@@ -1,4 +1,4 @@
--- `session::idled_open` meets its contract. Assumes nothing.
+-- `session::idled_open` meets its contract.
 use borrow.Author.Needs.{needs}
 use Rattle.session.proofs.Tests.{at-limit, below-limit}
 use Rattle.session.proofs.idled_open.Statement.{statement}

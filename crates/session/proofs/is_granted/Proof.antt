@@ -1,4 +1,4 @@
--- `session::is_granted` meets its contract. Assumes nothing.
+-- `session::is_granted` meets its contract.
 use borrow.Author.Needs.{needs}
 use mathlib.Core.Path.{ap}
 use Prim.Native.Nat.{ℕ}

@@ -1,4 +1,4 @@
--- `session::next_one` meets its contract. Assumes nothing.
+-- `session::next_one` meets its contract.
 use borrow.Author.Needs.{needs}
 use borrow.Author.Tests.{eq-eqb, ne-eqb}
 use Rattle.session.proofs.next_one.Statement.{statement}

@@ -1,4 +1,4 @@
--- `session::put_reply` meets its contract, by the reply. Assumes nothing.
+-- `session::put_reply` meets its contract, by the reply.
 use borrow.Author.Needs.{needs}
 use mathlib.Core.Path.{refl}
 use native.Mathlib.Omega.{arith}

@@ -1,4 +1,4 @@
--- `session::refused` meets its contract. Assumes nothing.
+-- `session::refused` meets its contract.
 use borrow.Author.Needs.{needs}
 use mathlib.Core.Path.{sym, _∙_}
 use Rattle.session.proofs.refused.Statement.{statement}

@@ -1,4 +1,4 @@
--- `session::start` meets its contract. Assumes nothing.
+-- `session::start` meets its contract.
 use borrow.Author.Needs.{needs}
 use Rattle.session.proofs.start.Statement.{statement}
 use Rattle.session.proofs.start.Tie as tie

@@ -1,4 +1,4 @@
--- `session::subscribed` meets its contract. Assumes nothing.
+-- `session::subscribed` meets its contract.
 use borrow.Author.Needs.{needs}
 use Rattle.session.proofs.subscribed.Statement.{statement}
 use Rattle.session.proofs.subscribed.Tie as tie

@@ -1,4 +1,4 @@
--- `session::ticked` meets its contract. Assumes nothing.
+-- `session::ticked` meets its contract.
 use borrow.Author.Needs.{needs}
 use mathlib.Core.Path.{_∙_}
 use borrow.Author.Tests.{eq-eqb, ne-eqb}

@@ -1,4 +1,4 @@
--- `shared::in_force` meets its contract. Assumes nothing.
+-- `shared::in_force` meets its contract.
 use borrow.Author.Needs.{needs}
 use mathlib.Core.Path.{refl}
 use Rattle.shared.specs.Shared.{in-force-of}

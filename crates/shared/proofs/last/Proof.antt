@@ -1,4 +1,4 @@
--- `shared::last` meets its contract. Assumes nothing.
+-- `shared::last` meets its contract.
 use borrow.Author.Needs.{needs}
 use native.Mathlib.Omega.{arith}
 use Rattle.shared.specs.Shared.{last-of}

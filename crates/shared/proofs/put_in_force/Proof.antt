@@ -1,4 +1,4 @@
--- `shared::put_in_force` meets its contract. Assumes nothing.
+-- `shared::put_in_force` meets its contract.
 use borrow.Author.Needs.{needs}
 use Rattle.shared.proofs.Areas.{force-put}
 use Rattle.shared.proofs.put_in_force.Statement.{statement}

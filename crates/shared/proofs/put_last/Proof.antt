@@ -1,4 +1,4 @@
--- `shared::put_last` meets its contract. Assumes nothing.
+-- `shared::put_last` meets its contract.
 use borrow.Author.Needs.{needs}
 use Rattle.shared.proofs.Areas.{last-put}
 use Rattle.shared.proofs.put_last.Statement.{statement}

@@ -1,4 +1,4 @@
--- `shared::settings` meets its contract. Assumes nothing.
+-- `shared::settings` meets its contract.
 use borrow.Author.Needs.{needs}
 use mathlib.Core.Path.{refl}
 use Rattle.shared.specs.Shared.{settings-part}

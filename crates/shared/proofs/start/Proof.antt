@@ -1,4 +1,4 @@
--- `shared::start` meets its contract. Assumes nothing.
+-- `shared::start` meets its contract.
 use borrow.Author.Needs.{needs}
 use native.Mathlib.Omega.{arith}
 use Rattle.shared.proofs.Areas.{started}

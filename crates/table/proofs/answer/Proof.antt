@@ -1,4 +1,4 @@
--- `table::answer` meets its contract. Assumes nothing.
+-- `table::answer` meets its contract.
 use borrow.Author.Needs.{needs}
 use mathlib.Core.Path.{ap, _∙_}
 use lib.ListN.{length}

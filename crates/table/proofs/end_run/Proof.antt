@@ -1,4 +1,4 @@
--- `table::end_run` meets its contract, by whether an identifier is made known. Assumes nothing.
+-- `table::end_run` meets its contract, by whether an identifier is made known.
 use borrow.Author.Needs.{needs}
 use mathlib.Core.Path.{refl}
 use native.Mathlib.Omega.{arith}

@@ -1,4 +1,4 @@
--- `table::hang_up` meets its contract. Assumes nothing.
+-- `table::hang_up` meets its contract.
 use borrow.Author.Needs.{needs}
 use Rattle.model.specs.Local.{hang-up}
 use Rattle.table.proofs.Regions.{part-good}

@@ -1,4 +1,4 @@
--- `table::happens` meets its contract. Assumes nothing.
+-- `table::happens` meets its contract.
 use borrow.Author.Needs.{needs}
 use Rattle.model.specs.World.{World}
 use Rattle.frame.specs.Places.{event-in}

@@ -1,4 +1,4 @@
--- `table::hear` meets its contract. Assumes nothing.
+-- `table::hear` meets its contract.
 use borrow.Author.Needs.{needs}
 use mathlib.Core.Path.{sym, ap, _∙_}
 use Rattle.model.specs.Records.{settings-of}

@@ -1,4 +1,4 @@
--- `table::in_force` meets its contract. Assumes nothing.
+-- `table::in_force` meets its contract.
 use borrow.Author.Needs.{needs}
 use mathlib.Core.Path.{ap, _∙_}
 use lib.ListN.{length}

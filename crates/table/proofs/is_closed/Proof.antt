@@ -1,4 +1,4 @@
--- `table::is_closed` meets its contract. Assumes nothing.
+-- `table::is_closed` meets its contract.
 use borrow.Author.Needs.{needs}
 use mathlib.Core.Path.{sym, ap, subst, _∙_}
 use Rattle.model.specs.Session.{is-closed}

@@ -1,4 +1,4 @@
--- `table::last` meets its contract. Assumes nothing.
+-- `table::last` meets its contract.
 use borrow.Author.Needs.{needs}
 use Rattle.table.specs.Table.{decode}
 use Rattle.table.proofs.last.Statement.{statement}

@@ -1,4 +1,4 @@
--- `table::lengthen` meets its contract. Assumes nothing.
+-- `table::lengthen` meets its contract.
 use borrow.Author.Needs.{needs}
 use Rattle.table.proofs.Regions.{part-good}
 use Rattle.table.proofs.Receives.{lengthened}

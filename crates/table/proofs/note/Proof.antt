@@ -1,4 +1,4 @@
--- `table::note` meets its contract, by the kind. Assumes nothing.
+-- `table::note` meets its contract, by the kind.
 use borrow.Author.Needs.{needs}
 use mathlib.Core.Path.{_≡_, ap, _∙_}
 use native.Mathlib.Omega.{arith}

@@ -1,4 +1,4 @@
--- `table::open` meets its contract. Assumes nothing.
+-- `table::open` meets its contract.
 use borrow.Author.Needs.{needs}
 use mathlib.Core.Path.{sym, ap, _∙_}
 use Rattle.model.specs.Session.{is-closed}

@@ -1,4 +1,4 @@
--- `table::put_copy` meets its contract. Assumes nothing.
+-- `table::put_copy` meets its contract.
 use borrow.Author.Needs.{needs}
 use mathlib.Core.Path.{ap, _∙_}
 use native.Mathlib.Omega.{arith}

@@ -1,4 +1,4 @@
--- `table::receive` meets its contract, by whether a run ends. Assumes nothing.
+-- `table::receive` meets its contract, by whether a run ends.
 use borrow.Author.Needs.{needs}
 use Rattle.table.proofs.Receives.{piece-is, goes-on-so}
 use Rattle.table.proofs.receive.Statement.{statement}

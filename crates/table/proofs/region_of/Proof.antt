@@ -1,4 +1,4 @@
--- `table::region_of` meets its contract. Assumes nothing.
+-- `table::region_of` meets its contract.
 use borrow.Author.Needs.{needs}
 use Rattle.table.proofs.Regions.{part-in}
 use Rattle.table.proofs.region_of.Statement.{statement}

@@ -1,4 +1,4 @@
--- `table::say` meets its contract. The invariant: what is left to say, over what was said, is all of it. Assumes nothing.
+-- `table::say` meets its contract. The invariant: what is left to say, over what was said, is all of it.
 use borrow.Author.Needs.{needs}
 use Prim.Native.Nat.{_-_}
 use lib.ListN.{length}

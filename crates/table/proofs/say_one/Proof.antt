@@ -1,4 +1,4 @@
--- `table::say_one` meets its contract, by whether a copy is due. Assumes nothing.
+-- `table::say_one` meets its contract, by whether a copy is due.
 use borrow.Author.Needs.{needs}
 use borrow.Author.Tests.{not-true, not-false}
 use native.Mathlib.Omega.{arith}

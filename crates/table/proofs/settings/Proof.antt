@@ -1,4 +1,4 @@
--- `table::settings` meets its contract. Assumes nothing.
+-- `table::settings` meets its contract.
 use borrow.Author.Needs.{needs}
 use mathlib.Core.Path.{ap, _∙_}
 use lib.ListN.{length}

@@ -1,4 +1,4 @@
--- `table::start` meets its contract. The invariant: the sessions so far are closed. Assumes nothing.
+-- `table::start` meets its contract. The invariant: the sessions so far are closed.
 use borrow.Author.Needs.{needs}
 use Prim.Native.Nat.{_-_}
 use Rattle.model.specs.Limits.{session-count}

@@ -1,5 +1,5 @@
 -- `table::tell` meets its contract. The invariant: what the sessions come to that are left is what all come to, and what is left to add
--- up of those that take the event. Assumes nothing.
+-- up of those that take the event.
 use borrow.Author.Needs.{needs}
 use mathlib.Core.Path.{refl}
 use Prim.Native.Nat.{_-_}

@@ -1,4 +1,4 @@
--- `table::tell_session` meets its contract, by whether it is sent. Assumes nothing.
+-- `table::tell_session` meets its contract, by whether it is sent.
 use borrow.Author.Needs.{needs}
 use native.Mathlib.Omega.{arith}
 use Rattle.text.proofs.Puts.{put-nothing}

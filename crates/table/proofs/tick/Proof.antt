@@ -1,5 +1,4 @@
 -- `table::tick` meets its contract. The invariant: what the sessions come to that are left is what all come to, and the room that is left.
--- Assumes nothing.
 use borrow.Author.Needs.{needs}
 use Prim.Native.Nat.{_-_}
 use Rattle.model.specs.Limits.{session-count}

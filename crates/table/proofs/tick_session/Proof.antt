@@ -1,4 +1,4 @@
--- `table::tick_session` meets its contract, by whether it times out. Assumes nothing.
+-- `table::tick_session` meets its contract, by whether it times out.
 use borrow.Author.Needs.{needs}
 use mathlib.Core.Path.{sym}
 use mathlib.Core.List.{append-nil}

@@ -1,4 +1,4 @@
--- `text::all_within` meets its contract. The invariant: the test of the bytes that are left is the test of all. Assumes nothing.
+-- `text::all_within` meets its contract. The invariant: the test of the bytes that are left is the test of all.
 use borrow.Author.Needs.{needs}
 use borrow.Author.Tests.{le-leb, lt-leb}
 use mathlib.Core.Path.{_≡_, refl, sym, _∙_}

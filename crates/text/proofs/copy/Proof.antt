@@ -1,5 +1,4 @@
 -- `text::copy` meets its contract. The invariant: the bytes that are left, over what is there, are all of them over what was there.
--- Assumes nothing.
 use borrow.Author.Needs.{needs}
 use Rattle.text.proofs.Puts.{Left, left-all, left-set, left-as, left-none}
 use Prim.Native.Nat.{_+_, _-_, _≤_}

@@ -1,4 +1,4 @@
--- `text::decimal` meets its contract. The invariant: n and the digits that are left give the number. Assumes nothing.
+-- `text::decimal` meets its contract. The invariant: n and the digits that are left give the number.
 use borrow.Author.Needs.{needs}
 use borrow.Author.Tests.{leb-true}
 use mathlib.Core.Path.{_≡_, refl, sym, ap, _∙_}

@@ -1,4 +1,4 @@
--- `text::is_digit` meets its contract. Assumes nothing.
+-- `text::is_digit` meets its contract.
 use borrow.Author.Tests.{le-leb, lt-leb}
 use Rattle.text.proofs.is_digit.Statement.{statement}
 use Rattle.text.proofs.is_digit.Tie as tie

@@ -1,4 +1,4 @@
--- `text::is_spaces` meets its contract: a space is what is least and greatest at once. Assumes nothing.
+-- `text::is_spaces` meets its contract: a space is what is least and greatest at once.
 use borrow.Author.Needs.{needs}
 use mathlib.Core.Path.{_∙_}
 use Rattle.model.specs.Bytes.{within, is-space}

@@ -1,4 +1,4 @@
--- `text::little` meets its contract. The invariant: n is the number of the bytes from i on, which are few enough. Assumes nothing.
+-- `text::little` meets its contract. The invariant: n is the number of the bytes from i on, which are few enough.
 use borrow.Author.Needs.{needs}
 use mathlib.Core.Path.{_≡_, sym, ap, _∙_}
 use Prim.Native.Nat.{ℕ, suc, _+_, _-_, _*_, _^_, _≤_, _<_}

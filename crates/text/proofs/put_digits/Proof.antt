@@ -1,5 +1,4 @@
 -- `text::put_digits` meets its contract. It writes from the last digit to the first; the invariant is that of `copy`, backwards.
--- Assumes nothing.
 use borrow.Author.Needs.{needs}
 use mathlib.Core.Path.{_≡_, refl, ap}
 use Prim.Native.Nat.{ℕ, _+_, _-_, _/_, _%_, _≤_}

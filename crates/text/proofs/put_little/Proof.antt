@@ -1,4 +1,4 @@
--- `text::put_little` meets its contract, as `copy` does. Assumes nothing.
+-- `text::put_little` meets its contract, as `copy` does.
 use borrow.Author.Needs.{needs}
 use Rattle.text.proofs.Puts.{Left, left-all, left-set, left-as, left-none}
 use mathlib.Core.Path.{_≡_, refl, ap}

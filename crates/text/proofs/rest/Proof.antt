@@ -1,4 +1,4 @@
--- `text::rest` meets its contract: behind the end there is nothing. Assumes nothing.
+-- `text::rest` meets its contract: behind the end there is nothing.
 use borrow.Author.Needs.{needs}
 use mathlib.Core.Path.{sym}
 use Prim.Native.Nat.{_-_}

@@ -1,4 +1,4 @@
--- `text::shift` meets its contract. Assumes nothing.
+-- `text::shift` meets its contract.
 use borrow.Author.Needs.{needs}
 use mathlib.Core.Path.{_≡_, refl, sym, ap, _∙_}
 use Prim.Native.Nat.{ℕ, _+_, _-_}
