@@ -24,7 +24,7 @@ use Rattle.frame.specs.declared.Frame.{Frame}
 use Rattle.frame.specs.declared.To.{To}
 use Rattle.frame.specs.Places.{place-items, place-size, result-of, event-in}
 use Rattle.frame.specs.Layout.{placed, Payloads, data-in, served, all-served}
-use Rattle.frame.specs.Output.{Wrote, frame-length, frame-of, reply-of, record-length, Sendable}
+use Rattle.frame.specs.Output.{Written, frame-length, frame-of, reply-of, record-length, Sendable}
 
 -- ==== a frame in its output record
 
@@ -50,11 +50,11 @@ framed s mid revision byte-12 n d e =
 
 -- the data is written first, then the record's head, the header and the NUL
 pub wrote-frame : {o o₁ o₂ o₃ o₄ d : List ℕ} {at n end r₁ r₂ r₃ : ℕ} (s mid revision byte-12 : ℕ)
-    → Wrote o (at + record-head + header-length) n d end o₁
-    → Wrote o₁ at record-head (in-bytes 2 (end - (at + record-head) + 1) ++ in-bytes 2 (frame-kind s)) r₁ o₂
-    → Wrote o₂ (at + record-head) header-length (header (end - (at + record-head)) mid revision byte-12) r₂ o₃
+    → Written o (at + record-head + header-length) n d end o₁
+    → Written o₁ at record-head (in-bytes 2 (end - (at + record-head) + 1) ++ in-bytes 2 (frame-kind s)) r₁ o₂
+    → Written o₂ (at + record-head) header-length (header (end - (at + record-head)) mid revision byte-12) r₂ o₃
     → (r₃ ≡ end + 1) × Put o₃ end (in-bytes 1 0) r₃ o₄
-    → Wrote o at (record-length (header-length + n)) (frame-record s (frame mid revision byte-12 d)) r₃ o₄
+    → Written o at (record-length (header-length + n)) (frame-record s (frame mid revision byte-12 d)) r₃ o₄
 wrote-frame {o₂ = o₂} {o₃ = o₃} {d = d} {at = at} {n = n} {end = end} {r₂ = r₂} s mid revision byte-12 a b c e =
     let p = a .place in
     let q = a .put .place in
@@ -94,7 +94,7 @@ module _ {f g : Frame} (e : f ≡ g) (b : Payloads) where
   sendable {o} {to} h = subst (λ (x : Frame). Sendable o to x b) (sym e) h
 
   pub sent : {o o′ : List ℕ} {at r : ℕ} (s : ℕ) (bytes : List ℕ) → frame-of g b ≡ bytes
-      → Wrote o at (record-length (frame-length (f .content))) (frame-record s (frame-of f b)) r o′
+      → Written o at (record-length (frame-length (f .content))) (frame-record s (frame-of f b)) r o′
       → (r ≡ at + record-length (frame-length (g .content))) × Put o at (frame-record s bytes) r o′
   sent {at = at} s bytes q w = (
     w .place ∙ ap (λ (x : Frame). at + record-length (frame-length (x .content))) e,

@@ -14,8 +14,9 @@ use Rattle.text.proofs.Lists.{drop-next, all-at}
 use Rattle.text.proofs.Puts.{Left, left-all, left-put, left-none, left-as, put-then, put-as}
 use Rattle.frame.specs.declared.Placed.{Placed}
 use Rattle.frame.specs.declared.Content.{Content}
-use Rattle.frame.specs.Layout.{layout-of, items-told, row-at, placed, placed-width, Payloads, shown, said-by, data-in, served}
-use Rattle.frame.specs.Output.{Wrote, Servable, Layable}
+use Rattle.frame.specs.Layout.{layout-of, items-told, row-at, placed, placed-width, Payloads, field-characters, said-by}
+use Rattle.frame.specs.Layout.{data-in, served}
+use Rattle.frame.specs.Output.{Written, Servable, Layable}
 use Rattle.frame.proofs.Placing.{suits, placed-shown, width-placed, all-suit}
 
 -- ==== one row more
@@ -77,7 +78,7 @@ module _ (content : Content) (b : Payloads) (o₀ : List ℕ) (at : ℕ) where
       -- a field and its number are written
       pub laid : {o₁ o₂ : List ℕ} {n to′ : ℕ} {row : Placed} → row ≡ placed (items-told content) (row-at rows k)
           → (n ≡ to + label) × Put o to (digits label (k + 1)) n o₁
-          → Wrote o₁ n (placed-width row) (shown b row) to′ o₂ → Laying o₂ to′ (k + 1)
+          → Written o₁ n (placed-width row) (field-characters b row) to′ o₂ → Laying o₂ to′ (k + 1)
       laid {o₁} {o₂} {n} {to′} {row} e q v =
           let ok = all-at (suits (items-told content)) rows k (blank 0) (all-suit content (w .real)) h in record {
             within = omega arith;
@@ -87,11 +88,11 @@ module _ (content : Content) (b : Payloads) (o₀ : List ℕ) (at : ℕ) where
             left =
                 left-put (left-as (data-next numbered rows k h (said-by content b)) (l .left))
                 (put-then (put-as (ap (λ (n : ℕ). digits n (k + 1)) el) (q .1))
-                (put-as (ap (shown b) e ∙ placed-shown (items-told content) b (row-at rows k) ok) (v .put)));
+                (put-as (ap (field-characters b) e ∙ placed-shown (items-told content) b (row-at rows k) ok) (v .put)));
           }
 
     -- all are written
-    pub all-laid : length rows ≤ k → Wrote o₀ at (data-length (layout-of content)) (data-in content b) to o
+    pub all-laid : length rows ≤ k → Written o₀ at (data-length (layout-of content)) (data-in content b) to o
     unfolding data-from
     all-laid h =
         let e = drop-of-length-le rows {i = k} h in

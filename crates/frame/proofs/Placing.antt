@@ -15,7 +15,8 @@ use Rattle.model.specs.Layouts.{Sources, settings, source, Row, number as numbe
 use Rattle.model.specs.Layouts.{layouts-0052, layouts-0061}
 use Rattle.frame.specs.declared.Content.{Content}
 use Rattle.frame.specs.declared.Content.the-variants.{Started, Refused, Accepted, Notice}
-use Rattle.frame.specs.Layout.{layout-of, items-told, items-of, item-at, place-of, placed, placed-width, Payloads, bytes-of, shown}
+use Rattle.frame.specs.Layout.{layout-of, items-told, items-of, item-at, place-of, placed, placed-width, Payloads}
+use Rattle.frame.specs.Layout.{bytes-of, field-characters}
 use Rattle.frame.specs.Output.{Real}
 use Rattle.frame.specs.Places.{result-items}
 use Rattle.model.proofs.Framed.{at-every}
@@ -79,8 +80,8 @@ module _ (told : List Item) (b : Payloads) where
       go true = refl
       go false = refl
 
-  pub placed-shown : (row : Row) → suits told row ≡ true → shown b (placed told row) ≡ characters said-so row
-  unfolding shown characters
+  pub placed-shown : (row : Row) → suits told row ≡ true → field-characters b (placed told row) ≡ characters said-so row
+  unfolding field-characters characters
   placed-shown (number-row width from i) h =
       let es = items-of told from in
       let bs = bytes-of b from in

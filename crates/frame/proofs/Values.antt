@@ -12,8 +12,8 @@ use Rattle.text.specs.Put.{Put}
 use Rattle.text.proofs.Puts.{put-as}
 use Rattle.frame.specs.declared.Placed.{Placed}
 use Rattle.frame.specs.declared.Placed.the-variants.{Number, Text, Blank, Known}
-use Rattle.frame.specs.Layout.{Payloads, bytes-of, part, placed-width, shown, served}
-use Rattle.frame.specs.Output.{Wrote, Readable, Servable}
+use Rattle.frame.specs.Layout.{Payloads, bytes-of, part, placed-width, field-characters, served}
+use Rattle.frame.specs.Output.{Written, Readable, Servable}
 
 module _ (b : Payloads) where
   abbrev serves : Placed → Bool
@@ -43,26 +43,26 @@ module _ (b : Payloads) where
 
   module _ {o o′ : List ℕ} {at r : ℕ} {row : Placed} where
     -- as its row says
-    wrote-as : {row′ : Placed} → row ≡ row′ → Wrote o at (placed-width row′) (shown b row′) r o′
-        → Wrote o at (placed-width row) (shown b row) r o′
-    wrote-as {row′} e h = subst (λ (x : Placed). Wrote o at (placed-width x) (shown b x) r o′) (sym e) h
+    wrote-as : {row′ : Placed} → row ≡ row′ → Written o at (placed-width row′) (field-characters b row′) r o′
+        → Written o at (placed-width row) (field-characters b row) r o′
+    wrote-as {row′} e h = subst (λ (x : Placed). Written o at (placed-width x) (field-characters b x) r o′) (sym e) h
 
     pub wrote-number : {w f s p n : ℕ} → row ≡ Number w f s p → n ≡ little (part b f s p)
-        → (r ≡ at + w) × Put o at (digits w n) r o′ → Wrote o at (placed-width row) (shown b row) r o′
-    unfolding shown
+        → (r ≡ at + w) × Put o at (digits w n) r o′ → Written o at (placed-width row) (field-characters b row) r o′
+    unfolding field-characters
     wrote-number {w} e z h = wrote-as e (record { place = h .0; put = put-as (ap (digits w) z) (h .1) })
 
-    pub wrote-text : {w f p : ℕ} → row ≡ Text w f p → Wrote o at w (part b f w p) r o′
-        → Wrote o at (placed-width row) (shown b row) r o′
-    unfolding shown
+    pub wrote-text : {w f p : ℕ} → row ≡ Text w f p → Written o at w (part b f w p) r o′
+        → Written o at (placed-width row) (field-characters b row) r o′
+    unfolding field-characters
     wrote-text e h = wrote-as e h
 
     pub wrote-blank : {w : ℕ} → row ≡ Blank w → (r ≡ at + w) × Put o at (replicate w space) r o′
-        → Wrote o at (placed-width row) (shown b row) r o′
-    unfolding shown
+        → Written o at (placed-width row) (field-characters b row) r o′
+    unfolding field-characters
     wrote-blank e h = wrote-as e (record { place = h .0; put = h .1 })
 
     pub wrote-known : {w n : ℕ} → row ≡ Known w n → (r ≡ at + w) × Put o at (digits w n) r o′
-        → Wrote o at (placed-width row) (shown b row) r o′
-    unfolding shown
+        → Written o at (placed-width row) (field-characters b row) r o′
+    unfolding field-characters
     wrote-known e h = wrote-as e (record { place = h .0; put = h .1 })

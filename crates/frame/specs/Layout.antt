@@ -82,11 +82,11 @@ placed-width (Blank width) = width
 placed-width (Known width n) = width
 
 -- the characters of a field
-unfoldable pub shown : Payloads → Placed → List ℕ
-shown b (Number width from size place) = digits width (little (part b from size place))
-shown b (Text width from place) = part b from width place
-shown b (Blank width) = spaces width
-shown b (Known width n) = digits width n
+unfoldable pub field-characters : Payloads → Placed → List ℕ
+field-characters b (Number width from size place) = digits width (little (part b from size place))
+field-characters b (Text width from place) = part b from width place
+field-characters b (Blank width) = spaces width
+field-characters b (Known width n) = digits width n
 
 -- the data: of the values that the bytes hold
 abbrev pub said-by : Content → Payloads → Sources

@@ -24,7 +24,7 @@ use Rattle.frame.specs.declared.Asked.{Asked}
 -- ==== fields
 
 -- n bytes were written: bs, from `at` on
-pub record Wrote (o : List ℕ) (at n : ℕ) (bs : List ℕ) (next : ℕ) (o′ : List ℕ) : Type 0 where
+pub record Written (o : List ℕ) (at n : ℕ) (bs : List ℕ) (next : ℕ) (o′ : List ℕ) : Type 0 where
   pub place : next ≡ at + n
   pub put : Put o at bs next o′
 

@@ -14,9 +14,20 @@ ghost use Rattle.model.specs.Frames.{header as header-bytes, frame-0002, frame-
 ghost use Rattle.text.specs.Put.{Put};
 ghost use Rattle.frame.specs.Header.{header-of};
 ghost use Rattle.frame.specs.Places.{result-items, event-in};
-ghost use Rattle.frame.specs.Layout.{payloads, layout-of, row-at, placed, placed-row, extent-of, placed-width, part, shown, data-in};
+ghost use Rattle.frame.specs.Layout.{
+  payloads,
+  layout-of,
+  row-at,
+  placed,
+  placed-row,
+  extent-of,
+  placed-width,
+  part,
+  field-characters,
+  data-in,
+};
 ghost use Rattle.frame.specs.Output.{
-  Wrote,
+  Written,
   Real,
   Readable,
   Servable,
@@ -366,7 +377,7 @@ fn number(p: Part, settings: &[u8], told: &[u8]) -> u64
 
 fn put_bytes(out: &mut [u8], at: usize, size: usize, place: usize, source: &[u8]) -> usize
     requires { ⌜ (place + size ≤ length (now source)) × (at + size ≤ length (now out)) ⌝ }
-    ensures { λ r. ⌜ Wrote (now (out .entry)) at size (take size (drop place (now (source .entry)))) r (now (out .exit)) ⌝ }
+    ensures { λ r. ⌜ Written (now (out .entry)) at size (take size (drop place (now (source .entry)))) r (now (out .exit)) ⌝ }
 {
     text::copy(&source[place..place + size], out, at)
 }
@@ -374,7 +385,7 @@ fn put_bytes(out: &mut [u8], at: usize, size: usize, place: usize, source: &[u8]
 fn put_text(out: &mut [u8], at: usize, p: Part, settings: &[u8], told: &[u8]) -> usize
     requires { ⌜ Readable (payloads (now settings) (now told)) (p .from) (p .size) (p .place)
         × (at + p .size ≤ length (now out)) ⌝ }
-    ensures { λ r. ⌜ Wrote (now (out .entry)) at (p .size)
+    ensures { λ r. ⌜ Written (now (out .entry)) at (p .size)
         (part (payloads (now (settings .entry)) (now (told .entry))) (p .from) (p .size) (p .place)) r (now (out .exit)) ⌝ }
 {
     if p.from == SETTINGS {
@@ -386,8 +397,8 @@ fn put_text(out: &mut [u8], at: usize, p: Part, settings: &[u8], told: &[u8]) ->
 // The characters of a field.
 fn put_value(out: &mut [u8], at: usize, row: Placed, settings: &[u8], told: &[u8]) -> usize
     requires { ⌜ Servable (payloads (now settings) (now told)) row at (length (now out)) ⌝ }
-    ensures { λ r. ⌜ Wrote (now (out .entry)) at (placed-width row)
-        (shown (payloads (now (settings .entry)) (now (told .entry))) row) r (now (out .exit)) ⌝ }
+    ensures { λ r. ⌜ Written (now (out .entry)) at (placed-width row)
+        (field-characters (payloads (now (settings .entry)) (now (told .entry))) row) r (now (out .exit)) ⌝ }
 {
     match row {
         Placed::Number(width, from, size, place) => {
@@ -410,7 +421,7 @@ fn put_value(out: &mut [u8], at: usize, row: Placed, settings: &[u8], told: &[u8
 // The fields of a frame, each with its number before it where they are numbered.
 fn put_fields(out: &mut [u8], at: usize, content: Content, settings: &[u8], told: &[u8]) -> usize
     requires { ⌜ Layable content (payloads (now settings) (now told)) at (length (now out)) ⌝ }
-    ensures { λ r. ⌜ Wrote (now (out .entry)) at (data-length (layout-of content))
+    ensures { λ r. ⌜ Written (now (out .entry)) at (data-length (layout-of content))
         (data-in content (payloads (now (settings .entry)) (now (told .entry)))) r (now (out .exit)) ⌝ }
 {
     let extent = measure(content);
@@ -443,7 +454,7 @@ const CLOSE_KIND: u64 = 512;
 // What stands before the payload of a record.
 fn put_head(out: &mut [u8], at: usize, size: usize, kind: u64) -> usize
     requires { ⌜ at + record-head ≤ length (now out) ⌝ }
-    ensures { λ r. ⌜ Wrote (now (out .entry)) at record-head (in-bytes 2 size ++ in-bytes 2 kind) r (now (out .exit)) ⌝ }
+    ensures { λ r. ⌜ Written (now (out .entry)) at record-head (in-bytes 2 size ++ in-bytes 2 kind) r (now (out .exit)) ⌝ }
 {
     let at = text::put_little(out, at, 2, size as u64);
     text::put_little(out, at, 2, kind)
@@ -470,7 +481,7 @@ pub struct Frame {
 // A frame's header.
 fn put_header(out: &mut [u8], at: usize, size: u64, f: Frame) -> usize
     requires { ⌜ at + header-length ≤ length (now out) ⌝ }
-    ensures { λ r. ⌜ Wrote (now (out .entry)) at header-length (header-bytes size (f .mid) (f .revision) (f .«byte_12»)) r
+    ensures { λ r. ⌜ Written (now (out .entry)) at header-length (header-bytes size (f .mid) (f .revision) (f .«byte_12»)) r
         (now (out .exit)) ⌝ }
 {
     let at = text::put_digits(out, at, NUMBER_DIGITS, size);
@@ -483,7 +494,7 @@ fn put_header(out: &mut [u8], at: usize, size: u64, f: Frame) -> usize
 // Any frame, with its NUL: its data first, whose end is the frame's, and then what stands before it and behind it.
 fn put_frame(out: &mut [u8], to: To, f: Frame, settings: &[u8], told: &[u8]) -> usize
     requires { ⌜ Sendable (now out) to f (payloads (now settings) (now told)) ⌝ }
-    ensures { λ r. ⌜ Wrote (now (out .entry)) (to .at) (record-length (frame-length (f .content)))
+    ensures { λ r. ⌜ Written (now (out .entry)) (to .at) (record-length (frame-length (f .content)))
         (frame-record (to .session) (frame-of f (payloads (now (settings .entry)) (now (told .entry))))) r
         (now (out .exit)) ⌝ }
 {
