@@ -91,14 +91,14 @@ static void alter_lanes(uint8_t *session, unsigned (*any_below)(unsigned))
 
 #else
 
-enum { USED = 7342, MARK_SIZE = 8, FIRST_SESSION = 66, SESSION_SIZE = 1819, RUN_COUNT = 2, CONTROL_SIZE = 14, SHARED_SIZE = 66 };
+enum { USED = 7254, MARK_SIZE = 8, FIRST_SESSION = 66, SESSION_SIZE = 1797, RUN_COUNT = 2, CONTROL_SIZE = 14, SHARED_SIZE = 66 };
+enum { TEXT = 25, RESULT = 211 };
 static const unsigned CONTROL[CONTROL_SIZE] = { 0, 1, RUN_COUNT, RUN_COUNT + 1, 49, 50, 51, 52, 53, 54, 55, 56, 57, 58 };
 static const unsigned SUBSCRIBED[KINDS] = { 49, 54 }, COUNT[KINDS] = { 52, 57 };
 
-/* The name or the identifier in force. */
-static bool is_text(const uint8_t *bytes)
+static bool is_text(const uint8_t *bytes, size_t count)
 {
-    for (size_t i = 0; i < 25; i++)
+    for (size_t i = 0; i < count; i++)
         if (bytes[i] < ' ' || bytes[i] > '~')
             return false;
     return true;
@@ -125,13 +125,13 @@ static bool session_formed(const uint8_t *session)
     for (unsigned kind = 0; kind < KINDS; kind++)
         if (!subscription_formed(session + SUBSCRIBED[kind], kind, session[0] == 2))
             return false;
-    return true;
+    return is_text(session + 59, TEXT * session[COUNT[0]]) && is_text(session + 109, RESULT * session[COUNT[1]]);
 }
 
 static bool shared_formed(const uint8_t *table)
 {
     return memcmp(table, "op-indep", MARK_SIZE) == 0 && table[8] + 256 * table[9] <= 9999 && table[10] <= 99
-        && table[11] <= 1 && is_text(table + 12) && is_text(table + 41);
+        && table[11] <= 1 && is_text(table + 12, TEXT) && is_text(table + 41, TEXT);
 }
 
 #endif
