@@ -100,7 +100,8 @@ static void sizes(void)
     write_header(settings, SETTINGS_PAYLOAD, SERIFLADDER_SETTINGS);
     memset(settings + 8, ' ', 25);
     expect_answer("a start with a short table",
-                  serifladder_start(table, SERIFLADDER_TABLE_SIZE - 1, settings, sizeof settings, ANSWER), SERIFLADDER_TABLE_SHORT, 0, 0, 0);
+                  serifladder_start(table, SERIFLADDER_TABLE_SIZE - 1, settings, sizeof settings, ANSWER), SERIFLADDER_TABLE_SHORT,
+                  0, 0, 0);
     expect("a start with a short answer", serifladder_start(TABLE, settings, sizeof settings, answer, SERIFLADDER_ANSWER_SIZE - 1),
            SERIFLADDER_ANSWER_SHORT);
     expect_answer("a start with a short record", serifladder_start(TABLE, settings, sizeof settings - 1, ANSWER), SERIFLADDER_SETTINGS_BAD,
@@ -112,7 +113,8 @@ static void sizes(void)
     expect("open, output", serifladder_open(TABLE, output, SERIFLADDER_OUTPUT_SIZE - 1, 0, ANSWER), SERIFLADDER_OUTPUT_SHORT);
     expect("open, answer", serifladder_open(TABLE, OUTPUT, 0, answer, SERIFLADDER_ANSWER_SIZE - 1), SERIFLADDER_ANSWER_SHORT);
     expect("hang-up, output", serifladder_hang_up(TABLE, output, SERIFLADDER_OUTPUT_SIZE - 1, 0, ANSWER), SERIFLADDER_OUTPUT_SHORT);
-    expect("bytes, output", serifladder_bytes(TABLE, output, SERIFLADDER_OUTPUT_SIZE - 1, 0, settings, 1, ANSWER), SERIFLADDER_OUTPUT_SHORT);
+    expect("bytes, output", serifladder_bytes(TABLE, output, SERIFLADDER_OUTPUT_SIZE - 1, 0, settings, 1, ANSWER),
+           SERIFLADDER_OUTPUT_SHORT);
     expect("tick, output", serifladder_tick(TABLE, output, SERIFLADDER_OUTPUT_SIZE - 1, ANSWER), SERIFLADDER_OUTPUT_SHORT);
     expect("record, output", serifladder_record(TABLE, output, SERIFLADDER_OUTPUT_SIZE - 1, settings, 1, ANSWER), SERIFLADDER_OUTPUT_SHORT);
 }
