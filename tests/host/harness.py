@@ -82,20 +82,22 @@ def content(path):
 
 
 class InTime:
-    """What a loop asks before each of its turns: it is so for SECONDS, and as many more as are given; then the test is wrong."""
+    """What a loop asks before each of its turns: it is so for SECONDS, and as many more as are given; then the test is wrong, and
+    what besides() answers then is said too."""
 
-    def __init__(self, what, more=0):
-        self.what, self.seconds = what, SECONDS + more
+    def __init__(self, what, more=0, besides=lambda: ""):
+        self.what, self.seconds, self.besides = what, SECONDS + more, besides
         self.until = time.monotonic() + self.seconds
 
     def __call__(self):
-        check(time.monotonic() < self.until, "not within %d s: %s", self.seconds, self.what)
+        if time.monotonic() >= self.until:
+            raise Wrong("not within %d s: %s%s" % (self.seconds, self.what, self.besides()))
         return True
 
 
-def wait(condition, what):
+def wait(condition, what, **how):
     """Waits until the condition holds, and answers what it answered."""
-    in_time = InTime(what)
+    in_time = InTime(what, **how)
     while not (held := condition()) and in_time():
         time.sleep(0.002)
     return held
@@ -229,6 +231,16 @@ class Host:
         """What the system tells of it, from its state on."""
         with open("/proc/%d/stat" % self.process.pid, encoding="ascii") as file:
             return file.read().rpartition(")")[2].split()
+
+    def shown_by_the_system(self):
+        """Lines of /proc, as far as they may be read, that show why it does not go on."""
+        def shown(path):
+            try:
+                return "  %s: %s" % (path, content(path).decode("latin-1").strip())
+            except OSError as why:
+                return "  %s: %s" % (path, why.strerror)
+        own = ["/proc/%d/%s" % (self.process.pid, name) for name in ("stat", "wchan", "schedstat")]
+        return [shown(path) for path in own + ["/proc/loadavg"]]
 
     def processor_seconds(self):
         """How long it has been running on a processor."""

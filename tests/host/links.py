@@ -175,16 +175,31 @@ def ticks_are_made_up_for(place):
     launched = time.monotonic()
     host = place.host(tick=int(tick * 1000))
     ready = time.monotonic()
-    longest = 0
+    stops = []
     for _ in range(3):
-        longest = max(longest, host.stop(2.5 * tick))
+        stops.append(host.stop(2.5 * tick))
         time.sleep(tick)
+    longest = max(stops)
+    seen = []  # (seconds since the host was ready, ticks due, journaled, left out), once a second
 
     def made_up():
-        due = (time.monotonic() - ready) / tick - 2  # before the journal is read, which takes its time
-        return place.ticks() + left_out(host) >= due
+        passed = time.monotonic() - ready
+        due = passed / tick - 2  # before the journal is read, which takes its time
+        journaled, missed = place.ticks(), left_out(host)
+        if not seen or passed >= seen[-1][0] + 1:
+            seen.append((passed, due, journaled, missed))
+        return journaled + missed >= due
 
-    wait(made_up, "as many ticks as the time makes")
+    def what_was_seen():
+        """For the one who seeks the cause: the test was seen to wait in vain once, and it was not known for what."""
+        lines = ["  a tick has %.3f s; ready %.3f s after the launch; stopped for %s s" % (
+            tick, ready - launched, ", ".join("%.3f" % seconds for seconds in stops))]
+        lines += ["  %6.2f s after that: %.1f ticks due, %d journaled, %d left out" % each for each in seen]
+        lines += ["  the host says: " + line for line in host.log().splitlines() if "left out" in line]
+        lines += ["  the host has ended: %s" % host.process.poll()] if host.process.poll() is not None else []
+        return "\n" + "\n".join(lines + host.shown_by_the_system())
+
+    wait(made_up, "as many ticks as the time makes", besides=what_was_seen)
     made = place.ticks() + left_out(host)
     check(made <= (time.monotonic() - launched) / tick + 1, "%d ticks are too many", made)
     check(left_out(host) == 0 or longest > 3 * tick, "%d ticks left out, and the host never stood still for more than %.1f of them",
