@@ -263,19 +263,20 @@ def revisions():
     return case.named("every revision")
 
 
-def downloads():
-    """Every byte value at every place of 0050's data, and every length; granted and not."""
-    cases = []
-    for granted in (1, 0):
-        case = Alone(granted)
-        case.begin(*FREE)
-        for size in range(0, 90):
-            case.send(message(50, data=(b"0123456789abcdefghijklmnopqrstuvwxyz" * 3)[:size]))
-        for data in altered(b"ABCDEFGHIJKLMNOPQRSTUVWXY"):
-            case.send(message(50, data=data))
-        case.tighten(tightening_fields())
-        cases.append(case.named("every byte value in 0050's data, %sgranted" % ("" if granted else "not ")))
-    return cases
+def downloads(granted=1):
+    """Every byte value at every place of 0050's data, and every length."""
+    case = Alone(granted)
+    case.begin(*FREE)
+    for size in range(0, 90):
+        case.send(message(50, data=(b"0123456789abcdefghijklmnopqrstuvwxyz" * 3)[:size]))
+    for data in altered(b"ABCDEFGHIJKLMNOPQRSTUVWXY"):
+        case.send(message(50, data=data))
+    case.tighten(tightening_fields())
+    return case.named("every byte value in 0050's data, %sgranted" % ("" if granted else "not "))
+
+
+def downloads_not_granted():
+    return downloads(0)
 
 
 def tool_texts():
@@ -427,6 +428,9 @@ def nothing_acknowledged():
     return case.named("960 ticks with nothing acknowledged")
 
 
+BY_RULE = [message_numbers, header_bytes, revisions, downloads, downloads_not_granted, tool_texts, tool_numbers, settings, record_lengths,
+           record_kinds, fullest_output, nothing_acknowledged]
+
+
 def cases():
-    return [message_numbers(), header_bytes(), revisions(), *downloads(), tool_texts(), tool_numbers(), settings(),
-            record_lengths(), record_kinds(), fullest_output(), nothing_acknowledged()]
+    return [made() for made in BY_RULE]
