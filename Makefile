@@ -2,7 +2,7 @@
 SHELL := /bin/bash
 .SHELLFLAGS := -euo pipefail -c
 .DEFAULT_GOAL := help
-.PHONY: help run watch test install uninstall host proved soak bench built wrong twins must-fail-list format tools clean
+.PHONY: help run watch test install uninstall host proved soak bench built wrong twins must-fail-list figures format tools clean
 
 # How many histories make soak compares.
 COUNT := 2000
@@ -26,6 +26,7 @@ help:
 	@echo "make wrong   the wrong programs that the gate leaves out for its time: the prover must refuse each"
 	@echo "make twins   harmless twins of the gate's wrong programs: the prover must accept each"
 	@echo "make must-fail-list writes the list of all wrong programs, docs/MUST-FAIL.md, from what they say of themselves"
+	@echo "make figures writes the counts, tables and lists of the documents that the tree gives"
 	@echo "make format  lays the sources out"
 	@echo "make clean   removes what was built"
 
@@ -78,15 +79,16 @@ proved: tools
 	@echo "each of these public functions is proved to answer what its ensures says:"
 	@grep -oE '^ *pub (extern "C" )?fn [a-z0-9_]+' crates/*/src/*.rt | sed -E 's#crates/([a-z]+)/.*fn (.*)#  \1::\2#'
 
-# The layout, that nothing is assumed, that the must-fail edits fit and are listed, and that the documents name what is there; then the
-# gate itself, then the comparison over what the gate built and left, three parts at a time, since the host's tests mostly wait. The gate's
-# own last line is said again at the end: it is the last line of a run in which nothing failed. What fails behind the gate says so in the
-# last line.
+# The layout, that nothing is assumed, that the must-fail edits fit and are listed, that the documents name what is there and count it
+# right; then the gate itself, then the comparison over what the gate built and left, three parts at a time, since the host's tests mostly
+# wait. The gate's own last line is said again at the end: it is the last line of a run in which nothing failed. What fails behind the gate
+# says so in the last line.
 test: tools
 	@rt fmt --check
 	@python3 tests/wrong/assumptions.py
 	@python3 tests/wrong/check.py
 	@python3 tests/docs/names.py
+	@python3 tests/docs/figures.py --check
 	@said=$$(mktemp); trap 'rm -f "$$said"' EXIT; \
 	rt ci | tee "$$said"; \
 	rt staticlib serifladder | tail -n 1 || { echo "test: failed, rt staticlib serifladder"; exit 1; }; \
@@ -127,6 +129,10 @@ twins: tools
 # docs/MUST-FAIL.md behind its introduction, from the first lines of all must-fail edits.
 must-fail-list: tools
 	@python3 tests/wrong/check.py --write
+
+# The counts, tables and lists of README, tests/README and docs that the tree gives.
+figures:
+	@python3 tests/docs/figures.py
 
 format: tools
 	@rt fmt
