@@ -26,6 +26,7 @@ sys.path[:0] = [os.path.join(names.ROOT, "tests", folder) for folder in ("wrong"
 
 import check  # noqa: E402, I001
 import mutants  # noqa: E402
+import house_records  # noqa: E402
 from assumptions import bare  # noqa: E402
 from check import read  # noqa: E402
 
@@ -132,9 +133,21 @@ def host_test(name, test):
     return f"`{name}`", f"`tests/host/{test.__module__}.py`", shows
 
 
+def records():
+    """The items of each house record's payload, as tools/house_records.py has them."""
+    def items(payload):
+        return ", ".join(f"{item.name.replace('_', ' ')} ({item.size}, {f'to {item.greatest}' if item.greatest else item.sort})"
+                         for item in payload.items.values())
+
+    def name(kind):
+        return next(name.lower() for name, value in vars(house_records).items() if name.isupper() and value == kind)
+    return [(f"{name(kind)}, kind {kind}", items(payload)) for kind, payload in house_records.PAYLOADS.items()]
+
+
 def tables():
     return {
         "counts": table(("What", "How many"), [(what, f"{number:,}") for _, what, number in counts()]),
+        "records": table(("Record", "Items"), records()),
         "sizes": table(("Crate", "Specs", "Code", "Proofs"), sizes()),
         "host-tests": table(("Test", "In", "What it shows"), [host_test(*named) for named in HOST_TESTS.items()]),
         "host-faults": table(("Fault", "In", "Found by"), [(name, f"`host/{file}`", f"`{test}`") for name, test, file, *_ in HOST_FAULTS]),
