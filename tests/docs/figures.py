@@ -8,8 +8,8 @@ A document, be it the README, tests/README or one of docs/*.md, has a count in f
 the lines <!-- begin NAME --> and <!-- end NAME -->. The name of a count is one of counts() below, a number of document 01 as the model's
 definitions name it (840<!-- longest-wait -->), or a file whose lines are counted (56<!-- crates/frame/proofs/Answers.antt -->).
 
-Besides it is told what README and tests/README leave out, a crate, a document, a file of the tests; which table is derived and stands
-nowhere; and which lines the table of surviving mutants names that no mutant alters.
+Besides it is told which table is derived and stands nowhere, and what README and tests/README leave out: a crate, a document, a file of
+the tests.
 
 Nothing has to be proved or built for it. Exit status 0: all is as it is derived."""
 
@@ -49,7 +49,6 @@ HOST_TESTS = module("tests/host/run.py").NAMED
 HOST_FAULTS = module("tests/host/faults.py").FAULTS
 FAULTS = module("tests/compare/faults.py").all_faults()
 VECTORS = module("tests/vectors/run.py")
-MUTANTS = mutants.mutants(read(mutants.SOURCE))
 
 
 # ---- what the tree has
@@ -101,7 +100,7 @@ def counts():
         ("by-rule", "vectors by rule (`tests/vectors/every.py`)", len(VECTORS.every.BY_RULE)),
         ("faults", "planted faults of the second implementation, for `make soak`", len(FAULTS)),
         ("few-faults", "of these in `make test`", len(re.search(r"^FEW_FAULTS := (.*)$", read("tests/Makefile"), re.M)[1].split(","))),
-        ("mutants", "mutants of the second implementation, for `make -C tests mutants`", len(MUTANTS)),
+        ("mutants", "mutants of the second implementation, for `make -C tests mutants`", len(mutants.mutants(read(mutants.SOURCE)))),
         ("host-tests", "tests of the host in `make test`", len(HOST_TESTS) - long),
         ("long-host-tests", "further ones in `make soak`", long),
         ("host-faults", "planted faults of the host, for `make soak`", len(HOST_FAULTS)),
@@ -197,16 +196,6 @@ def left_out():
             yield f"tests/README.md: {path} is not listed"
 
 
-def not_mutants():
-    """Lines that the table of survivors names, and no mutant alters."""
-    altered = {mutant.line for mutant in MUTANTS}
-    table_of = re.search(r"^\| Lines \| Altered .*?\n\n", read("docs/EVIDENCE.md"), re.M | re.S)[0]
-    for first, last in re.findall(r"(\d+)(?: to (\d+))?", " ".join(re.findall(r"^\| (\d[^|]*) \|", table_of, re.M))):
-        for line in range(int(first), int(last or first) + 1):
-            if line not in altered:
-                yield f"docs/EVIDENCE.md: line {line} of independent.c stands among the survivors, and no mutant is there"
-
-
 def main(arguments):
     texts = {path: read(path) for path in map(os.path.relpath, names.documents())}
     numbers, rows, wrong = {**limits(), **{name: count for name, _, count in counts()}}, tables(), []
@@ -221,7 +210,7 @@ def main(arguments):
         wrong.append("make figures writes what is derived")
     marked, tabled = [[found for text in texts.values() for found in mark.findall(text)] for mark in (COUNT, TABLE)]
     wrong += [f"the table {name} is derived, and no document has it" for name in rows if name not in [found[0] for found in tabled]]
-    wrong += [*left_out(), *not_mutants()]
+    wrong += left_out()
     print("\n".join(wrong) or f"docs: {len(marked)} counts and {len(tabled)} tables in {len(texts)} documents are as they are derived")
     return 1 if wrong else 0
 

@@ -5,9 +5,10 @@
 
 A document names in backquotes: a file (`tests/README.md`; tests/README names those beside it without the folder), a crate's file without
 its ending (`model/specs/Frames`, `table/proofs/Says`), a function (`frame::put_copy`), a constant, a type, a definition or a law
-(`OUTPUT_LEAST`, `event-frame`, `Demand3.equal`), a test of the host (`a-slow-disk`, whose function is a_slow_disk), a command
-(`make test`; also where it stands indented). The pages of docs/landings, which tell of what was, and MUST-FAIL, which is derived, may name
-what is gone: of them the links alone are looked at. Of links those count that lead to files here, with their #anchors.
+(`OUTPUT_LEAST`, `event-frame`, `Demand3.equal`), a function or an array of C (`put_record()`, `RULES[]`), a test of the host
+(`a-slow-disk`, whose function is a_slow_disk), a command (`make test`; also where it stands indented). The pages of docs/landings, which
+tell of what was, and MUST-FAIL, which is derived, may name what is gone: of them the links alone are looked at. Of links those count that
+lead to files here, with their #anchors.
 
 Exit status 0: every name is there, and every link leads somewhere."""
 
@@ -24,6 +25,7 @@ CRATE_FILE = re.compile(r"([a-z]+)/(specs|proofs)(?:/(\w+))?")
 PATH = re.compile(r"([\w.]+)/[\w./*-]*")
 FOLDERS = ("crates", "docs", "host", "include", "tests", "tools")
 FUNCTION = re.compile(r"([a-z]+)::(\w+)")
+OF_C = re.compile(r"(\w+)(?:\(\)|\[\])")
 COMMAND = re.compile(r"make (?:-C tests )?([a-z][a-z-]*).*")
 DEFINITION = re.compile(r"[a-z][a-z0-9]*(?:-[a-z0-9′]+)+(?:\.[a-z-]+)*|[A-Z]\w*[a-z]\w*(?:\.[a-z][a-z-]*)*|[A-Z][A-Z0-9]*(?:_[A-Z0-9]+)+")
 
@@ -80,6 +82,9 @@ def missing(name, known, commands):
     if path and (path[1] in FOLDERS or os.path.isdir(os.path.join(ROOT, "tests", path[1]))):
         pattern = re.sub(r"\b[A-Z]{4,}\b", "*", name)  # NAME stands for any
         return None if glob.glob(os.path.join(ROOT, pattern)) or glob.glob(os.path.join(ROOT, "tests", pattern)) else name
+    of_c = OF_C.fullmatch(name)
+    if of_c:
+        return None if of_c[1] in known else name
     command = COMMAND.fullmatch(name)
     if command:
         return None if command[1] in commands else "target " + command[1]
