@@ -8,8 +8,8 @@ A document, be it the README, tests/README or one of docs/*.md, has a count in f
 the lines <!-- begin NAME --> and <!-- end NAME -->. The name of a count is one of counts() below, a number of document 01 as the model's
 definitions name it (840<!-- longest-wait -->), or a file whose lines are counted (56<!-- crates/frame/proofs/Answers.antt -->).
 
-Besides it is told which table is derived and stands nowhere, and what README and tests/README leave out: a crate, a document, a file of
-the tests.
+Besides it is told which table is derived and stands nowhere, and what is left out: a crate or a document by README, a file of the tests by
+tests/README, a public function by PROVED.
 
 Nothing has to be proved or built for it. Exit status 0: all is as it is derived."""
 
@@ -22,7 +22,7 @@ import sys
 
 import names
 
-sys.path[:0] = [os.path.join(names.ROOT, "tests", folder) for folder in ("wrong", "compare")]
+sys.path[:0] = [os.path.join(names.ROOT, folder) for folder in ("tests/wrong", "tests/compare", "tools")]
 
 import check  # noqa: E402, I001
 import mutants  # noqa: E402
@@ -128,8 +128,8 @@ def sizes():
 
 
 def host_test(name, test):
-    shows = " ".join(test.__doc__.split()) + (" In `make soak` only." if hasattr(test, "long") else "")
-    return f"`{name}`", f"`tests/host/{test.__module__}.py`", shows
+    shows = " ".join((test.__doc__ or "").split())
+    return f"`{name}`", f"`tests/host/{test.__module__}.py`", shows + (" In `make soak` only." if hasattr(test, "long") else "")
 
 
 def records():
@@ -184,9 +184,22 @@ def wrong_tables(path, text, rows):
                 break
 
 
+def functions_of(text):
+    """The functions that a text names, as (crate, function). In a line, or a cell of a table, `frame::row`, `measure` are two of frame."""
+    found = set()
+    for cell in re.split(r"[|\n]", text):
+        crate = None
+        for name in re.findall(r"`([\w:]+)`", cell):
+            crate, function = name.split("::") if name.count("::") == 1 else (crate, name)
+            found.add((crate, function))
+    return found
+
+
 def left_out():
-    """What README and tests/README do not list, or list and is not there."""
-    readme, of_tests = read("README.md"), read("tests/README.md")
+    """What README, tests/README and PROVED do not list, or list and is not there; which test of the host does not say what it shows."""
+    readme, of_tests, said = read("README.md"), read("tests/README.md"), functions_of(read("docs/PROVED.md"))
+    yield from (f"docs/PROVED.md: not a word of {crate}::{function}" for crate in crates() for function in check.Crate(crate).public
+                if (crate, function) not in said)
     listed = set(re.findall(r"`(\w+)`", " ".join(re.findall(r"^\| (`.*?) \|", readme, re.M))))
     yield from (f"README.md: the table of crates and crates.txt differ in {name}" for name in sorted(listed ^ set(crates())))
     yield from (f"README.md: no link to {path}" for path in sorted(glob.glob("docs/*.md")) if f"({path})" not in readme)
@@ -194,6 +207,7 @@ def left_out():
         beside_its_source = re.sub(r"tests/(.*)\.h$", r"`\1.c`, `.h`", path)
         if os.path.basename(path) not in of_tests and beside_its_source not in of_tests:
             yield f"tests/README.md: {path} is not listed"
+    yield from (f"tests/host/{test.__module__}.py: {name} does not say what it shows" for name, test in HOST_TESTS.items() if not test.__doc__)
 
 
 def main(arguments):

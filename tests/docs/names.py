@@ -5,10 +5,10 @@
 
 A document names in backquotes: a file (`tests/README.md`; tests/README names those beside it without the folder), a crate's file without
 its ending (`model/specs/Frames`, `table/proofs/Says`), a function (`frame::put_copy`), a constant, a type, a definition or a law
-(`OUTPUT_LEAST`, `event-frame`, `Demand3.equal`), a function or an array of C (`put_record()`, `RULES[]`), a test of the host
-(`a-slow-disk`, whose function is a_slow_disk), a command (`make test`; also where it stands indented). The pages of docs/landings, which
-tell of what was, and MUST-FAIL, which is derived, may name what is gone: of them the links alone are looked at. Of links those count that
-lead to files here, with their #anchors.
+(`OUTPUT_LEAST`, `event-frame`, `Demand3.equal`), a must-fail edit (`NUL_counted`), a function or an array of C (`put_record()`, `RULES[]`),
+a test of the host (`a-slow-disk`, whose function is a_slow_disk), a command (`make test`; also where it stands indented). The pages of
+docs/landings, which tell of what was, and MUST-FAIL, which is derived, may name what is gone: of them the links alone are looked at. Of
+links those count that lead to files here, with their #anchors.
 
 Exit status 0: every name is there, and every link leads somewhere."""
 
@@ -27,7 +27,7 @@ FOLDERS = ("crates", "docs", "host", "include", "tests", "tools")
 FUNCTION = re.compile(r"([a-z]+)::(\w+)")
 OF_C = re.compile(r"(\w+)(?:\(\)|\[\])")
 COMMAND = re.compile(r"make (?:-C tests )?([a-z][a-z-]*).*")
-DEFINITION = re.compile(r"[a-z][a-z0-9]*(?:-[a-z0-9′]+)+(?:\.[a-z-]+)*|[A-Z]\w*[a-z]\w*(?:\.[a-z][a-z-]*)*|[A-Z][A-Z0-9]*(?:_[A-Z0-9]+)+")
+DEFINITION = re.compile(r"[a-z][a-z0-9]*(?:-[a-z0-9′]+)+(?:\.[a-z-]+)*|[A-Z]\w*[a-z]\w*(?:\.[a-z][a-z-]*)*|\w+(?:_\w+)+")
 
 LINK = re.compile(r"\]\(([^)\s#]*)(?:#([^)\s]*))?\)")
 
