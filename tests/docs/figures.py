@@ -207,7 +207,7 @@ def left_out():
         beside_its_source = re.sub(r"tests/(.*)\.h$", r"`\1.c`, `.h`", path)
         if os.path.basename(path) not in of_tests and beside_its_source not in of_tests:
             yield f"tests/README.md: {path} is not listed"
-    yield from (f"tests/host/{test.__module__}.py: {name} does not say what it shows" for name, test in HOST_TESTS.items() if not test.__doc__)
+    yield from (f"the test {name} of the host does not say what it shows" for name, test in HOST_TESTS.items() if not test.__doc__)
 
 
 def main(arguments):
