@@ -1,7 +1,7 @@
 #!/usr/bin/env python3
 """Whether what the documents name is there, and whether their links lead somewhere.
 
-    names.py [FILE ..]      says which names are not. FILE is a document: the README, docs/*.md and tests/README.md, where none is given
+    names.py [FILE ..]      says which are not. FILE is a document: the README, tests/README and all of docs, where none is given
 
 A document names in backquotes: a file (`tests/README.md`; tests/README names those beside it without the folder), a crate's file without
 its ending (`model/specs/Frames`, `table/proofs/Says`), a function (`frame::put_copy`), a constant, a type, a definition or a law
@@ -110,7 +110,7 @@ def astray(path, target, anchor):
 
 def main():
     known, commands, wrong, names, links = words(), targets(), [], 0, 0
-    paths = sys.argv[1:] or documents() + landings()
+    paths = [os.path.abspath(path) for path in sys.argv[1:]] or documents() + landings()
     for path in paths:
         of_the_past = os.path.basename(path) == DERIVED or path in landings()
         for number, line in enumerate(read(path).split("\n"), 1):
