@@ -29,6 +29,7 @@ import mutants  # noqa: E402
 import house_records  # noqa: E402
 from assumptions import bare  # noqa: E402
 from check import read  # noqa: E402
+from compare import FULLEST  # noqa: E402
 
 COUNT = re.compile(r"(\d[\d,]*)<!-- ([\w./-]+) -->")
 TABLE = re.compile(r"(?<=<!-- begin )([a-z-]+)( -->\n)(.*?)(?=<!-- end \1 -->\n)", re.S)
@@ -98,6 +99,7 @@ def counts():
          fields("crates/watch/specs/Marks.antt", "pub record Demand3 ", r"^  pub [a-z-]+ :")),
         ("vectors", "vectors and stories in files", len(VECTORS.all_files())),
         ("by-rule", "vectors by rule (`tests/vectors/every.py`)", len(VECTORS.every.BY_RULE)),
+        *(("fullest-" + what.replace(" ", "-"), f"bytes of the fullest output of a call, {what}", size) for what, size in FULLEST.items()),
         ("faults", "planted faults of the second implementation, for `make soak`", len(FAULTS)),
         ("few-faults", "of these in `make test`", len(re.search(r"^FEW_FAULTS := (.*)$", read("tests/Makefile"), re.M)[1].split(","))),
         ("mutants", "mutants of the second implementation, for `make -C tests mutants`", len(mutants.mutants(read(mutants.SOURCE)))),

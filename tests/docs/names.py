@@ -48,11 +48,11 @@ def landings():
 
 
 def words():
-    """Every word of the crates, the header, the host, the tools and the tests: names as they are written there."""
+    """Every word of the crates, the header, the host, the tools and the tests: names as they are written there, and not in a document."""
     found = set()
     for folder in ("crates", "include", "host", "tools", "tests", ".ci"):
         for path, _, files in os.walk(os.path.join(ROOT, folder)):
-            for name in files:
+            for name in [name for name in files if not name.endswith((".md", ".pyc"))]:
                 text = read(os.path.join(path, name))
                 found.add(os.path.splitext(name)[0])
                 found.update(re.findall(r"[\w′-]+", text))
