@@ -627,8 +627,8 @@ pub fn put_9999(out: &mut [u8], to: To, run: &[u8]) -> usize
     ensures { λ r. ⌜ (r ≡ to .at + record-length header-length)
         × Put (now (out .entry)) (to .at) (frame-record (to .session) (take header-length (now (run .entry)))) r (now (out .exit)) ⌝ }
 {
-    let nul = text::copy(&run[0..HEADER_LENGTH], out, to.at + model::RECORD_HEAD);
-    let end = text::fill(out, nul, 1, 0);
+    let at = text::copy(&run[0..HEADER_LENGTH], out, to.at + model::RECORD_HEAD);
+    let end = text::fill(out, at, 1, 0);
     put_record(out, to, FRAME_KIND, end)
 }
 
