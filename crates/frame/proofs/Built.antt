@@ -1,129 +1,127 @@
 -- Frames in their output records, and which of the model's frames each is.
-use mathlib.Core.Path.{_≡_, refl, sym, ap, subst, _∙_}
+use mathlib.Core.Path.{_≡_, refl, sym, ap, subst}
 use Prim.Native.Nat.{ℕ, zero, suc, _+_, _-_, _≤_, _<_}
 use native.Mathlib.Omega.{arith}
-use mathlib.Core.Bool.{Bool, true, cond}
-use mathlib.Core.List.{List, [], _∷_, _++_, map, append-assoc}
-use lib.Dec.{leb}
-use borrow.Author.Tests.{leb-true}
-use lib.ListN.{length, length-append}
+use mathlib.Core.Bool.{Bool, true}
+use mathlib.Core.List.{List, [], _∷_, _++_, map}
+use lib.Dec.{leb, ltb}
+use borrow.Author.Tests.{leb-true, ltb-true}
+use lib.ListN.{length, length-append, replicate}
 use lib.Seq.{take-all}
 use Rattle.model.specs.Limits.{header-length, identifier-length}
-use Rattle.model.specs.Bytes.{digit-0, digit-1, all, in-bytes}
-use Rattle.model.specs.Records.{record-head, said, settings-length, settings-items, values, settings-of, tightening-of}
+use Rattle.model.specs.Bytes.{NUL, all, in-bytes}
+use Rattle.model.specs.Records.{record-head, house-record, said, settings-length, settings-items, values, settings-of, tightening-of}
 use Rattle.model.specs.Layouts.{Layout, data-from, data-of, characters, data-length, layout-at, layouts-0052, layouts-0061}
 use Rattle.model.specs.Kinds.{Kind, kinds, kind-at}
-use Rattle.model.specs.Frames.{header, frame, frame-0002, frame-0004, frame-0005, event-frame, frame-kind, frame-record}
+use Rattle.model.specs.Frames.{header, frame, frame-0002, frame-0004, frame-0005, event-frame}
 use Rattle.model.proofs.Framed.{at-every}
 use Rattle.model.proofs.KindLaws.{every-layout}
 use Rattle.text.specs.Put.{Put}
 use Rattle.text.proofs.Numbers.{digits-length}
 use Rattle.text.proofs.Puts.{put-then, put-before, put-as}
+use Rattle.frame.specs.declared.Content.{Content}
 use Rattle.frame.specs.declared.Content.the-variants.{Started, Refused, Accepted, Notice}
-use Rattle.frame.specs.declared.Frame.{Frame}
+use Rattle.frame.specs.declared.Asked.{Asked}
+use Rattle.frame.specs.declared.Heading.{Heading}
 use Rattle.frame.specs.declared.To.{To}
 use Rattle.frame.specs.Places.{place-items, place-size, result-of, event-in}
-use Rattle.frame.specs.Layout.{placed, Payloads, data-in, served, all-served}
-use Rattle.frame.specs.Output.{Written, frame-length, frame-of, reply-of, record-length, Sendable}
+use Rattle.frame.specs.Layout.{layout-of, placed, Payloads, data-in, served, all-served}
+use Rattle.frame.specs.Output.{Written, frame-length, mid-of, revision-of, notice-byte-12, byte-12-of, heading-of, heading-bytes}
+use Rattle.frame.specs.Output.{frame-of, head-bytes}
 
--- ==== a frame in its output record
+-- ==== output records
 
-header-size : (size mid revision byte-12 : ℕ) → length (header size mid revision byte-12) ≡ header-length
-unfolding header
-header-size size mid revision byte-12 = simp (length-append, digits-length)
+-- the head is written last, before the payload that stands there
+pub recorded : {o o₁ o₂ bs : List ℕ} {end r : ℕ} (to : To) (kind : ℕ) → Put o (to .at + record-head) bs end o₁
+    → (r ≡ end) × Written o₁ (to .at) record-head (head-bytes to kind end) (to .at + record-head) o₂
+    → Put o (to .at) (house-record (kind + to .session) bs) r o₂
+recorded {o} {o₁} {o₂} {bs} {end} {r} to kind p h =
+    let n : end - (to .at + record-head) ≡ length bs = let e = p .place in omega arith in
+    subst (λ (k : ℕ). Put o (to .at) (house-record (kind + to .session) bs) k o₂) (sym (h .0))
+    (put-as (ap (λ (k : ℕ). (in-bytes 2 k ++ in-bytes 2 (kind + to .session)) ++ bs) n)
+    (put-before p (h .1 .put) refl))
 
--- a frame of so many bytes, behind the head of its record and before its NUL
-pub recorded : (s n : ℕ) (bs : List ℕ) → length bs ≡ n
-    → ((in-bytes 2 (n + 1) ++ in-bytes 2 (frame-kind s)) ++ bs) ++ in-bytes 1 0 ≡ frame-record s bs
-unfolding frame-record in-bytes
-recorded s n bs e = rw (← e, length-append bs (0 ∷ []))
+-- ==== frames
 
-framed : (s mid revision byte-12 n : ℕ) (d : List ℕ) → n ≡ header-length + length d
-    → (((in-bytes 2 (n + 1) ++ in-bytes 2 (frame-kind s)) ++ header n mid revision byte-12) ++ d) ++ in-bytes 1 0
-    ≡ frame-record s (frame mid revision byte-12 d)
+-- a header that says what another says
+pub headed : {o o′ : List ℕ} {at r : ℕ} {h g : Heading} → h ≡ g → Written o at header-length (heading-bytes h) r o′
+    → Written o at header-length (heading-bytes g) r o′
+headed {o} {o′} {at} {r} e w = subst (λ (x : Heading). Written o at header-length (heading-bytes x) r o′) e w
+
+-- header, data and NUL, one after another
+pub wrote-frame : {o o₁ o₂ o₃ : List ℕ} {at next nul end : ℕ} (content : Content) (b : Payloads)
+    → Written o at header-length (heading-bytes (heading-of content)) next o₁
+    → Written o₁ next (data-length (layout-of content)) (data-in content b) nul o₂
+    → (end ≡ nul + 1) × Put o₂ nul (replicate 1 0) end o₃
+    → (end ≡ at + suc (frame-length content)) × Put o at (frame-of content b ++ NUL ∷ []) end o₃
 unfolding frame
-framed s mid revision byte-12 n d e =
-    let h = header n mid revision byte-12 in
-    let l : length (h ++ d) ≡ n = length-append h d ∙ ap (λ (k : ℕ). k + length d) (header-size n mid revision byte-12) ∙ sym e in
-    ap (λ (x : List ℕ). x ++ in-bytes 1 0) (append-assoc (in-bytes 2 (n + 1) ++ in-bytes 2 (frame-kind s)) h d)
-    ∙ recorded s n (h ++ d) l ∙ ap (λ (k : ℕ). frame-record s (header k mid revision byte-12 ++ d)) e
-
--- the data is written first, then the record's head, the header and the NUL
-pub wrote-frame : {o o₁ o₂ o₃ o₄ d : List ℕ} {at n end r₁ r₂ r₃ : ℕ} (s mid revision byte-12 : ℕ)
-    → Written o (at + record-head + header-length) n d end o₁
-    → Written o₁ at record-head (in-bytes 2 (end - (at + record-head) + 1) ++ in-bytes 2 (frame-kind s)) r₁ o₂
-    → Written o₂ (at + record-head) header-length (header (end - (at + record-head)) mid revision byte-12) r₂ o₃
-    → (r₃ ≡ end + 1) × Put o₃ end (in-bytes 1 0) r₃ o₄
-    → Written o at (record-length (header-length + n)) (frame-record s (frame mid revision byte-12 d)) r₃ o₄
-wrote-frame {o₂ = o₂} {o₃ = o₃} {d = d} {at = at} {n = n} {end = end} {r₂ = r₂} s mid revision byte-12 a b c e =
-    let p = a .place in
-    let q = a .put .place in
-    let g = b .place in
-    let h = c .place in
-    let i = e .0 in
-    let bytes = header (end - (at + record-head)) mid revision byte-12 in
-    record {
-      place = omega arith;
-      put =
-          put-as (framed s mid revision byte-12 (end - (at + record-head)) d (omega arith))
-          (put-then
-          (put-before (a .put) (put-then (b .put) (subst (λ (k : ℕ). Put o₂ k bytes r₂ o₃) (sym g) (c .put))) (omega arith)) (e .1));
-    }
+wrote-frame {at = at} content b h d z =
+    let p = h .place in
+    let q = d .place in
+    let e = d .put .place in
+    let i = z .0 in
+    let n : frame-length content ≡ header-length + length (data-in content b) = omega arith in (
+      omega arith,
+      put-as (ap (λ (k : ℕ). (header k (mid-of content) (revision-of content) (byte-12-of content) ++ data-in content b) ++ NUL ∷ []) n)
+          (put-then (put-then (h .put) (d .put)) (z .1)),
+    )
 
 -- ==== how long they are, and which bytes serve them
 
 abbrev short : Kind → Layout → Bool
 short k l = leb (header-length + data-length l) (k .longest)
 
-pub copy-short : (kind revision : ℕ) → kind < length kinds → frame-length (Notice kind revision) ≤ (kind-at kind) .longest
-copy-short kind revision h = leb-true _ _ (every-layout short refl kind h revision)
+pub copy-short : (asked : Asked) → asked .kind < length kinds → frame-length (Notice asked) ≤ (kind-at (asked .kind)) .longest
+copy-short asked h = leb-true _ _ (every-layout short refl (asked .kind) h (asked .revision))
+
+abbrev few-rows : Kind → Layout → Bool
+few-rows k l = ltb (length (l .rows)) 100
+
+pub copy-few : (asked : Asked) → asked .kind < length kinds → length (layout-of (Notice asked) .rows) < 100
+copy-few asked h = ltb-true _ _ (every-layout few-rows refl (asked .kind) h (asked .revision))
 
 abbrev serves : ℕ → Layout → Bool
 serves kind l = all (served settings-length (place-size kind)) (map (placed (place-items kind)) (l .rows))
 
-pub notice-served : (kind revision : ℕ) → kind < length kinds
-    → all-served (Notice kind revision) settings-length (place-size kind) ≡ true
-notice-served zero revision h = at-every (serves 0) layouts-0052 refl revision
-notice-served (suc zero) revision h = at-every (serves 1) layouts-0061 refl revision
-notice-served (suc (suc kind)) revision h = absurd (omega arith)
+notices-served : (kind revision : ℕ) → kind < length kinds → serves kind (layout-at ((kind-at kind) .layouts) revision) ≡ true
+notices-served zero revision h = at-every (serves 0) layouts-0052 refl revision
+notices-served (suc zero) revision h = at-every (serves 1) layouts-0061 refl revision
+notices-served (suc (suc kind)) revision h = absurd (omega arith)
 
--- ==== a frame that says what another says
-
-module _ {f g : Frame} (e : f ≡ g) (b : Payloads) where
-  pub sendable : {o : List ℕ} {to : To} → Sendable o to g b → Sendable o to f b
-  sendable {o} {to} h = subst (λ (x : Frame). Sendable o to x b) (sym e) h
-
-  pub sent : {o o′ : List ℕ} {at r : ℕ} (s : ℕ) (bytes : List ℕ) → frame-of g b ≡ bytes
-      → Written o at (record-length (frame-length (f .content))) (frame-record s (frame-of f b)) r o′
-      → (r ≡ at + record-length (frame-length (g .content))) × Put o at (frame-record s bytes) r o′
-  sent {at = at} s bytes q w = (
-    w .place ∙ ap (λ (x : Frame). at + record-length (frame-length (x .content))) e,
-    put-as (ap (frame-record s) (ap (λ (x : Frame). frame-of x b) e ∙ q)) (w .put),
-  )
+pub notice-served : (asked : Asked) → asked .kind < length kinds
+    → all-served (Notice asked) settings-length (place-size (asked .kind)) ≡ true
+notice-served asked h = notices-served (asked .kind) (asked .revision) h
 
 -- ==== what each is
 
-pub is-0002 : (b : Payloads) → frame-of (reply-of 2 Started) b ≡ frame-0002 (settings-of (b .settings))
+pub is-0002 : (b : Payloads) → frame-of Started b ≡ frame-0002 (settings-of (b .settings))
 unfolding frame-0002 data-in settings-of
 is-0002 b = refl
 
-pub is-0004 : (b : Payloads) (mid error : ℕ) → frame-of (reply-of 4 (Refused mid error)) b ≡ frame-0004 mid error
+pub is-0004 : (b : Payloads) (mid error : ℕ) → frame-of (Refused mid error) b ≡ frame-0004 mid error
 unfolding frame-0004 data-in data-from characters
 is-0004 b mid error = refl
 
-pub is-0005 : (b : Payloads) (mid : ℕ) → frame-of (reply-of 5 (Accepted mid)) b ≡ frame-0005 mid
+pub is-0005 : (b : Payloads) (mid : ℕ) → frame-of (Accepted mid) b ≡ frame-0005 mid
 unfolding frame-0005 data-in data-from characters
 is-0005 b mid = refl
 
 -- a copy of what is in a place
-pub is-copy : (st p : List ℕ) (kind revision : ℕ) (no-acknowledge : Bool) → kind < length kinds → length p ≡ place-size kind
-    → frame ((kind-at kind) .notice) revision (cond no-acknowledge digit-1 digit-0)
-    (data-in (Notice kind revision) (record { settings = st; told = p }))
+copy-of : (st p : List ℕ) (kind revision : ℕ) (no-acknowledge : Bool) → kind < length kinds → length p ≡ place-size kind
+    → frame ((kind-at kind) .notice) revision (notice-byte-12 no-acknowledge)
+    (data-of (layout-at ((kind-at kind) .layouts) revision)
+    (record { settings = values settings-items st; told = values (place-items kind) p }))
     ≡ event-frame (settings-of st) revision no-acknowledge (event-in kind p)
-unfolding event-frame data-in settings-of tightening-of result-of
-is-copy st p zero revision no-acknowledge h l =
-    ap (λ (x : List ℕ). frame 52 revision (cond no-acknowledge digit-1 digit-0)
+unfolding event-frame settings-of tightening-of result-of
+copy-of st p zero revision no-acknowledge h l =
+    ap (λ (x : List ℕ). frame 52 revision (notice-byte-12 no-acknowledge)
     (data-of (layout-at layouts-0052 revision) (record { settings = values settings-items st; told = said x ∷ [] })))
     (take-all identifier-length p (omega arith))
-is-copy st p (suc zero) revision no-acknowledge h l = refl
-is-copy st p (suc (suc kind)) revision no-acknowledge h l = absurd (omega arith)
+copy-of st p (suc zero) revision no-acknowledge h l = refl
+copy-of st p (suc (suc kind)) revision no-acknowledge h l = absurd (omega arith)
+
+pub is-copy : (st p : List ℕ) (asked : Asked) → asked .kind < length kinds → length p ≡ place-size (asked .kind)
+    → frame-of (Notice asked) (record { settings = st; told = p })
+    ≡ event-frame (settings-of st) (asked .revision) (asked .«no_acknowledge») (event-in (asked .kind) p)
+unfolding data-in
+is-copy st p asked h l = copy-of st p (asked .kind) (asked .revision) (asked .«no_acknowledge») h l

@@ -1,12 +1,12 @@
 -- The data of a frame, row by row: the loop that writes it.
 use mathlib.Core.Path.{_≡_, refl, sym, ap, subst, _∙_}
-use Prim.Native.Nat.{ℕ, _+_, _≤_, _<_}
+use Prim.Native.Nat.{ℕ, _+_, _/_, _%_, _≤_, _<_}
 use native.Mathlib.Nat.{add-zero}
 use native.Mathlib.Numerals.{add-one}
 use native.Mathlib.Omega.{arith}
 use mathlib.Core.Bool.{Bool}
-use mathlib.Core.List.{List, _++_, map}
-use lib.ListN.{length, drop, length-map, drop-of-length-le, List·getD-map}
+use mathlib.Core.List.{List, [], _∷_, _++_, map}
+use lib.ListN.{length, drop, replicate, length-map, drop-of-length-le, List·getD-map}
 use Rattle.model.specs.Bytes.{all, digits}
 use Rattle.model.specs.Layouts.{Sources, Row, blank, width-of, characters, label-length, label, data-from, rows-length, data-length}
 use Rattle.text.specs.Put.{Put}
@@ -18,6 +18,19 @@ use Rattle.frame.specs.Layout.{layout-of, items-told, row-at, placed, pl
 use Rattle.frame.specs.Layout.{data-in, served}
 use Rattle.frame.specs.Output.{Written, Servable, Layable}
 use Rattle.frame.proofs.Placing.{suits, placed-shown, width-placed, all-suit}
+
+-- ==== a field's number
+
+-- two digits, one after the other
+pub two-digits : {o o₁ o₂ : List ℕ} {n at r₁ r₂ : ℕ} → n < 100 → (r₁ ≡ at + 1) × Put o at (replicate 1 (0x30 + n / 10)) r₁ o₁
+    → (r₂ ≡ r₁ + 1) × Put o₁ r₁ (replicate 1 (0x30 + n % 10)) r₂ o₂ → Written o at 2 (digits 2 n) r₂ o₂
+unfolding digits
+two-digits {n = n} h p q = record {
+  place = let e = p .0 in let f = q .0 in omega arith;
+  put =
+      let e : n / 10 ≡ n / 10 % 10 = omega arith in
+      put-as (ap (λ (d : ℕ). (0x30 + d) ∷ (0x30 + n % 10) ∷ []) e) (put-then (p .1) (q .1));
+}
 
 -- ==== one row more
 
@@ -57,13 +70,21 @@ module _ (content : Content) (b : Payloads) (o₀ : List ℕ) (at : ℕ) where
   laying = record { within = omega arith; place = refl; left = left-all _ _ _ }
 
   module _ {o : List ℕ} {to k : ℕ} (l : Laying o to k) where
-    module _ (h : k < length rows) (w : Layable content b at (length o₀)) {label : ℕ} (el : label ≡ label-length numbered) where
-      -- there is room for the next field and its number
-      pub label-room : to + label ≤ length o
-      label-room = let e = length-next numbered rows k h in let z = l .left .size in let r = w .room in let p = l .place in omega arith
+    module _ (h : k < length rows) (w : Layable content b at (length o₀)) {flag : Bool} (ef : flag ≡ numbered) where
+      same-length : label-length flag ≡ label-length numbered
+      same-length = ap label-length ef
+
+      -- the next field's number has two digits, and there is room for it and the field
+      pub label-few : k + 1 < 100
+      label-few = let f = w .few in omega arith
+
+      pub label-room : to + label-length flag ≤ length o
+      label-room =
+          let e = length-next numbered rows k h in let z = l .left .size in let r = w .room in let p = l .place in
+          omega (arith, same-length)
 
       pub row-servable : {n size : ℕ} {row : Placed} → row ≡ placed (items-told content) (row-at rows k)
-          → n ≡ to + label → size ≡ length o → Servable b row n size
+          → n ≡ to + label-length flag → size ≡ length o → Servable b row n size
       row-servable {n} {size} {row} e q z =
           let ps = map (placed (items-told content)) rows in
           let s = all-at (served (length (b .settings)) (length (b .told))) ps k (placed (items-told content) (blank 0)) (w .sound)
@@ -72,22 +93,22 @@ module _ (content : Content) (b : Payloads) (o₀ : List ℕ) (at : ℕ) where
             sound = rw (← List·getD-map (placed (items-told content)) rows k (blank 0)) s;
             room =
                 let d = length-next numbered rows k h in let g = l .left .size in let r = w .room in let p = l .place in
-                let v = width-placed (items-told content) (row-at rows k) in omega arith;
+                let v = width-placed (items-told content) (row-at rows k) in omega (arith, same-length);
           })
 
       -- a field and its number are written
       pub laid : {o₁ o₂ : List ℕ} {n to′ : ℕ} {row : Placed} → row ≡ placed (items-told content) (row-at rows k)
-          → (n ≡ to + label) × Put o to (digits label (k + 1)) n o₁
+          → Written o to (label-length flag) (label flag (k + 1)) n o₁
           → Written o₁ n (placed-width row) (field-characters b row) to′ o₂ → Laying o₂ to′ (k + 1)
       laid {o₁} {o₂} {n} {to′} {row} e q v =
           let ok = all-at (suits (items-told content)) rows k (blank 0) (all-suit content (w .real)) h in record {
             within = omega arith;
             place =
-                let d = length-next numbered rows k h in let p = l .place in let f = q .0 in let g = v .place in
-                let j = ap placed-width e ∙ width-placed (items-told content) (row-at rows k) in omega arith;
+                let d = length-next numbered rows k h in let p = l .place in let f = q .place in let g = v .place in
+                let j = ap placed-width e ∙ width-placed (items-told content) (row-at rows k) in omega (arith, same-length);
             left =
                 left-put (left-as (data-next numbered rows k h (said-by content b)) (l .left))
-                (put-then (put-as (ap (λ (n : ℕ). digits n (k + 1)) el) (q .1))
+                (put-then (put-as (ap (λ (x : Bool). label x (k + 1)) ef) (q .put))
                 (put-as (ap (field-characters b) e ∙ placed-shown (items-told content) b (row-at rows k) ok) (v .put)));
           }
 

@@ -12,13 +12,14 @@ use Rattle.model.specs.Bytes.{all, digits, little}
 use Rattle.model.specs.Records.{Item, number, text, time, item-length, parts-from, Value, counted, value-of, values-of, values}
 use Rattle.model.specs.Records.{number-in, text-in, number-at, text-at, settings-items, scanned-items}
 use Rattle.model.specs.Layouts.{Sources, settings, source, Row, number as number-row, text as text-row, blank, known, width-of, characters}
-use Rattle.model.specs.Layouts.{layouts-0052, layouts-0061}
+use Rattle.model.specs.Layouts.{layout-at, layouts-0052, layouts-0061}
+use Rattle.model.specs.Kinds.{kinds, kind-at}
 use Rattle.frame.specs.declared.Content.{Content}
 use Rattle.frame.specs.declared.Content.the-variants.{Started, Refused, Accepted, Notice}
 use Rattle.frame.specs.Layout.{layout-of, items-told, items-of, item-at, place-of, placed, placed-width, Payloads}
 use Rattle.frame.specs.Layout.{bytes-of, field-characters}
 use Rattle.frame.specs.Output.{Real}
-use Rattle.frame.specs.Places.{result-items}
+use Rattle.frame.specs.Places.{result-items, place-items}
 use Rattle.model.proofs.Framed.{at-every}
 
 -- ==== value i of a payload is read from the bytes of item i
@@ -105,11 +106,15 @@ width-placed told (text-row width from i) = refl
 width-placed told (blank width) = refl
 width-placed told (known width n) = refl
 
--- the rows of every frame do
+-- the rows of every notice do, and those of every frame
+notice-suits : (kind revision : ℕ) → kind < length kinds
+    → all (suits (place-items kind)) (layout-at ((kind-at kind) .layouts) revision .rows) ≡ true
+notice-suits zero revision h = at-every (λ l. all (suits scanned-items) (l .rows)) layouts-0052 refl revision
+notice-suits (suc zero) revision h = at-every (λ l. all (suits result-items) (l .rows)) layouts-0061 refl revision
+notice-suits (suc (suc kind)) revision h = absurd (omega arith)
+
 pub all-suit : (content : Content) → Real content → all (suits (items-told content)) (layout-of content .rows) ≡ true
 all-suit Started h = refl
 all-suit (Refused mid error) h = refl
 all-suit (Accepted mid) h = refl
-all-suit (Notice zero revision) h = at-every (λ l. all (suits scanned-items) (l .rows)) layouts-0052 refl revision
-all-suit (Notice (suc zero) revision) h = at-every (λ l. all (suits result-items) (l .rows)) layouts-0061 refl revision
-all-suit (Notice (suc (suc kind)) revision) h = absurd (omega arith)
+all-suit (Notice asked) h = notice-suits (asked .kind) (asked .revision) h

@@ -102,16 +102,3 @@ module _ (revision k : ℕ) where
 -- which they are
 pub first-revision : (revision : ℕ) → behind revision ≡ result-rows
 first-revision revision = refl
-
--- how many rows a revision has, by a table of the older ones
-pub count-at : (ls : List Layout) (d : Layout) (i : ℕ) → i < length ls
-    → getD (map (λ (l : Layout). length (l .rows)) ls) i 0 ≡ length (getD ls i d .rows)
-count-at [] d i h = absurd (omega arith)
-count-at (l ∷ ls) d zero h = refl
-count-at (l ∷ ls) d (suc i) h = count-at ls d i (omega arith)
-
--- each field of a notice has its number
-pub extent-at : (kind revision n : ℕ) → kind < length kinds → n ≡ length (layout-of (Notice kind revision) .rows)
-    → record { label = 2; count = n } ≡ extent-of (Notice kind revision)
-extent-at kind revision n h e =
-    λ i. record { label = label-length (sym (every-layout (λ k l. l .numbered) refl kind h revision) i); count = e i }

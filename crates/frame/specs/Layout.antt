@@ -6,7 +6,7 @@ use lib.Dec.{leb, eqb}
 use lib.ListN.{length, getD, take, drop}
 use Rattle.model.specs.Bytes.{all, spaces, digits, little}
 use Rattle.model.specs.Records.{Item, time, item-length, payload-length, values, settings-items}
-use Rattle.model.specs.Layouts.{Sources, settings, Row, number, text, blank, known, Layout, label-length, data-of, layout-at}
+use Rattle.model.specs.Layouts.{Sources, settings, Row, number, text, blank, known, Layout, data-of, layout-at}
 use Rattle.model.specs.Layouts.{layout-0002, layout-0004, layout-0005}
 use Rattle.model.specs.Kinds.{kind-at}
 use Rattle.frame.specs.Places.{place-items}
@@ -22,16 +22,16 @@ abbrev pub layout-of : Content → Layout
 layout-of Started = layout-0002
 layout-of (Refused mid error) = layout-0004 mid error
 layout-of (Accepted mid) = layout-0005 mid
-layout-of (Notice kind revision) = layout-at ((kind-at kind) .layouts) revision
+layout-of (Notice asked) = layout-at ((kind-at (asked .kind)) .layouts) (asked .revision)
 
 abbrev pub items-told : Content → List Item
 items-told Started = []
 items-told (Refused mid error) = []
 items-told (Accepted mid) = []
-items-told (Notice kind revision) = place-items kind
+items-told (Notice asked) = place-items (asked .kind)
 
 abbrev pub extent-of : Content → Extent
-extent-of content = record { label = label-length (layout-of content .numbered); count = length (layout-of content .rows) }
+extent-of content = record { numbered = layout-of content .numbered; count = length (layout-of content .rows) }
 
 -- row k (past the last there is none)
 abbrev pub row-at : List Row → ℕ → Row

@@ -1,23 +1,23 @@
 -- What the writers of fields, frames and output records are lent, and what they do. 01, "Frames we write", and "House records", output
 -- records.
 use mathlib.Core.Path.{_≡_}
-use Prim.Native.Nat.{ℕ, suc, _+_, _≤_, _<_}
-use mathlib.Core.Bool.{true, cond}
-use mathlib.Core.List.{List}
+use Prim.Native.Nat.{ℕ, suc, _+_, _-_, _≤_, _<_}
+use mathlib.Core.Bool.{Bool, true, cond}
+use mathlib.Core.List.{List, _++_}
 use lib.ListN.{length}
 use Rattle.model.specs.Limits.{header-length}
-use Rattle.model.specs.Bytes.{space, digit-0, digit-1}
+use Rattle.model.specs.Bytes.{space, digit-0, digit-1, in-bytes}
 use Rattle.model.specs.Records.{record-head, settings-length}
 use Rattle.model.specs.Layouts.{data-length}
 use Rattle.model.specs.Kinds.{kinds, kind-at, copy-most}
-use Rattle.model.specs.Frames.{frame}
+use Rattle.model.specs.Frames.{header, frame}
 use Rattle.text.specs.Put.{Put}
 use Rattle.frame.specs.Places.{place-size}
 use Rattle.frame.specs.Layout.{layout-of, Payloads, bytes-of, placed-width, data-in, served, all-served}
 use Rattle.frame.specs.declared.Placed.{Placed}
 use Rattle.frame.specs.declared.Content.{Content}
 use Rattle.frame.specs.declared.Content.the-variants.{Started, Refused, Accepted, Notice}
-use Rattle.frame.specs.declared.Frame.{Frame}
+use Rattle.frame.specs.declared.Heading.{Heading}
 use Rattle.frame.specs.declared.To.{To}
 use Rattle.frame.specs.declared.Asked.{Asked}
 
@@ -42,11 +42,12 @@ abbrev pub Real : Content → Type 0
 Real Started = Unit {0}
 Real (Refused mid error) = Unit {0}
 Real (Accepted mid) = Unit {0}
-Real (Notice kind revision) = kind < length kinds
+Real (Notice asked) = asked .kind < length kinds
 
--- the rows of a frame can be written
+-- the rows of a frame can be written: a field's number has two digits
 pub record Layable (content : Content) (b : Payloads) (at size : ℕ) : Type 0 where
   pub real : Real content
+  pub few : length (layout-of content .rows) < 100
   pub sound : all-served content (length (b .settings)) (length (b .told)) ≡ true
   pub room : at + data-length (layout-of content) ≤ size
 
@@ -56,19 +57,41 @@ pub record Layable (content : Content) (b : Payloads) (at size : ℕ) : Type 0 w
 abbrev pub frame-length : Content → ℕ
 frame-length content = header-length + data-length (layout-of content)
 
-abbrev pub frame-of : Frame → Payloads → List ℕ
-frame-of f b = frame (f .mid) (f .revision) (f .«byte_12») (data-in (f .content) b)
+-- its message number; its revision and byte 12: of a reply 1 and a space, of a notice as it was subscribed to
+abbrev pub mid-of : Content → ℕ
+mid-of Started = 2
+mid-of (Refused mid error) = 4
+mid-of (Accepted mid) = 5
+mid-of (Notice asked) = (kind-at (asked .kind)) .notice
 
-abbrev pub reply-of : ℕ → Content → Frame
-reply-of mid content = record { mid = mid; revision = 1; «byte_12» = space; content = content }
+abbrev pub revision-of : Content → ℕ
+revision-of Started = 1
+revision-of (Refused mid error) = 1
+revision-of (Accepted mid) = 1
+revision-of (Notice asked) = asked .revision
 
-abbrev pub notice-of : Asked → Frame
-notice-of asked = record {
-  mid = (kind-at (asked .kind)) .notice;
-  revision = asked .revision;
-  «byte_12» = cond (asked .«no_acknowledge») digit-1 digit-0;
-  content = Notice (asked .kind) (asked .revision);
+abbrev pub notice-byte-12 : Bool → ℕ
+notice-byte-12 no-acknowledge = cond no-acknowledge digit-1 digit-0
+
+abbrev pub byte-12-of : Content → ℕ
+byte-12-of Started = space
+byte-12-of (Refused mid error) = space
+byte-12-of (Accepted mid) = space
+byte-12-of (Notice asked) = notice-byte-12 (asked .«no_acknowledge»)
+
+abbrev pub heading-of : Content → Heading
+heading-of content = record {
+  size = frame-length content;
+  mid = mid-of content;
+  revision = revision-of content;
+  «byte_12» = byte-12-of content;
 }
+
+abbrev pub heading-bytes : Heading → List ℕ
+heading-bytes h = header (h .size) (h .mid) (h .revision) (h .«byte_12»)
+
+abbrev pub frame-of : Content → Payloads → List ℕ
+frame-of content b = frame (mid-of content) (revision-of content) (byte-12-of content) (data-in content b)
 
 -- 0005 has the number that is answered, 0004 an error behind it
 abbrev pub length-0005 : ℕ
@@ -88,11 +111,22 @@ pub record Writable (out : List ℕ) (to : To) (size : ℕ) : Type 0 where
   pub room : to .at + size ≤ length out
   pub numbered : to .session < 256
 
+-- a payload that stands there up to `end` can become a record, of a kind to which the session's number is added
+pub record Closable (out : List ℕ) (to : To) (kind end : ℕ) : Type 0 where
+  pub output : Writable out to record-head
+  pub ends : to .at + record-head ≤ end
+  pub few : kind ≤ 512
+
+-- the head of that record
+abbrev pub head-bytes : To → ℕ → ℕ → List ℕ
+head-bytes to kind end = in-bytes 2 (end - (to .at + record-head)) ++ in-bytes 2 (kind + to .session)
+
 -- a frame can go there
-pub record Sendable (out : List ℕ) (to : To) (f : Frame) (b : Payloads) : Type 0 where
-  pub output : Writable out to (record-length (frame-length (f .content)))
-  pub real : Real (f .content)
-  pub sound : all-served (f .content) (length (b .settings)) (length (b .told)) ≡ true
+pub record Sendable (out : List ℕ) (to : To) (content : Content) (b : Payloads) : Type 0 where
+  pub output : Writable out to (record-length (frame-length content))
+  pub real : Real content
+  pub few : length (layout-of content .rows) < 100
+  pub sound : all-served content (length (b .settings)) (length (b .told)) ≡ true
 
 -- a copy of the notice in a place can go there: it may be as long as its kind has them, and what it is made of is whole
 pub record Lent (out : List ℕ) (to : To) (asked : Asked) (st p : List ℕ) : Type 0 where

@@ -1,16 +1,16 @@
 // Frames: the header of a received one is read, and those that we send are written by their rows.
 ghost use mathlib.Core.Path.{_≡_};
-ghost use mathlib.Core.Bool.{true, cond, _||_};
-ghost use mathlib.Core.List.{[], _++_};
+ghost use mathlib.Core.Bool.{true, _||_};
+ghost use mathlib.Core.List.{[]};
 ghost use Prim.Native.Nat.{_+_, _≤_, _<_};
 ghost use lib.ListN.{length, take, drop};
 ghost use Rattle.model.specs.Limits.{header-length};
-ghost use Rattle.model.specs.Bytes.{digit-0, digit-1, is-digit, is-space, all, little, in-bytes};
+ghost use Rattle.model.specs.Bytes.{space, is-digit, is-space, all, little};
 ghost use Rattle.model.specs.Runs.{is-flag as is-flag-byte, revision-of, is-message as is-message-run};
 ghost use Rattle.model.specs.Records.{record-head, settings-of, settings-length, scanned-items};
-ghost use Rattle.model.specs.Layouts.{controller-rows, identifier-rows, result-rows, data-length};
+ghost use Rattle.model.specs.Layouts.{controller-rows, identifier-rows, result-rows, data-length, label-length, label};
 ghost use Rattle.model.specs.Kinds.{kinds, kind-at, copy-most, reply-most};
-ghost use Rattle.model.specs.Frames.{header as header-bytes, frame-0002, frame-0004, frame-0005, event-frame, frame-record, close-record};
+ghost use Rattle.model.specs.Frames.{frame-0002, frame-0004, frame-0005, event-frame, frame-record, close-record};
 ghost use Rattle.text.specs.Put.{Put};
 ghost use Rattle.frame.specs.Header.{header-of};
 ghost use Rattle.frame.specs.Places.{result-items, event-in};
@@ -33,10 +33,13 @@ ghost use Rattle.frame.specs.Output.{
   Servable,
   Layable,
   Sendable,
+  heading-bytes,
+  notice-byte-12,
   frame-length,
+  heading-of,
   frame-of,
-  reply-of,
-  notice-of,
+  Closable,
+  head-bytes,
   length-0004,
   length-0005,
   record-length,
@@ -200,6 +203,13 @@ pub enum Placed {
     Known(usize, u64),
 }
 
+// How a session is subscribed to a kind of notice, as far as a copy shows it.
+pub struct Asked {
+    pub kind: usize,
+    pub revision: u64,
+    pub no_acknowledge: bool,
+}
+
 // What a frame says.
 pub enum Content {
     // 0002
@@ -208,19 +218,15 @@ pub enum Content {
     Refused(u64, u64),
     // 0005: the message that is answered
     Accepted(u64),
-    // a kind of notice, and the revision
-    Notice(usize, u64),
+    // a notice, as it was subscribed to
+    Notice(Asked),
 }
 
-// In how many digits the number stands that each field has before it, and how many rows there are.
+// Whether the fields have their numbers before them, and how many rows there are.
 pub struct Extent {
-    pub label: usize,
+    pub numbered: bool,
     pub count: usize,
 }
-
-const NUMBERED: usize = 2;
-
-const PLAIN: usize = 0;
 
 // 0002, and the first fields of 0061: cell, channel, name.
 const CONTROLLER_COUNT: usize = 3;
@@ -286,28 +292,32 @@ fn result_row(k: usize) -> Placed
 }
 
 // A notice.
-fn notice_extent(kind: usize, revision: u64) -> Extent
-    requires { ⌜ kind < length kinds ⌝ }
-    ensures { λ r. ⌜ r ≡ extent-of (Notice kind revision) ⌝ }
+fn notice_extent(asked: Asked) -> Extent
+    requires { ⌜ asked .kind < length kinds ⌝ }
+    ensures { λ r. ⌜ r ≡ extent-of (Notice asked) ⌝ }
 {
-    if kind == model::IDENTIFIERS {
-        let count = if revision < 2 { 1 } else { IDENTIFIER_COUNT };
+    if asked.kind == model::IDENTIFIERS {
+        let count = if asked.revision < 2 {
+            1
+        } else {
+            IDENTIFIER_COUNT
+        };
         return Extent {
-            label: NUMBERED,
+            numbered: true,
             count,
         };
     }
     Extent {
-        label: NUMBERED,
+        numbered: true,
         count: CONTROLLER_COUNT + RESULT_COUNT,
     }
 }
 
-fn notice_row(kind: usize, revision: u64, k: usize) -> Placed
-    requires { ⌜ (kind < length kinds) × (k < length (layout-of (Notice kind revision) .rows)) ⌝ }
-    ensures { λ r. ⌜ r ≡ placed-row (Notice kind revision) k ⌝ }
+fn notice_row(asked: Asked, k: usize) -> Placed
+    requires { ⌜ (asked .kind < length kinds) × (k < length (layout-of (Notice asked) .rows)) ⌝ }
+    ensures { λ r. ⌜ r ≡ placed-row (Notice asked) k ⌝ }
 {
-    if kind == model::IDENTIFIERS {
+    if asked.kind == model::IDENTIFIERS {
         return identifier_row(k);
     }
     if k < CONTROLLER_COUNT {
@@ -323,18 +333,18 @@ fn measure(content: Content) -> Extent
 {
     match content {
         Content::Started => Extent {
-            label: NUMBERED,
+            numbered: true,
             count: CONTROLLER_COUNT,
         },
         Content::Refused(mid, error) => Extent {
-            label: PLAIN,
+            numbered: false,
             count: 2,
         },
         Content::Accepted(mid) => Extent {
-            label: PLAIN,
+            numbered: false,
             count: 1,
         },
-        Content::Notice(kind, revision) => notice_extent(kind, revision),
+        Content::Notice(asked) => notice_extent(asked),
     }
 }
 
@@ -352,7 +362,7 @@ fn row(content: Content, k: usize) -> Placed
             Placed::Known(2, error)
         }
         Content::Accepted(mid) => Placed::Known(NUMBER_DIGITS, mid),
-        Content::Notice(kind, revision) => notice_row(kind, revision, k),
+        Content::Notice(asked) => notice_row(asked, k),
     }
 }
 
@@ -418,6 +428,19 @@ fn put_value(out: &mut [u8], at: usize, row: Placed, settings: &[u8], told: &[u8
     }
 }
 
+// The number of a field, in two digits, where fields are numbered.
+fn put_label(out: &mut [u8], at: usize, numbered: bool, n: usize) -> usize
+    requires { ⌜ (n < 100) × (at + label-length numbered ≤ length (now out)) ⌝ }
+    ensures { λ r. ⌜ Written (now (out .entry)) at (label-length numbered) (label numbered n) r (now (out .exit)) ⌝ }
+{
+    if !numbered {
+        return at;
+    }
+    let n = n as u8;
+    let at = text::fill(out, at, 1, b'0' + n / 10);
+    text::fill(out, at, 1, b'0' + n % 10)
+}
+
 // The fields of a frame, each with its number before it where they are numbered.
 fn put_fields(out: &mut [u8], at: usize, content: Content, settings: &[u8], told: &[u8]) -> usize
     requires { ⌜ Layable content (payloads (now settings) (now told)) at (length (now out)) ⌝ }
@@ -425,17 +448,100 @@ fn put_fields(out: &mut [u8], at: usize, content: Content, settings: &[u8], told
         (data-in content (payloads (now (settings .entry)) (now (told .entry)))) r (now (out .exit)) ⌝ }
 {
     let extent = measure(content);
-    let label = extent.label;
+    let numbered = extent.numbered;
     let count = extent.count;
     let mut to = at;
     let mut k = 0;
     while k < count {
-        let n = text::put_digits(out, to, label, (k + 1) as u64);
+        let n = put_label(out, to, numbered, k + 1);
         let row = row(content, k);
         to = put_value(out, n, row, settings, told);
         k += 1;
     }
     to
+}
+
+// ---- headers
+
+// What a header says.
+pub struct Heading {
+    pub size: u64,
+    pub mid: u64,
+    pub revision: u64,
+    pub byte_12: u8,
+}
+
+fn put_heading(out: &mut [u8], at: usize, h: Heading) -> usize
+    requires { ⌜ at + header-length ≤ length (now out) ⌝ }
+    ensures { λ r. ⌜ Written (now (out .entry)) at header-length (heading-bytes h) r (now (out .exit)) ⌝ }
+{
+    let at = text::put_digits(out, at, NUMBER_DIGITS, h.size);
+    let at = text::put_digits(out, at, NUMBER_DIGITS, h.mid);
+    let at = text::put_digits(out, at, REVISION_DIGITS, h.revision);
+    let at = text::fill(out, at, 1, h.byte_12);
+    text::fill(out, at, 8, b' ')
+}
+
+// Of a reply: revision 1, and byte 12 a space.
+fn reply_heading(size: u64, mid: u64) -> Heading
+    ensures { λ r. ⌜ r ≡ record { size = size; mid = mid; revision = 1; «byte_12» = space } ⌝ }
+{
+    Heading {
+        size,
+        mid,
+        revision: 1,
+        byte_12: b' ',
+    }
+}
+
+// Byte 12 of a notice.
+fn byte_12(no_acknowledge: bool) -> u8
+    ensures { λ r. ⌜ r ≡ notice-byte-12 «no_acknowledge» ⌝ }
+{
+    if no_acknowledge { b'1' } else { b'0' }
+}
+
+// Of a notice: as it was subscribed to.
+fn notice_heading(size: u64, mid: u64, asked: Asked) -> Heading
+    ensures { λ r. ⌜ r ≡ record {
+      size = size;
+      mid = mid;
+      revision = asked .revision;
+      «byte_12» = notice-byte-12 (asked .«no_acknowledge»);
+    } ⌝ }
+{
+    Heading {
+        size,
+        mid,
+        revision: asked.revision,
+        byte_12: byte_12(asked.no_acknowledge),
+    }
+}
+
+// The header of each frame. Its length and number stand in an arm for each, so that the compiler knows their digits.
+fn put_notice_header(out: &mut [u8], at: usize, asked: Asked) -> usize
+    requires { ⌜ (asked .kind < length kinds) × (at + header-length ≤ length (now out)) ⌝ }
+    ensures { λ r. ⌜ Written (now (out .entry)) at header-length (heading-bytes (heading-of (Notice asked))) r (now (out .exit)) ⌝ }
+{
+    if asked.kind != model::IDENTIFIERS {
+        return put_heading(out, at, notice_heading(231, 61, asked));
+    }
+    if asked.revision < 2 {
+        return put_heading(out, at, notice_heading(47, 52, asked));
+    }
+    put_heading(out, at, notice_heading(128, 52, asked))
+}
+
+fn put_header(out: &mut [u8], at: usize, content: Content) -> usize
+    requires { ⌜ Real content × (at + header-length ≤ length (now out)) ⌝ }
+    ensures { λ r. ⌜ Written (now (out .entry)) at header-length (heading-bytes (heading-of content)) r (now (out .exit)) ⌝ }
+{
+    match content {
+        Content::Started => put_heading(out, at, reply_heading(57, 2)),
+        Content::Refused(mid, error) => put_heading(out, at, reply_heading(26, 4)),
+        Content::Accepted(mid) => put_heading(out, at, reply_heading(24, 5)),
+        Content::Notice(asked) => put_notice_header(out, at, asked),
+    }
 }
 
 // ---- output records
@@ -451,74 +557,41 @@ const FRAME_KIND: u64 = 256;
 
 const CLOSE_KIND: u64 = 512;
 
-// What stands before the payload of a record.
-fn put_head(out: &mut [u8], at: usize, size: usize, kind: u64) -> usize
-    requires { ⌜ at + record-head ≤ length (now out) ⌝ }
-    ensures { λ r. ⌜ Written (now (out .entry)) at record-head (in-bytes 2 size ++ in-bytes 2 kind) r (now (out .exit)) ⌝ }
+// Makes an output record of the payload that stands behind the place of its head, up to `end`.
+fn put_record(out: &mut [u8], to: To, kind: u64, end: usize) -> usize
+    requires { ⌜ Closable (now out) to kind end ⌝ }
+    ensures { λ r. ⌜ (r ≡ end) × Written (now (out .entry)) (to .at) record-head (head-bytes to kind end) (to .at + record-head)
+        (now (out .exit)) ⌝ }
 {
-    let at = text::put_little(out, at, 2, size as u64);
-    text::put_little(out, at, 2, kind)
+    let size = end - (to.at + model::RECORD_HEAD);
+    let at = text::put_little(out, to.at, 2, size as u64);
+    text::put_little(out, at, 2, kind + to.session);
+    end
 }
 
-// The order to close the session.
+// The order to close the session: a record with nothing in it.
 pub fn put_close(out: &mut [u8], to: To) -> usize
     requires { ⌜ Writable (now out) to record-head ⌝ }
     ensures { λ r. ⌜ (r ≡ to .at + record-head)
         × Put (now (out .entry)) (to .at) (close-record (to .session)) r (now (out .exit)) ⌝ }
 {
-    put_head(out, to.at, 0, CLOSE_KIND + to.session)
+    put_record(out, to, CLOSE_KIND, to.at + model::RECORD_HEAD)
 }
 
-// ---- frames: what the header says, and the content
-
-pub struct Frame {
-    pub mid: u64,
-    pub revision: u64,
-    pub byte_12: u8,
-    pub content: Content,
-}
-
-// A frame's header.
-fn put_header(out: &mut [u8], at: usize, size: u64, f: Frame) -> usize
-    requires { ⌜ at + header-length ≤ length (now out) ⌝ }
-    ensures { λ r. ⌜ Written (now (out .entry)) at header-length (header-bytes size (f .mid) (f .revision) (f .«byte_12»)) r
+// Any frame by its rows, with its NUL.
+fn put_frame(out: &mut [u8], to: To, content: Content, settings: &[u8], told: &[u8]) -> usize
+    requires { ⌜ Sendable (now out) to content (payloads (now settings) (now told)) ⌝ }
+    ensures { λ r. ⌜ Written (now (out .entry)) (to .at) (record-length (frame-length content))
+        (frame-record (to .session) (frame-of content (payloads (now (settings .entry)) (now (told .entry))))) r
         (now (out .exit)) ⌝ }
 {
-    let at = text::put_digits(out, at, NUMBER_DIGITS, size);
-    let at = text::put_digits(out, at, NUMBER_DIGITS, f.mid);
-    let at = text::put_digits(out, at, REVISION_DIGITS, f.revision);
-    let at = text::fill(out, at, 1, f.byte_12);
-    text::fill(out, at, 8, b' ')
+    let data = put_header(out, to.at + model::RECORD_HEAD, content);
+    let nul = put_fields(out, data, content, settings, told);
+    let end = text::fill(out, nul, 1, 0);
+    put_record(out, to, FRAME_KIND, end)
 }
 
-// Any frame, with its NUL: its data first, whose end is the frame's, and then what stands before it and behind it.
-fn put_frame(out: &mut [u8], to: To, f: Frame, settings: &[u8], told: &[u8]) -> usize
-    requires { ⌜ Sendable (now out) to f (payloads (now settings) (now told)) ⌝ }
-    ensures { λ r. ⌜ Written (now (out .entry)) (to .at) (record-length (frame-length (f .content)))
-        (frame-record (to .session) (frame-of f (payloads (now (settings .entry)) (now (told .entry))))) r
-        (now (out .exit)) ⌝ }
-{
-    let content = f.content;
-    let start = to.at + model::RECORD_HEAD;
-    let end = put_fields(out, start + HEADER_LENGTH, content, settings, told);
-    let size = end - start;
-    put_head(out, to.at, size + 1, FRAME_KIND + to.session);
-    put_header(out, start, size as u64, f);
-    text::put_little(out, end, 1, 0)
-}
-
-// ---- replies: revision 1, and byte 12 a space
-
-fn reply(mid: u64, content: Content) -> Frame
-    ensures { λ r. ⌜ r ≡ reply-of mid content ⌝ }
-{
-    Frame {
-        mid,
-        revision: 1,
-        byte_12: b' ',
-        content,
-    }
-}
+// ---- replies
 
 // 0002: the session is started. The settings are a settings record's payload.
 pub fn put_0002(out: &mut [u8], to: To, settings: &[u8]) -> usize
@@ -527,8 +600,7 @@ pub fn put_0002(out: &mut [u8], to: To, settings: &[u8]) -> usize
         × Put (now (out .entry)) (to .at) (frame-record (to .session) (frame-0002 (settings-of (now (settings .entry))))) r
         (now (out .exit)) ⌝ }
 {
-    let f = reply(2, Content::Started);
-    put_frame(out, to, f, settings, &settings[0..0])
+    put_frame(out, to, Content::Started, settings, &[])
 }
 
 // 0004: message mid has an error.
@@ -537,8 +609,7 @@ pub fn put_0004(out: &mut [u8], to: To, mid: u64, error: u64) -> usize
     ensures { λ r. ⌜ (r ≡ to .at + record-length length-0004)
         × Put (now (out .entry)) (to .at) (frame-record (to .session) (frame-0004 mid error)) r (now (out .exit)) ⌝ }
 {
-    let f = reply(4, Content::Refused(mid, error));
-    put_frame(out, to, f, &[], &[])
+    put_frame(out, to, Content::Refused(mid, error), &[], &[])
 }
 
 // 0005: message mid is accepted.
@@ -547,8 +618,7 @@ pub fn put_0005(out: &mut [u8], to: To, mid: u64) -> usize
     ensures { λ r. ⌜ (r ≡ to .at + record-length length-0005)
         × Put (now (out .entry)) (to .at) (frame-record (to .session) (frame-0005 mid)) r (now (out .exit)) ⌝ }
 {
-    let f = reply(5, Content::Accepted(mid));
-    put_frame(out, to, f, &[], &[])
+    put_frame(out, to, Content::Accepted(mid), &[], &[])
 }
 
 // 9999: the header as it came.
@@ -557,42 +627,12 @@ pub fn put_9999(out: &mut [u8], to: To, run: &[u8]) -> usize
     ensures { λ r. ⌜ (r ≡ to .at + record-length header-length)
         × Put (now (out .entry)) (to .at) (frame-record (to .session) (take header-length (now (run .entry)))) r (now (out .exit)) ⌝ }
 {
-    let at = put_head(out, to.at, HEADER_LENGTH + 1, FRAME_KIND + to.session);
-    let at = text::copy(&run[0..HEADER_LENGTH], out, at);
-    text::put_little(out, at, 1, 0)
+    let at = text::copy(&run[0..HEADER_LENGTH], out, to.at + model::RECORD_HEAD);
+    let end = text::fill(out, at, 1, 0);
+    put_record(out, to, FRAME_KIND, end)
 }
 
 // ---- copies of notices
-
-// How a session is subscribed to a kind of notice, as far as a copy shows it.
-pub struct Asked {
-    pub kind: usize,
-    pub revision: u64,
-    pub no_acknowledge: bool,
-}
-
-// Byte 12 of a notice.
-fn byte_12(no_acknowledge: bool) -> u8
-    ensures { λ r. ⌜ r ≡ cond «no_acknowledge» digit-1 digit-0 ⌝ }
-{
-    if no_acknowledge { b'1' } else { b'0' }
-}
-
-// The numbers of the notices, by kind.
-const NOTICES: [u64; model::KIND_COUNT] = [52, 61];
-
-fn notice(asked: Asked) -> Frame
-    requires { ⌜ asked .kind < length kinds ⌝ }
-    ensures { λ r. ⌜ r ≡ notice-of asked ⌝ }
-{
-    let kind = asked.kind;
-    Frame {
-        mid: NOTICES[kind],
-        revision: asked.revision,
-        byte_12: byte_12(asked.no_acknowledge),
-        content: Content::Notice(kind, asked.revision),
-    }
-}
 
 // A copy of the notice in a place, to a session that subscribed so.
 pub fn put_copy(out: &mut [u8], to: To, asked: Asked, settings: &[u8], place: &[u8]) -> usize
@@ -602,6 +642,5 @@ pub fn put_copy(out: &mut [u8], to: To, asked: Asked, settings: &[u8], place: &[
         (event-frame (settings-of (now (settings .entry))) (asked .revision) (asked .«no_acknowledge»)
         (event-in (asked .kind) (now (place .entry))))) r (now (out .exit)) ⌝ }
 {
-    let f = notice(asked);
-    put_frame(out, to, f, settings, place)
+    put_frame(out, to, Content::Notice(asked), settings, place)
 }

@@ -336,8 +336,8 @@ fn announce(place: &mut [u8], data_field: &[u8])
     requires { ⌜ (length (now place) ≡ identifier-length) × (length (now data_field) ≤ identifier-length) ⌝ }
     ensures { λ _. ⌜ now (place .exit) ≡ padded identifier-length (now (data_field .entry)) ⌝ }
 {
-    let n = text::copy(data_field, place, 0);
-    text::fill(place, n, IDENTIFIER_LENGTH - n, b' ');
+    text::fill(place, 0, IDENTIFIER_LENGTH, b' ');
+    text::copy(data_field, place, 0);
 }
 
 // The decision on a run of so many bytes, of which `run` are kept, to one that stands so.

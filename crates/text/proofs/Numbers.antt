@@ -54,6 +54,21 @@ little-next l at i size h k f =
     ∙ ap (λ (m : List ℕ). little (take (suc (size - i)) m)) (drop-next l (at + (i - 1)) 0 (omega arith))
     ∙ ap (λ (m : ℕ). getD l (at + (i - 1)) 0 + 256 * little (take (size - i) (drop m l))) n ∙ omega arith
 
+-- two bytes, and four as two and two
+pub little-2 : (l : List ℕ) (at : ℕ) → at + 2 ≤ length l → little (take 2 (drop at l)) ≡ getD l at 0 + 256 * getD l (at + 1) 0
+little-2 l at h =
+    ap (λ (m : List ℕ). little (take 2 m)) (drop-next l at 0 (omega arith))
+    ∙ ap (λ (m : List ℕ). getD l at 0 + 256 * little (take 1 m)) (drop-next l (at + 1) 0 (omega arith)) ∙ omega arith
+
+pub little-4 : (l : List ℕ) (at : ℕ) → at + 4 ≤ length l
+    → little (take 4 (drop at l)) ≡ little (take 2 (drop at l)) + 65_536 * little (take 2 (drop (at + 2) l))
+little-4 l at h =
+    let two = little-2 l at (omega arith) in
+    let e : at + 1 + 1 ≡ at + 2 = omega arith in
+    ap (λ (m : List ℕ). little (take 4 m)) (drop-next l at 0 (omega arith))
+    ∙ ap (λ (m : List ℕ). getD l at 0 + 256 * little (take 3 m)) (drop-next l (at + 1) 0 (omega arith))
+    ∙ ap (λ (k : ℕ). getD l at 0 + 256 * (getD l (at + 1) 0 + 256 * little (take 2 (drop k l)))) e ∙ omega arith
+
 pub decimal-next : (l : List ℕ) (i n : ℕ) → i < length l
     → decimal-from n (drop i l) ≡ decimal-from (n * 10 + (getD l i 0 - 0x30)) (drop (i + 1) l)
 decimal-next l i n h = ap (decimal-from n) (drop-next l i 0 h)

@@ -62,8 +62,16 @@ fn wide(x: u8) -> u64
     x as u64
 }
 
-// The number of the size bytes at `at`, little-endian.
-pub fn little(b: &[u8], at: usize, size: usize) -> u64
+// Two bytes in one step.
+fn little_2(b: &[u8], at: usize) -> u64
+    requires { ⌜ at + 2 ≤ length (now b) ⌝ }
+    ensures { λ r. ⌜ (r ≡ little-of (take 2 (drop at (now (b .entry))))) × (r < 256 ^ 2) ⌝ }
+{
+    wide(b[at]) + 256 * wide(b[at + 1])
+}
+
+// Any number of bytes, one after another.
+fn little_by_bytes(b: &[u8], at: usize, size: usize) -> u64
     requires { ⌜ (at + size ≤ length (now b)) × (size ≤ 8) ⌝ }
     ensures { λ r. ⌜ (r ≡ little-of (take size (drop at (now (b .entry))))) × (r < 256 ^ size) ⌝ }
 {
@@ -74,6 +82,20 @@ pub fn little(b: &[u8], at: usize, size: usize) -> u64
         n = n * 256 + wide(b[at + i]);
     }
     n
+}
+
+// The number of the size bytes at `at`, little-endian.
+pub fn little(b: &[u8], at: usize, size: usize) -> u64
+    requires { ⌜ (at + size ≤ length (now b)) × (size ≤ 8) ⌝ }
+    ensures { λ r. ⌜ (r ≡ little-of (take size (drop at (now (b .entry))))) × (r < 256 ^ size) ⌝ }
+{
+    if size == 2 {
+        return little_2(b, at);
+    }
+    if size == 4 {
+        return little_2(b, at) + 65_536 * little_2(b, at + 2);
+    }
+    little_by_bytes(b, at, size)
 }
 
 // The number that digits give.

@@ -8,7 +8,7 @@ pub notice-extent-spec : {M : Type 1} → statement M
 notice-extent-spec =
     tie.close
     (tie.spec
-    (λ c. rw (c .before .if1 .taken, first-index _ (c .if2 .taken)))
-    (λ c. rw (c .before .if1 .taken, later-index _ (c .if2 .left)))
+    (λ c. rw (c .before .before .if1 .taken, first-index _ (c .if2 .taken)))
+    (λ c. rw (c .before .before .if1 .taken, later-index _ (c .if2 .left)))
     (λ c. search needs)
-    (λ c. rw (second-kind _ (c .before .pre) (c .if1 .left))))
+    (λ c. rw (second-kind _ (c .before .before .pre) (c .if1 .left))))

@@ -12,31 +12,31 @@ use Rattle.frame.proofs.notice_row.Tie as tie
 
 identifier-row-requires : tie.Need-identifier-row-requires
 identifier-row-requires c κs =
-    let s = c .before in among identifier-rows (1 ∷ []) 4 (s .args .revision) (s .args .k) (rw (c .if1 .taken) at (s .pre .1))
+    let s = c .before .before in among identifier-rows (1 ∷ []) 4 (s .args .asked .revision) (s .args .k) (rw (c .if1 .taken) at (s .pre .1))
 
 returns : tie.Need-returns
 returns c =
-    let s = c .before .before in
+    let s = c .before .before .before in
     let e = c .before .if1 .taken in
     rw e (c .identifier-row .ensures ∙ ap (placed scanned-items)
-    (same-row identifier-rows (1 ∷ []) 4 (s .args .revision) (s .args .k) (rw e at (s .pre .1))))
+    (same-row identifier-rows (1 ∷ []) 4 (s .args .asked .revision) (s .args .k) (rw e at (s .pre .1))))
 
 returns-2 : tie.Need-returns-2
 returns-2 c =
-    let s = c .before .before .before in
+    let s = c .before .before .before .before in
     rw (second-kind _ (s .pre .0) (c .before .before .if1 .left))
-    (c .controller-row .ensures ∙ controllers-row (s .args .revision) (s .args .k) (c .before .if2 .taken))
+    (c .controller-row .ensures ∙ controllers-row (s .args .asked .revision) (s .args .k) (c .before .if2 .taken))
 
 result-row-requires : tie.Need-result-row-requires
 result-row-requires c κs =
-    let s = c .before .before in
-    let r = s .args .revision in
+    let s = c .before .before .before in
+    let r = s .args .asked .revision in
     behind-within r (s .args .k) (first-revision r) (c .if2 .left) (rw (second-kind _ (s .pre .0) (c .before .if1 .left)) at (s .pre .1))
 
 returns-3 : tie.Need-returns-3
 returns-3 c =
-    let s = c .before .before .before in
-    let r = s .args .revision in
+    let s = c .before .before .before .before in
+    let r = s .args .asked .revision in
     rw (second-kind _ (s .pre .0) (c .before .before .if1 .left))
     (c .result-row .ensures ∙ ap (placed result-items) (behind-row r (s .args .k) (first-revision r) (c .before .if2 .left)))
 

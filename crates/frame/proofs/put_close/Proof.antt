@@ -1,13 +1,18 @@
 -- `frame::put_close` meets its contract: a record's head, and nothing behind it.
 use borrow.Author.Needs.{needs}
-use Rattle.model.specs.Bytes.{in-bytes}
 use Rattle.model.specs.Frames.{close-record}
+use Rattle.text.proofs.Puts.{put-nothing}
+use Rattle.frame.proofs.Built.{recorded}
 use Rattle.frame.proofs.put_close.Statement.{statement}
 use Rattle.frame.proofs.put_close.Tie as tie
 
 returns : tie.Need-returns
-unfolding close-record in-bytes
-returns c = let p = c .before .before in (p .put-head .ensures .place, p .put-head .ensures .put)
+unfolding close-record
+returns c =
+    let p = c .before .before in
+    let s = p .before .before .before .before in
+    (p .put-record .ensures .0, recorded (s .args .to) 512 (put-nothing _ _) (p .put-record .ensures))
 
 pub put-close-spec : {M : Type 1} → statement M
-put-close-spec = tie.close (tie.spec (λ c. search needs) (λ c κs. search needs) (λ c. search needs) returns)
+put-close-spec =
+    tie.close (tie.spec (λ c. search needs) (λ c κs. search needs) (λ c. search needs) returns)

@@ -5,32 +5,32 @@ use mathlib.Core.Path.{_≡_, ap}
 use Prim.Native.Nat.{_-_}
 use native.Mathlib.Omega.{arith}
 use lib.ListN.{length}
-use Rattle.model.specs.Layouts.{label-length}
 use Rattle.frame.specs.declared.Extent.{Extent}
 use Rattle.frame.specs.Layout.{layout-of}
-use Rattle.frame.proofs.Data.{Laying, laying, label-room, row-servable, laid, all-laid}
+use Rattle.frame.proofs.Data.{Laying, laying, label-few, label-room, row-servable, laid, all-laid}
 use Rattle.frame.proofs.put_fields.Statement.{statement}
 use Rattle.frame.proofs.put_fields.Tie as tie
 
 abbrev Inv-loop : tie.InvT-loop
-Inv-loop out₀ at content settings told label count to₀ k₀ out to k =
-    (label ≡ label-length (layout-of content .numbered))
+Inv-loop out₀ at content settings told numbered count to₀ k₀ out to k =
+    (numbered ≡ layout-of content .numbered)
     × (count ≡ length (layout-of content .rows))
     × Laying content (record { settings = settings; told = told }) out₀ at out to k
 
 abbrev μ-loop : tie.MeasureT-loop
-μ-loop out₀ at content settings told label count to₀ k₀ out to k = count - k
+μ-loop out₀ at content settings told numbered count to₀ k₀ out to k = count - k
 
 loop-holds : tie.Need-loop-holds Inv-loop μ-loop
 loop-holds c =
-    (ap (λ (x : Extent). x .label) (c .measure .ensures), ap (λ (x : Extent). x .count) (c .measure .ensures), laying _ _ _ _)
+    (ap (λ (x : Extent). x .numbered) (c .measure .ensures), ap (λ (x : Extent). x .count) (c .measure .ensures), laying _ _ _ _)
 
-put-digits-requires : tie.Need-put-digits-requires Inv-loop μ-loop
-put-digits-requires c κs =
+put-label-requires : tie.Need-put-label-requires Inv-loop μ-loop
+put-label-requires c κs =
     let t = c .before .loop-test .taken in
     let i = c .before .before .loop .inv in
     let e = i .1 in
-    label-room _ _ _ _ (i .2) (omega arith) (c .before .before .before .before .before .before .before .pre) (i .0)
+    let s = c .before .before .before .before .before .before .before .pre in
+    (label-few _ _ _ _ (i .2) (omega arith) s (i .0), label-room _ _ _ _ (i .2) (omega arith) s (i .0))
 
 row-requires : tie.Need-row-requires Inv-loop μ-loop
 row-requires c κs =
@@ -47,7 +47,7 @@ put-value-requires c κs =
     let e = i .1 in
     let h = t .loop-test .taken in
     row-servable _ _ _ _ (i .2) (omega arith) (t .before .before .before .before .before .before .pre) (i .0)
-    (r .row .ensures) (d .put-digits .ensures .0) (search needs)
+    (r .row .ensures) (d .put-label .ensures .place) (search needs)
 
 loop-again : tie.Need-loop-again Inv-loop μ-loop
 loop-again c =
@@ -61,7 +61,7 @@ loop-again c =
       i .0,
       e,
       laid _ _ _ _ (i .2) (omega arith) (t .before .before .before .before .before .before .pre) (i .0) (r .row .ensures)
-          (d .put-digits .ensures) (v .put-value .ensures),
+          (d .put-label .ensures) (v .put-value .ensures),
     )
 
 returns : tie.Need-returns Inv-loop μ-loop
@@ -80,7 +80,7 @@ put-fields-spec =
     (λ c κs. search needs)
     loop-holds
     (λ c. search needs)
-    put-digits-requires
+    put-label-requires
     row-requires
     put-value-requires
     (λ c. search needs)

@@ -1,61 +1,28 @@
--- `text::little` meets its contract. The invariant: n is the number of the bytes from i on, which are few enough.
+-- `text::little` meets its contract, by how many bytes there are.
 use borrow.Author.Needs.{needs}
 use mathlib.Core.Path.{_≡_, sym, ap, _∙_}
-use Prim.Native.Nat.{ℕ, suc, _+_, _-_, _*_, _^_, _≤_, _<_}
-use native.Mathlib.Nat.{add-zero, sub-self, sub-zero}
+use Prim.Native.Nat.{ℕ, _+_, _*_, _^_, _<_}
 use native.Mathlib.Omega.{arith}
-use lib.Dec.{lit<}
-use lib.ListN.{take, drop, getD}
+use lib.ListN.{take, drop}
 use Rattle.model.specs.Bytes.{little}
-use Rattle.text.proofs.Numbers.{little-next, digit-more, power-bound}
+use Rattle.text.proofs.Numbers.{little-4}
 use Rattle.text.proofs.little.Statement.{statement}
 use Rattle.text.proofs.little.Tie as tie
 
-abbrev Inv-loop : tie.InvT-loop
-Inv-loop b at size i₀ n₀ i n = (i ≤ size) × (n ≡ little (take (size - i) (drop (at + i) b))) × (n < 256 ^ (size - i))
+returns : tie.Need-returns
+returns c = rw (c .before .if1 .taken) (c .little-2 .ensures)
 
-abbrev μ-loop : tie.MeasureT-loop
-μ-loop b at size i₀ n₀ i n = i
-
--- seven bytes at most are read before another
-few : (c : tie.In-loop Inv-loop μ-loop) → c .before .loop .n < 256 ^ 7
-few c = power-bound 256 _ 7 _ (lit< tt) (omega arith) (c .before .loop .inv .2)
-
-loop-again : tie.Need-loop-again Inv-loop μ-loop
-loop-again c =
-    let a = c .before .before .before .before .before in
-    let l = c .before .before .before .loop in
-    let w = c .wide .ensures in
-    let e : a .args .size - (l .i - 1) ≡ suc (a .args .size - l .i) = omega arith in (
-      omega arith,
-      rw w (ap (λ (m : ℕ). m * 256 + getD (a .args .b .now) (a .args .at + (l .i - 1)) 0) (l .inv .1)
-          ∙ sym (little-next (a .args .b .now) (a .args .at) (l .i) (a .args .size) (omega arith) (omega arith) (a .pre .0))),
-      rw e (digit-more 256 _ _ _ (l .inv .2) (omega (arith, c .before .shared-slice-known2 .given (a .args .at + (l .i - 1))))),
-    )
-
-returns : tie.Need-returns Inv-loop μ-loop
-returns c =
-    let a = c .before .before .before .args in
-    let l = c .before .loop in
-    let z : l .i ≡ 0 = omega arith in (
-      l .inv .1 ∙ rw (z, sub-zero, add-zero),
-      rw (z, sub-zero) at (l .inv .2),
-    )
+returns-2 : tie.Need-returns-2
+returns-2 c =
+    let s = c .before .before .before .before .before in
+    let a = c .before .little-22 .ensures in
+    let b = c .little-23 .ensures in
+    let z = c .before .before .if2 .taken in
+    let e = little-4 (s .args .b .now) (s .args .at) (omega arith) in
+    rw z (omega (arith, e, a .0, b .0), omega (arith, a .1, b .1))
 
 pub little-spec : {M : Type 1} → statement M
 little-spec =
-    tie.close
-    (tie.spec
-    Inv-loop
-    μ-loop
-    (λ c. let z = sub-self (c .before .args .size) in (omega arith, rw z, rw z (lit< tt)))
-    (λ c. search needs)
-    (λ c. omega (arith, few c))
-    (λ c. search needs)
-    (λ c. search needs)
-    (λ c κs. search needs)
-    (λ c. let a = c .before .before .before .before .before .args in omega
-    (arith, few (c .before .before), c .before .shared-slice-known2 .given (a .at + (c .before .before .before .loop .i - 1))))
-    (λ c. search needs)
-    loop-again
-    returns)
+    tie.close (tie.spec (λ c κs. search needs) returns (λ c κs. search needs) (λ c. search needs) (λ c κs. search needs)
+    (λ c. omega (arith, c .little-23 .ensures .1)) (λ c. omega (arith, c .little-23 .ensures .1, c .before .little-22 .ensures .1))
+    returns-2 (λ c κs. search needs) (λ c. search needs))
