@@ -13,7 +13,7 @@ use Rattle.model.specs.Bytes.{digit-0, digit-1, all, in-bytes}
 use Rattle.model.specs.Records.{record-head, said, settings-length, settings-items, values, settings-of, tightening-of}
 use Rattle.model.specs.Layouts.{Layout, data-from, data-of, characters, data-length, layout-at, layouts-0052, layouts-0061}
 use Rattle.model.specs.Kinds.{Kind, kinds, kind-at}
-use Rattle.model.specs.Frames.{header, frame, frame-0002, frame-0004, frame-0005, event-frame, frame-kind, frame-record}
+use Rattle.model.specs.Frames.{header, frame, frame-0002, frame-0004, frame-0005, event-frame, frame-record-kind, frame-record}
 use Rattle.model.proofs.Framed.{at-every}
 use Rattle.model.proofs.KindLaws.{every-layout}
 use Rattle.text.specs.Put.{Put}
@@ -34,24 +34,24 @@ header-size size mid revision byte-12 = simp (length-append, digits-length)
 
 -- a frame of so many bytes, behind the head of its record and before its NUL
 pub recorded : (s n : ℕ) (bs : List ℕ) → length bs ≡ n
-    → ((in-bytes 2 (n + 1) ++ in-bytes 2 (frame-kind s)) ++ bs) ++ in-bytes 1 0 ≡ frame-record s bs
+    → ((in-bytes 2 (n + 1) ++ in-bytes 2 (frame-record-kind s)) ++ bs) ++ in-bytes 1 0 ≡ frame-record s bs
 unfolding frame-record in-bytes
 recorded s n bs e = rw (← e, length-append bs (0 ∷ []))
 
 framed : (s mid revision byte-12 n : ℕ) (d : List ℕ) → n ≡ header-length + length d
-    → (((in-bytes 2 (n + 1) ++ in-bytes 2 (frame-kind s)) ++ header n mid revision byte-12) ++ d) ++ in-bytes 1 0
+    → (((in-bytes 2 (n + 1) ++ in-bytes 2 (frame-record-kind s)) ++ header n mid revision byte-12) ++ d) ++ in-bytes 1 0
     ≡ frame-record s (frame mid revision byte-12 d)
 unfolding frame
 framed s mid revision byte-12 n d e =
     let h = header n mid revision byte-12 in
     let l : length (h ++ d) ≡ n = length-append h d ∙ ap (λ (k : ℕ). k + length d) (header-size n mid revision byte-12) ∙ sym e in
-    ap (λ (x : List ℕ). x ++ in-bytes 1 0) (append-assoc (in-bytes 2 (n + 1) ++ in-bytes 2 (frame-kind s)) h d)
+    ap (λ (x : List ℕ). x ++ in-bytes 1 0) (append-assoc (in-bytes 2 (n + 1) ++ in-bytes 2 (frame-record-kind s)) h d)
     ∙ recorded s n (h ++ d) l ∙ ap (λ (k : ℕ). frame-record s (header k mid revision byte-12 ++ d)) e
 
 -- the data is written first, then the record's head, the header and the NUL
 pub wrote-frame : {o o₁ o₂ o₃ o₄ d : List ℕ} {at n end r₁ r₂ r₃ : ℕ} (s mid revision byte-12 : ℕ)
     → Written o (at + record-head + header-length) n d end o₁
-    → Written o₁ at record-head (in-bytes 2 (end - (at + record-head) + 1) ++ in-bytes 2 (frame-kind s)) r₁ o₂
+    → Written o₁ at record-head (in-bytes 2 (end - (at + record-head) + 1) ++ in-bytes 2 (frame-record-kind s)) r₁ o₂
     → Written o₂ (at + record-head) header-length (header (end - (at + record-head)) mid revision byte-12) r₂ o₃
     → (r₃ ≡ end + 1) × Put o₃ end (in-bytes 1 0) r₃ o₄
     → Written o at (record-length (header-length + n)) (frame-record s (frame mid revision byte-12 d)) r₃ o₄

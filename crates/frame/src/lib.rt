@@ -447,17 +447,17 @@ pub struct To {
 }
 
 // The kinds of the records to session 0: the session's number is added.
-const FRAME_KIND: u64 = 256;
+const FRAME_RECORD_KIND: u64 = 256;
 
-const CLOSE_KIND: u64 = 512;
+const CLOSE_RECORD_KIND: u64 = 512;
 
 // What stands before the payload of a record.
-fn put_head(out: &mut [u8], at: usize, size: usize, kind: u64) -> usize
+fn put_head(out: &mut [u8], at: usize, size: usize, record_kind: u64) -> usize
     requires { ⌜ at + record-head ≤ length (now out) ⌝ }
-    ensures { λ r. ⌜ Written (now (out .entry)) at record-head (in-bytes 2 size ++ in-bytes 2 kind) r (now (out .exit)) ⌝ }
+    ensures { λ r. ⌜ Written (now (out .entry)) at record-head (in-bytes 2 size ++ in-bytes 2 «record_kind») r (now (out .exit)) ⌝ }
 {
     let at = text::put_little(out, at, 2, size as u64);
-    text::put_little(out, at, 2, kind)
+    text::put_little(out, at, 2, record_kind)
 }
 
 // The order to close the session.
@@ -466,7 +466,7 @@ pub fn put_close(out: &mut [u8], to: To) -> usize
     ensures { λ r. ⌜ (r ≡ to .at + record-head)
         × Put (now (out .entry)) (to .at) (close-record (to .session)) r (now (out .exit)) ⌝ }
 {
-    put_head(out, to.at, 0, CLOSE_KIND + to.session)
+    put_head(out, to.at, 0, CLOSE_RECORD_KIND + to.session)
 }
 
 // ---- frames: what the header says, and the content
@@ -502,7 +502,7 @@ fn put_frame(out: &mut [u8], to: To, f: Frame, settings: &[u8], told: &[u8]) -> 
     let start = to.at + model::RECORD_HEAD;
     let end = put_fields(out, start + HEADER_LENGTH, content, settings, told);
     let size = end - start;
-    put_head(out, to.at, size + 1, FRAME_KIND + to.session);
+    put_head(out, to.at, size + 1, FRAME_RECORD_KIND + to.session);
     put_header(out, start, size as u64, f);
     text::put_little(out, end, 1, 0)
 }
@@ -557,7 +557,12 @@ pub fn put_9999(out: &mut [u8], to: To, run: &[u8]) -> usize
     ensures { λ r. ⌜ (r ≡ to .at + record-length header-length)
         × Put (now (out .entry)) (to .at) (frame-record (to .session) (take header-length (now (run .entry)))) r (now (out .exit)) ⌝ }
 {
-    let at = put_head(out, to.at, HEADER_LENGTH + 1, FRAME_KIND + to.session);
+    let at = put_head(
+        out,
+        to.at,
+        HEADER_LENGTH + 1,
+        FRAME_RECORD_KIND + to.session,
+    );
     let at = text::copy(&run[0..HEADER_LENGTH], out, at);
     text::put_little(out, at, 1, 0)
 }
