@@ -7,13 +7,13 @@ ghost use lib.ListN.{length, take, drop};
 ghost use Rattle.model.specs.Limits.{header-length};
 ghost use Rattle.model.specs.Bytes.{digit-0, digit-1, is-digit, is-space, all, little, in-bytes};
 ghost use Rattle.model.specs.Runs.{is-flag as is-flag-byte, revision-of, is-message as is-message-run};
-ghost use Rattle.model.specs.Records.{record-head, settings-of, settings-length, scanned-items};
+ghost use Rattle.model.specs.Records.{record-head, settings-of, settings-length, scanned-items, result-items};
 ghost use Rattle.model.specs.Layouts.{controller-rows, identifier-rows, result-rows, data-length};
 ghost use Rattle.model.specs.Kinds.{kinds, kind-at, copy-most, reply-most};
 ghost use Rattle.model.specs.Frames.{header as header-bytes, frame-0002, frame-0004, frame-0005, event-frame, frame-record, close-record};
 ghost use Rattle.text.specs.Put.{Put};
 ghost use Rattle.frame.specs.Header.{header-of};
-ghost use Rattle.frame.specs.Places.{result-items, event-in};
+ghost use Rattle.frame.specs.Places.{event-in};
 ghost use Rattle.frame.specs.Layout.{
   payloads,
   layout-of,

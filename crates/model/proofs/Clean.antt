@@ -1,7 +1,7 @@
 -- Clean texts: whatever a start or a tool record brings in was tested, and a run is cut at its NUL, so that nothing of it has one.
 use Prim.Native.Nat.{ℕ, suc, _+_, _≤_}
 use mathlib.Core.Path.{_≡_, refl, sym, _∙_, subst}
-use mathlib.Core.Bool.{Bool, true, false, cond, not, _&&_, _||_, and-eq-true-iff}
+use mathlib.Core.Bool.{Bool, true, false, cond, not, _&&_, _||_}
 use mathlib.Core.List.{List, [], _∷_, _++_}
 use mathlib.Core.Option.{Option, none, some}
 use native.Mathlib.Omega.{arith}
@@ -9,7 +9,7 @@ use lib.Dec.{leb, eqb}
 use lib.ListN.{length, take, drop, length-take, length-drop}
 use lib.Seq.{take-all, take-take, length-take-le}
 use borrow.Author.Tests.{leb-true, eqb-true, eqb-false}
-use Rattle.model.specs.Limits.{header-length, identifier-length, message-longest, run-kept}
+use Rattle.model.specs.Limits.{header-length, identifier-length, number-greatest, message-longest, run-kept}
 use Rattle.model.specs.Bytes.{NUL, dash, colon, is-digit, is-text, is-space, all, places, decimal}
 use Rattle.model.specs.Tests.{first}
 use Rattle.model.specs.Records.{is-record, payload, Item, number, text, time, item-length, payload-length, parts-from, parts}
@@ -23,12 +23,11 @@ use Rattle.model.specs.Messages.{Effect, starts, stops, identifies, subs
 use Rattle.model.specs.Messages.{listed, entry-of, Error, already-started, wrong-length, wrong-revision, wrong-data, Standing}
 use Rattle.model.specs.Messages.{good-length, good-among, own-test, tested}
 use Rattle.model.specs.Wire.{Every, NoNUL, Framed}
-use Rattle.model.proofs.Framed.{every-take, Shown, nul-append, nul-text, Text, Fit, CleanSettings}
+use Rattle.model.specs.FieldsRead.{all-within}
+use Rattle.model.proofs.Framed.{both, every-take, Shown, nul-append, nul-text, Fit, Text, Identifier, CleanSettings}
+use Rattle.model.proofs.Legible.{payload-within, reported-items, number-within}
 
 -- ==== records: the texts of a good one
-
-pub both : (a b : Bool) → (a && b) ≡ true → (a ≡ true) × (b ≡ true)
-both a b h = and-eq-true-iff a b .0 h
 
 nul-in-time : (place b : ℕ) → good-in-time place b ≡ true → Shown b
 nul-in-time place b h =
@@ -85,13 +84,20 @@ clean-start slice = go (good-record settings-record-kind settings-items slice) r
   where
     go : (b : Bool) → good-record settings-record-kind settings-items slice ≡ b
         → CleanStart (cond b (some (settings-of (payload slice))) none)
-    go true e = fit-payload settings-items (payload slice) refl (good-of settings-record-kind settings-items slice e)
+    go true e =
+        let good = good-of settings-record-kind settings-items slice e in
+        let w = payload-within settings-items (payload slice) good in
+        record {
+          texts = fit-payload settings-items (payload slice) refl good;
+          within = w;
+          last = omega (arith, number-within (suc number-greatest) settings-items (values settings-items (payload slice)) 4 w refl);
+        }
     go false e = tt
 
 abbrev pub CleanTool : Option Tool → Type 0
 CleanTool none = Unit {0}
-CleanTool (some (scanned x)) = Text x
-CleanTool (some (tightening x t)) = Text x × Every Fit t
+CleanTool (some (scanned x)) = Identifier x
+CleanTool (some (tightening x t)) = Identifier x × Every Fit t × (all-within reported-items t ≡ true)
 
 -- and a tool record is good
 pub clean-tool : (slice : List ℕ) → CleanTool (read-tool slice)
@@ -105,13 +111,21 @@ clean-tool slice =
         (cond a (some (tightening (identifier-in (payload slice)) (tightening-of (payload slice))))
         (cond b (some (scanned (payload slice))) none))
     go true b e f =
-        fit-payload tightening-items (payload slice) refl (good-of tightening-record-kind tightening-items slice e)
+        let p = payload slice in
+        let g = good-of tightening-record-kind tightening-items slice e in
+        let fit = fit-payload tightening-items p refl g in
+        let n = length (identifier-in p) in
+        let w = both (eqb n identifier-length) (all-within reported-items (tightening-of p)) (payload-within tightening-items p g) in
+        (record { clean = fit .0; whole = eqb-true n identifier-length (w .0) }, fit .1, w .1)
     go false true e f =
         let g = good-of scanned-record-kind scanned-items slice f in
         let good = good-parts scanned-items (parts scanned-items (payload slice)) in
         let n = eqb-true (length (payload slice)) identifier-length (both (eqb (length (payload slice)) identifier-length) good g .0) in
-        subst Text (take-all identifier-length (payload slice) (omega arith))
-        (fit-payload scanned-items (payload slice) refl g .0)
+        record {
+          clean =
+              subst Text (take-all identifier-length (payload slice) (omega arith)) (fit-payload scanned-items (payload slice) refl g .0);
+          whole = n;
+        }
     go false false e f = tt
 
 -- ==== runs: a piece of bytes ends before its NUL, and so nothing that is kept has one
