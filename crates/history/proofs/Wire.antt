@@ -205,7 +205,7 @@ module _ (st : Settings) where
 
 sends-whole : {w : World} {c : Call} {es : List (Tagged Emission)} → Below session-count es → Sends w c es → Every Whole (map record-of es)
 sends-whole {w = w} b (none-speaks {es = es} h) = all-whole (w .shared .settings) es b h
-sends-whole {w = w} b (speaks {s = s} {frame = frame} {es = es} e a f h) =
+sends-whole {w = w} b (speaks {s = s} {frame = frame} {es = es} e a f r h) =
     (a-frame s frame (b .0) f, all-whole (w .shared .settings) es (b .1) h)
 
 module _ (past : List Made) (m : Made) (w : World) (k : Runs w (λ t. run t (map asked past))) where
@@ -243,7 +243,7 @@ module _ (past : List Made) (m : Made) (w : World) (k : Runs w (λ t. run t (map
       by : {es : List (Tagged Emission)} → model-answer (m .answer) ≡ (answered w (m .call) 0) .1 → Below session-count es
           → Sends w (m .call) es → Replies past m (map record-of es)
       by a b (none-speaks {es = es} h) = none-replies (no-replies (w .shared .settings) es h)
-      by a b (speaks {s = s} {m = x} {es = es} e f g h) = replies (completes-it s (b .0) a x e) f (no-replies (w .shared .settings) es h)
+      by a b (speaks {s = s} {m = x} {es = es} e f g r h) = replies (completes-it s (b .0) a x e) f (no-replies (w .shared .settings) es h)
 
       go : (n : ℕ) → let q = answered w (m .call) n in
           model-answer (m .answer) ≡ q .1 → Below session-count (q .2) → Sends w (m .call) (q .2) → Replies past m (map record-of (q .2))

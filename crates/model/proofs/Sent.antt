@@ -1,7 +1,7 @@
 -- What goes out to one session, whatever its number: copies of notices, whose texts were clean when they came and stay so, and before them
--- a reply to the message that the session has sent. Each is a frame that is read alike by its NUL and by its length. Proved once over the
--- kind of a notice.
-use Prim.Native.Nat.{ℕ, suc, _-_, _%_, _≤_}
+-- a reply to the message that the session has sent. Each is a frame that is read alike by its NUL and by its length, and reads back as what
+-- it was made of. Proved once over the kind of a notice.
+use Prim.Native.Nat.{ℕ, suc, _-_, _%_, _≤_, _<_}
 use mathlib.Core.Path.{_≡_, refl, sym, subst}
 use mathlib.Core.Bool.{Bool, true, false, cond, _&&_}
 use mathlib.Core.List.{List, [], _∷_, _++_, map}
@@ -30,12 +30,12 @@ use Rattle.model.specs.Hearing.{begin, hear-opened, identifier-told, ide
 use Rattle.model.specs.Local.{end-run, end-run-opened, Local, opening, hang-up, receives, tick, event, elsewhere, tick-at}
 use Rattle.model.specs.Local.{receive-opened, receive, step, identifier-run, announces}
 use Rattle.model.specs.Wire.{Every, NoNUL, Framed, Answers, welcomes, refuses, accepts, mirrors as mirror, is-notice}
-use Rattle.model.specs.FieldsRead.{ReadsBack}
+use Rattle.model.specs.FieldsRead.{ReadsBack, ReplyReads, reads-0002, reads-0004, reads-0005, reads-9999}
 use Rattle.model.proofs.Framed.{both, every-append, either, nul-append, nul-spaces, nul-text, Identifier, CleanSettings, CleanEvent}
 use Rattle.model.proofs.Framed.{framed-0002, framed-0004, framed-0005, framed-event, notice-event}
-use Rattle.model.proofs.Legible.{copy-back}
+use Rattle.model.proofs.Legible.{back-0002, back-0004, back-0005, copy-back}
 use Rattle.model.proofs.Clean.{CleanRun, clean-longer, CleanMessage, CleanEnd, clean-end}
-use Rattle.model.proofs.Clean.{mirrors-only, Listed, entry-so, passed}
+use Rattle.model.proofs.Clean.{mirrors-only, Listed, entry-so, ShortCode, code-short, passed}
 
 -- ==== a subscription
 
@@ -122,7 +122,7 @@ Follows st close = Unit {0}
 pub data Says (st : Settings) (o : Option Message) : List Emission → Type 0 where
   quiet : {es : List Emission} → Every (Follows st) es → Says st o es
   answers : {m : Message} {frame : List ℕ} {es : List Emission}
-      → o ≡ some m → Answers m frame → Framed frame → Every (Follows st) es → Says st o (reply frame ∷ es)
+      → o ≡ some m → Answers m frame → Framed frame → ReplyReads st m frame → Every (Follows st) es → Says st o (reply frame ∷ es)
 
 -- ==== a row of cells
 
@@ -248,20 +248,22 @@ module _ (st : Settings) (clean : CleanSettings st) where
 -- a step, by what all share
 module _ (g : Shared) (clean : CleanSettings (g .settings)) where
   -- a message that is heard
-  accepted-clean : (m : Message) (r : Session × List Emission) → Still (g .settings) r → Goes (g .settings) (some m) (accepted m r)
-  accepted-clean m r h = (h .0, answers refl accepts (framed-0005 (m .mid)) (h .1))
+  accepted-clean : (m : Message) → m .mid < 10_000 → (r : Session × List Emission) → Still (g .settings) r
+      → Goes (g .settings) (some m) (accepted m r)
+  accepted-clean m n r h = (h .0, answers refl accepts (framed-0005 (m .mid)) (reads-0005 (back-0005 (m .mid) n)) (h .1))
 
   carry-out-clean : (subs : List Subscription) (m : Message) (f : Effect) → CleanMessage m → Every CleanSub subs → (least greatest : ℕ)
       → mirrors-only f (m .mid) least greatest ≡ true → within least greatest (m .size) ≡ true
       → Goes (g .settings) (some m) (carry-out g subs m f)
   carry-out-clean subs m starts c h least greatest u v = ((tt, h), quiet tt)
-  carry-out-clean subs m stops c h least greatest u v = accepted-clean m (fresh, []) (tt, tt)
-  carry-out-clean subs m (identifies n) c h least greatest u v = accepted-clean m (started 0 empty-run subs, []) ((tt, h), tt)
+  carry-out-clean subs m stops c h least greatest u v = accepted-clean m (c .mid) (fresh, []) (tt, tt)
+  carry-out-clean subs m (identifies n) c h least greatest u v = accepted-clean m (c .mid) (started 0 empty-run subs, []) ((tt, h), tt)
   carry-out-clean subs m (subscribes kind n) c h least greatest u v =
       let d = asks (m .revision) (m .no-acknowledge) in
-      accepted-clean m (dealt (g .settings) 0 empty-run (only kind d) subs) (only-dealt (g .settings) clean 0 empty-run kind d subs tt tt h)
+      accepted-clean m (c .mid) (dealt (g .settings) 0 empty-run (only kind d) subs)
+      (only-dealt (g .settings) clean 0 empty-run kind d subs tt tt h)
   carry-out-clean subs m (unsubscribes kind n) c h least greatest u v =
-      accepted-clean m (dealt (g .settings) 0 empty-run (only kind drops) subs)
+      accepted-clean m (c .mid) (dealt (g .settings) 0 empty-run (only kind drops) subs)
       (only-dealt (g .settings) clean 0 empty-run kind drops subs tt tt h)
   carry-out-clean subs m (acknowledges kind) c h least greatest u v =
       still (g .settings) (some m) (dealt (g .settings) 0 empty-run (only kind acks) subs)
@@ -273,39 +275,53 @@ module _ (g : Shared) (clean : CleanSettings (g .settings)) where
       let from = eqb-true least header-length (b .1) in
       let to = eqb-true greatest header-length (a .1) in
       let size : m .size ≡ header-length = omega (arith, leb-true least (m .size) (w .0), leb-true (m .size) greatest (w .1)) in
-      ((tt, h), answers refl (mirror (eqb-true (m .mid) 9999 (b .0)) size) (c .own size) tt)
+      ((tt, h), answers refl (mirror (eqb-true (m .mid) 9999 (b .0)) size) (c .own size) reads-9999 tt)
 
-  error-clean : (m : Message) (o : Option Entry) (x : Error) → Says (g .settings) (some m) (error-reply m o x)
-  error-clean m none x = answers refl (refuses (code x)) (framed-0004 (m .mid) (code x)) tt
-  error-clean m (some e) x =
+  refused-clean : (m : Message) (x : Error) → m .mid < 10_000 → code x < 100
+      → Says (g .settings) (some m) (reply (frame-0004 (m .mid) (code x)) ∷ [])
+  refused-clean m x n k =
+      answers refl (refuses (code x)) (framed-0004 (m .mid) (code x)) (reads-0004 (code x) (back-0004 (m .mid) (code x) n k)) tt
+
+  error-clean : (m : Message) (o : Option Entry) (x : Error) → m .mid < 10_000 → code x < 100
+      → Says (g .settings) (some m) (error-reply m o x)
+  error-clean m none x n k = refused-clean m x n k
+  error-clean m (some e) x n k =
       either (Says (g .settings) (some m)) (gets-reply (e .effect)) (reply (frame-0004 (m .mid) (code x)) ∷ []) []
-      (answers refl (refuses (code x)) (framed-0004 (m .mid) (code x)) tt) (quiet tt)
+      (refused-clean m x n k) (quiet tt)
 
   hear-clean : (subs : List Subscription) (m : Message) → CleanMessage m → Every CleanSub subs → Goes (g .settings) (some m) (hear g subs m)
   unfolding error-of
-  hear-clean subs m c h = by-entry (entry-of (m .mid)) (entry-so (m .mid))
+  hear-clean subs m c h =
+      by-entry (entry-of (m .mid)) (entry-so (m .mid))
+      (code-short (started-standing g subs) (m .mid) (m .size) (m .revision) (m .data-field))
     where
       by-error : (o : Option Entry) (x : Option Error) → tested (started-standing g subs) o (m .size) (m .revision) (m .data-field) ≡ x
-          → Listed (m .mid) o → Goes (g .settings) (some m) (judged g subs m o x)
-      by-error o (some x) e u = ((tt, h), error-clean m o x)
-      by-error none none e u = ((tt, h), quiet tt)
-      by-error (some f) none e u =
+          → Listed (m .mid) o → ShortCode x → Goes (g .settings) (some m) (judged g subs m o x)
+      by-error o (some x) e u k = ((tt, h), error-clean m o x (c .mid) k)
+      by-error none none e u k = ((tt, h), quiet tt)
+      by-error (some f) none e u k =
           carry-out-clean subs m (f .effect) c h (f .least) (f .greatest) u
           (passed (started-standing g subs) f (m .size) (m .revision) (m .data-field) e .0)
 
       by-entry : (o : Option Entry) → Listed (m .mid) o
+          → ShortCode (tested (started-standing g subs) o (m .size) (m .revision) (m .data-field))
           → Goes (g .settings) (some m) (judged g subs m o (tested (started-standing g subs) o (m .size) (m .revision) (m .data-field)))
-      by-entry o u = by-error o (tested (started-standing g subs) o (m .size) (m .revision) (m .data-field)) refl u
+      by-entry o u k = by-error o (tested (started-standing g subs) o (m .size) (m .revision) (m .data-field)) refl u k
 
   hear-opened-clean : (idle : ℕ) (m : Message) → Goes (g .settings) (some m) (hear-opened g idle m)
-  hear-opened-clean idle m = go (eqb (m .mid) 0001) refl (message-error (opened-standing g) m)
+  unfolding error-of
+  hear-opened-clean idle m =
+      go (eqb (m .mid) 0001) refl (message-error (opened-standing g) m)
+      (code-short (opened-standing g) (m .mid) (m .size) (m .revision) (m .data-field))
     where
-      go : (b : Bool) → eqb (m .mid) 0001 ≡ b → (x : Option Error)
+      go : (b : Bool) → eqb (m .mid) 0001 ≡ b → (x : Option Error) → ShortCode x
           → Goes (g .settings) (some m) (cond b (begin g idle m x) (opened idle empty-run, []))
-      go true e none =
-          ((tt, (tt, (tt, tt))), answers refl (welcomes (g .settings) (eqb-true (m .mid) 0001 e)) (framed-0002 (g .settings) clean) tt)
-      go true e (some x) = (tt, answers refl (refuses (code x)) (framed-0004 (m .mid) (code x)) tt)
-      go false e x = (tt, quiet tt)
+      go true e none k =
+          let st = g .settings in
+          let reads = reads-0002 (back-0002 st (clean .within)) in
+          ((tt, (tt, (tt, tt))), answers refl (welcomes st (eqb-true (m .mid) 0001 e)) (framed-0002 st clean) reads tt)
+      go true e (some x) k = (tt, refused-clean m x (omega (arith, eqb-true (m .mid) 0001 e)) k)
+      go false e x k = (tt, quiet tt)
 
   -- the end of a run, and bytes
   end-run-clean : (idle : ℕ) (subs : List Subscription) (o : Option Message) → CleanEnd o → Every CleanSub subs

@@ -1,5 +1,5 @@
 -- What a call sends, whatever came before it: frames that a line server reads alike by their NUL and by their length, and at most one
--- reply, the first of them, to the session whose bytes completed the message that it answers. A copy of a notice reads back.
+-- reply, the first of them, to the session whose bytes completed the message that it answers. Each reads back.
 use Prim.Native.Nat.{ℕ, zero, suc, _+_, _≤_, _<_}
 use mathlib.Core.Path.{_≡_, refl, sym, _∙_, ap, subst}
 use mathlib.Core.Bool.{Bool, true, false, not, cond}
@@ -25,6 +25,7 @@ use Rattle.model.specs.Calls.{Call, start, open-session, hang-up-session
 use Rattle.model.specs.Calls.{is-none, is-tightening, at-most-one, happening, moments, answered, step}
 use Rattle.model.specs.Sights.{sight}
 use Rattle.model.specs.Wire.{Every, Framed, Answers}
+use Rattle.model.specs.FieldsRead.{ReplyReads}
 use Rattle.model.proofs.Framed.{both, every-append, either, Identifier, identifier-spaces, CleanSettings, CleanEvent}
 use Rattle.model.proofs.Legible.{identified-clean, tightened-clean}
 use Rattle.model.proofs.Clean.{CleanStart, clean-start, CleanTool, clean-tool, nul-cut, there}
@@ -103,7 +104,7 @@ module _ (st : Settings) where
   -- to whom no message is heard, no reply goes
   unheard : {o : Option Message} {es : List Emission} → o ≡ none → Says st o es → Every (Follows st) es
   unheard n (quiet h) = h
-  unheard n (answers e a f h) = absurd (there (sym e ∙ n))
+  unheard n (answers e a f b h) = absurd (there (sym e ∙ n))
 
 -- a moment of which no session hears a message
 abbrev Unheard : Moment → Type 0
@@ -204,15 +205,16 @@ completed w c s = completes-given (session-at w s) ((sight s c) .given)
 pub data Sends (w : World) (c : Call) : List (Tagged Emission) → Type 0 where
   none-replies : {es : List (Tagged Emission)} → Silent (w .shared .settings) es → Sends w c es
   replies : {s : ℕ} {m : Message} {frame : List ℕ} {es : List (Tagged Emission)} → completed w c s ≡ some m → Answers m frame
-      → Framed frame → Silent (w .shared .settings) es → Sends w c (record { who = s; what = reply frame } ∷ es)
+      → Framed frame → ReplyReads (w .shared .settings) m frame → Silent (w .shared .settings) es
+      → Sends w c (record { who = s; what = reply frame } ∷ es)
 
 -- what goes out to one session, and after it what is silent
 sends-to : {w : World} {c : Call} (s : ℕ) {o : Option Message} {es : List Emission} (more : List (Tagged Emission))
     → Says (w .shared .settings) o es → completed w c s ≡ o → Silent (w .shared .settings) more → Sends w c (tag s es ++ more)
 sends-to {w = w} s more (quiet {es = es} h) e k =
     let st = w .shared .settings in none-replies (silent-append st (tag s es) more (silent-tag st s es h) k)
-sends-to {w = w} s more (answers {es = es} f a b h) e k =
-    let st = w .shared .settings in replies (e ∙ f) a b (silent-append st (tag s es) more (silent-tag st s es h) k)
+sends-to {w = w} s more (answers {es = es} f a b r h) e k =
+    let st = w .shared .settings in replies (e ∙ f) a b r (silent-append st (tag s es) more (silent-tag st s es h) k)
 
 module _ (w : World) (h : CleanWorld w) where
   silently : (c : Call) {ms : List Moment} → Every CleanMoment ms → AtMostOne ms → Every CleanMoment ms × Sends w c (emitted w ms)
