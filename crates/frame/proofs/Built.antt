@@ -32,13 +32,13 @@ use Rattle.frame.specs.Output.{frame-of, head-bytes}
 -- ==== output records
 
 -- the head is written last, before the payload that stands there
-pub recorded : {o o₁ o₂ bs : List ℕ} {end r : ℕ} (to : To) (kind : ℕ) → Put o (to .at + record-head) bs end o₁
-    → (r ≡ end) × Written o₁ (to .at) record-head (head-bytes to kind end) (to .at + record-head) o₂
-    → Put o (to .at) (house-record (kind + to .session) bs) r o₂
-recorded {o} {o₁} {o₂} {bs} {end} {r} to kind p h =
+pub recorded : {o o₁ o₂ bs : List ℕ} {end r : ℕ} (to : To) (record-kind : ℕ) → Put o (to .at + record-head) bs end o₁
+    → (r ≡ end) × Written o₁ (to .at) record-head (head-bytes to record-kind end) (to .at + record-head) o₂
+    → Put o (to .at) (house-record (record-kind + to .session) bs) r o₂
+recorded {o} {o₁} {o₂} {bs} {end} {r} to record-kind p h =
     let n : end - (to .at + record-head) ≡ length bs = let e = p .place in omega arith in
-    subst (λ (k : ℕ). Put o (to .at) (house-record (kind + to .session) bs) k o₂) (sym (h .0))
-    (put-as (ap (λ (k : ℕ). (in-bytes 2 k ++ in-bytes 2 (kind + to .session)) ++ bs) n)
+    subst (λ (k : ℕ). Put o (to .at) (house-record (record-kind + to .session) bs) k o₂) (sym (h .0))
+    (put-as (ap (λ (k : ℕ). (in-bytes 2 k ++ in-bytes 2 (record-kind + to .session)) ++ bs) n)
     (put-before p (h .1 .put) refl))
 
 -- ==== frames

@@ -10,7 +10,7 @@ use lib.ListN.{length, getD, take, drop}
 use borrow.Author.Tests.{ltb-true, eqb-true}
 use Rattle.model.specs.Bytes.{all, digits, little}
 use Rattle.model.specs.Records.{Item, number, text, time, item-length, parts-from, Value, counted, value-of, values-of, values}
-use Rattle.model.specs.Records.{number-in, text-in, number-at, text-at, settings-items, scanned-items}
+use Rattle.model.specs.Records.{number-in, text-in, number-at, text-at, settings-items, scanned-items, result-items}
 use Rattle.model.specs.Layouts.{Sources, settings, source, Row, number as number-row, text as text-row, blank, known, width-of, characters}
 use Rattle.model.specs.Layouts.{layout-at, layouts-0052, layouts-0061}
 use Rattle.model.specs.Kinds.{kinds, kind-at}
@@ -19,7 +19,7 @@ use Rattle.frame.specs.declared.Content.the-variants.{Started, Refused, 
 use Rattle.frame.specs.Layout.{layout-of, items-told, items-of, item-at, place-of, placed, placed-width, Payloads}
 use Rattle.frame.specs.Layout.{bytes-of, field-characters}
 use Rattle.frame.specs.Output.{Real}
-use Rattle.frame.specs.Places.{result-items, place-items}
+use Rattle.frame.specs.Places.{place-items}
 use Rattle.model.proofs.Framed.{at-every}
 
 -- ==== value i of a payload is read from the bytes of item i

@@ -5,11 +5,10 @@ use native.Mathlib.Omega.{arith}
 use mathlib.Core.List.{List, [], _∷_, _++_, map}
 use lib.ListN.{length, getD, take, List·getD-map}
 use lib.Seq.{getD-append-add}
-use Rattle.model.specs.Records.{Item}
+use Rattle.model.specs.Records.{Item, result-items}
 use Rattle.model.specs.Layouts.{Row, blank, Layout, label-length, Layouts, layout-at, first-of, controller-rows, result-rows}
 use Rattle.model.specs.Layouts.{results-older, results-newest, of-controller, layouts-0061}
 use Rattle.model.specs.Kinds.{kinds, identifiers, tightenings}
-use Rattle.frame.specs.Places.{result-items}
 use Rattle.frame.specs.Layout.{layout-of, extent-of, row-at, placed}
 use Rattle.frame.specs.declared.Content.the-variants.{Notice}
 use Rattle.model.proofs.KindLaws.{every-layout}

@@ -112,14 +112,14 @@ pub record Writable (out : List ℕ) (to : To) (size : ℕ) : Type 0 where
   pub numbered : to .session < 256
 
 -- a payload that stands there up to `end` can become a record, of a kind to which the session's number is added
-pub record Closable (out : List ℕ) (to : To) (kind end : ℕ) : Type 0 where
+pub record Closable (out : List ℕ) (to : To) (record-kind end : ℕ) : Type 0 where
   pub output : Writable out to record-head
   pub ends : to .at + record-head ≤ end
-  pub few : kind ≤ 512
+  pub few : record-kind ≤ 512
 
 -- the head of that record
 abbrev pub head-bytes : To → ℕ → ℕ → List ℕ
-head-bytes to kind end = in-bytes 2 (end - (to .at + record-head)) ++ in-bytes 2 (kind + to .session)
+head-bytes to record-kind end = in-bytes 2 (end - (to .at + record-head)) ++ in-bytes 2 (record-kind + to .session)
 
 -- a frame can go there
 pub record Sendable (out : List ℕ) (to : To) (content : Content) (b : Payloads) : Type 0 where

@@ -1,18 +1,13 @@
 -- The notices that are kept: what a place of a kind holds, and how many bytes it has. 01, "Notices and the clock".
 use Prim.Native.Nat.{ℕ}
 use mathlib.Core.Bool.{cond}
-use mathlib.Core.List.{List, [], _∷_, _++_}
+use mathlib.Core.List.{List}
 use lib.Dec.{eqb}
-use Rattle.model.specs.Limits.{number-length, number-greatest}
-use Rattle.model.specs.Records.{Item, number, payload-length, number-at, values, identifier-in, tightening-of}
-use Rattle.model.specs.Records.{tightening-items, scanned-items}
+use Rattle.model.specs.Records.{Item, payload-length, number-at, values, identifier-in, tightening-of, scanned-items, result-items}
 use Rattle.model.specs.Kinds.{identifiers}
 use Rattle.model.specs.Events.{Result, Event, identified, tightened, Notice}
 
 -- a result is kept as the tool record's payload with the identifier that was meant, and its number behind it
-abbrev pub result-items : List Item
-result-items = tightening-items ++ number number-length number-greatest ∷ []
-
 unfoldable pub result-of : List ℕ → Result
 result-of bs = record {
   number = number-at (values result-items bs) 19;

@@ -7,13 +7,13 @@ ghost use lib.ListN.{length, take, drop};
 ghost use Rattle.model.specs.Limits.{header-length};
 ghost use Rattle.model.specs.Bytes.{space, is-digit, is-space, all, little};
 ghost use Rattle.model.specs.Runs.{is-flag as is-flag-byte, revision-of, is-message as is-message-run};
-ghost use Rattle.model.specs.Records.{record-head, settings-of, settings-length, scanned-items};
+ghost use Rattle.model.specs.Records.{record-head, settings-of, settings-length, scanned-items, result-items};
 ghost use Rattle.model.specs.Layouts.{controller-rows, identifier-rows, result-rows, data-length, label-length, label};
 ghost use Rattle.model.specs.Kinds.{kinds, kind-at, copy-most, reply-most};
 ghost use Rattle.model.specs.Frames.{frame-0002, frame-0004, frame-0005, event-frame, frame-record, close-record};
 ghost use Rattle.text.specs.Put.{Put};
 ghost use Rattle.frame.specs.Header.{header-of};
-ghost use Rattle.frame.specs.Places.{result-items, event-in};
+ghost use Rattle.frame.specs.Places.{event-in};
 ghost use Rattle.frame.specs.Layout.{
   payloads,
   layout-of,
@@ -558,14 +558,14 @@ const FRAME_RECORD_KIND: u64 = 256;
 const CLOSE_RECORD_KIND: u64 = 512;
 
 // Makes an output record of the payload that stands behind the place of its head, up to `end`.
-fn put_record(out: &mut [u8], to: To, kind: u64, end: usize) -> usize
-    requires { ⌜ Closable (now out) to kind end ⌝ }
-    ensures { λ r. ⌜ (r ≡ end) × Written (now (out .entry)) (to .at) record-head (head-bytes to kind end) (to .at + record-head)
+fn put_record(out: &mut [u8], to: To, record_kind: u64, end: usize) -> usize
+    requires { ⌜ Closable (now out) to «record_kind» end ⌝ }
+    ensures { λ r. ⌜ (r ≡ end) × Written (now (out .entry)) (to .at) record-head (head-bytes to «record_kind» end) (to .at + record-head)
         (now (out .exit)) ⌝ }
 {
     let size = end - (to.at + model::RECORD_HEAD);
     let at = text::put_little(out, to.at, 2, size as u64);
-    text::put_little(out, at, 2, kind + to.session);
+    text::put_little(out, at, 2, record_kind + to.session);
     end
 }
 

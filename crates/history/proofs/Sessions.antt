@@ -35,8 +35,8 @@ use Rattle.model.specs.Sights.{Sight}
 use Rattle.model.specs.Wire.{has-notice}
 use Rattle.model.proofs.RowLaws.{row-at, said-at, length-row}
 use Rattle.model.proofs.Cuts.{longer-longer}
-use Rattle.model.proofs.Framed.{either}
-use Rattle.model.proofs.Clean.{there, both, passed}
+use Rattle.model.proofs.Framed.{both, either}
+use Rattle.model.proofs.Clean.{there, passed}
 use Rattle.model.proofs.KindLaws.{neither, rooms-small}
 use Rattle.model.proofs.EntryLaws.{has-length-only, is-not-read, SoundEntry, entry-sound}
 use Rattle.model.proofs.Sights.{Sees, nothing, a-start, its-opening, its-hang-up, a-tick, its-bytes}

@@ -12,7 +12,7 @@ use lib.ListN.{length, take, getD-replicate, length-take}
 use borrow.Author.Tests.{eqb-true}
 use Rattle.model.specs.Limits.{session-count, output-least, idle-limit}
 use Rattle.model.specs.Bytes.{NUL}
-use Rattle.model.specs.Records.{payload, settings-of}
+use Rattle.model.specs.Records.{payload, Settings, settings-of}
 use Rattle.model.specs.Runs.{Run, empty-run, longer, Piece, cut, consumed-by, Message, read-run}
 use Rattle.model.specs.Messages.{Effect, starts, stops, identifies, subscribes, unsubscribes, acknowledges, mirrors, Entry, entry-of, Error}
 use Rattle.model.specs.Events.{Event}
@@ -184,27 +184,29 @@ ended-by (started i run subs) bs p m k e = ended run bs (p .bytes) m k (p .ends)
 
 -- ==== the records of what goes out
 
-no-reply : (s : ℕ) (e : Emission) → Follows e → NoReply (as-read s e)
-no-reply s (reply frame) h = absurd h
-no-reply s (copy c) h = a-notice s (c .what .frame) (h .1)
-no-reply s close h = to-close s
+module _ (st : Settings) where
+  no-reply : (s : ℕ) (e : Emission) → Follows st e → NoReply (as-read s e)
+  no-reply s (reply frame) h = absurd h
+  no-reply s (copy c) h = a-notice s (c .what .frame) (h .1)
+  no-reply s close h = to-close s
 
-no-replies : (es : List (Tagged Emission)) → Silent es → Every NoReply (map record-of es)
-no-replies [] h = tt
-no-replies (x ∷ xs) h = (no-reply (x .who) (x .what) (h .0), no-replies xs (h .1))
+  no-replies : (es : List (Tagged Emission)) → Silent st es → Every NoReply (map record-of es)
+  no-replies [] h = tt
+  no-replies (x ∷ xs) h = (no-reply (x .who) (x .what) (h .0), no-replies xs (h .1))
 
-whole : (s : ℕ) (e : Emission) → s < session-count → Follows e → Whole (as-read s e)
-whole s (reply frame) u h = absurd h
-whole s (copy c) u h = a-frame s (c .what .frame) u (h .0)
-whole s close u h = an-order s u
+  whole : (s : ℕ) (e : Emission) → s < session-count → Follows st e → Whole (as-read s e)
+  whole s (reply frame) u h = absurd h
+  whole s (copy c) u h = a-frame s (c .what .frame) u (h .0)
+  whole s close u h = an-order s u
 
-all-whole : (es : List (Tagged Emission)) → Below session-count es → Silent es → Every Whole (map record-of es)
-all-whole [] b h = tt
-all-whole (x ∷ xs) b h = (whole (x .who) (x .what) (b .0) (h .0), all-whole xs (b .1) (h .1))
+  all-whole : (es : List (Tagged Emission)) → Below session-count es → Silent st es → Every Whole (map record-of es)
+  all-whole [] b h = tt
+  all-whole (x ∷ xs) b h = (whole (x .who) (x .what) (b .0) (h .0), all-whole xs (b .1) (h .1))
 
 sends-whole : {w : World} {c : Call} {es : List (Tagged Emission)} → Below session-count es → Sends w c es → Every Whole (map record-of es)
-sends-whole b (none-speaks {es = es} h) = all-whole es b h
-sends-whole b (speaks {s = s} {frame = frame} {es = es} e a f h) = (a-frame s frame (b .0) f, all-whole es (b .1) h)
+sends-whole {w = w} b (none-speaks {es = es} h) = all-whole (w .shared .settings) es b h
+sends-whole {w = w} b (speaks {s = s} {frame = frame} {es = es} e a f r h) =
+    (a-frame s frame (b .0) f, all-whole (w .shared .settings) es (b .1) h)
 
 module _ (past : List Made) (m : Made) (w : World) (k : Runs w (λ t. run t (map asked past))) where
   -- a message that a call completes came in bytes
@@ -240,8 +242,8 @@ module _ (past : List Made) (m : Made) (w : World) (k : Runs w (λ t. run t (map
     where
       by : {es : List (Tagged Emission)} → model-answer (m .answer) ≡ (answered w (m .call) 0) .1 → Below session-count es
           → Sends w (m .call) es → Replies past m (map record-of es)
-      by a b (none-speaks {es = es} h) = none-replies (no-replies es h)
-      by a b (speaks {s = s} {m = x} {es = es} e f g h) = replies (completes-it s (b .0) a x e) f (no-replies es h)
+      by a b (none-speaks {es = es} h) = none-replies (no-replies (w .shared .settings) es h)
+      by a b (speaks {s = s} {m = x} {es = es} e f g r h) = replies (completes-it s (b .0) a x e) f (no-replies (w .shared .settings) es h)
 
       go : (n : ℕ) → let q = answered w (m .call) n in
           model-answer (m .answer) ≡ q .1 → Below session-count (q .2) → Sends w (m .call) (q .2) → Replies past m (map record-of (q .2))

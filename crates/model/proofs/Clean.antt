@@ -1,15 +1,15 @@
 -- Clean texts: whatever a start or a tool record brings in was tested, and a run is cut at its NUL, so that nothing of it has one.
-use Prim.Native.Nat.{ℕ, suc, _+_, _≤_}
+use Prim.Native.Nat.{ℕ, suc, _+_, _≤_, _<_}
 use mathlib.Core.Path.{_≡_, refl, sym, _∙_, subst}
-use mathlib.Core.Bool.{Bool, true, false, cond, not, _&&_, _||_, and-eq-true-iff}
+use mathlib.Core.Bool.{Bool, true, false, cond, not, _&&_, _||_}
 use mathlib.Core.List.{List, [], _∷_, _++_}
 use mathlib.Core.Option.{Option, none, some}
 use native.Mathlib.Omega.{arith}
-use lib.Dec.{leb, eqb}
+use lib.Dec.{leb, ltb, eqb}
 use lib.ListN.{length, take, drop, length-take, length-drop}
 use lib.Seq.{take-all, take-take, length-take-le}
-use borrow.Author.Tests.{leb-true, eqb-true, eqb-false}
-use Rattle.model.specs.Limits.{header-length, identifier-length, message-longest, run-kept}
+use borrow.Author.Tests.{leb-true, ltb-true, eqb-true, eqb-false}
+use Rattle.model.specs.Limits.{header-length, identifier-length, number-greatest, message-longest, run-kept}
 use Rattle.model.specs.Bytes.{NUL, dash, colon, is-digit, is-text, is-space, all, places, decimal}
 use Rattle.model.specs.Tests.{first}
 use Rattle.model.specs.Records.{is-record, payload, Item, number, text, time, item-length, payload-length, parts-from, parts}
@@ -20,15 +20,14 @@ use Rattle.model.specs.Records.{Settings, settings-items, settings-of, r
 use Rattle.model.specs.Records.{tightening-items, tightening-of, identifier-in, scanned-items, Tool, scanned, tightening, read-tool}
 use Rattle.model.specs.Runs.{Run, longer, Piece, cut, Message, is-flag, is-message, message-of, read-run}
 use Rattle.model.specs.Messages.{Effect, starts, stops, identifies, subscribes, unsubscribes, acknowledges, mirrors, Entry, table}
-use Rattle.model.specs.Messages.{listed, entry-of, Error, already-started, wrong-length, wrong-revision, wrong-data, Standing}
-use Rattle.model.specs.Messages.{good-length, good-among, own-test, tested}
+use Rattle.model.specs.Messages.{listed, entry-of, Error, already-started, wrong-length, wrong-revision, wrong-data, own, code}
+use Rattle.model.specs.Messages.{Standing, good-length, good-among, own-test, tested}
 use Rattle.model.specs.Wire.{Every, NoNUL, Framed}
-use Rattle.model.proofs.Framed.{every-take, Shown, nul-append, nul-text, Text, Fit, CleanSettings}
+use Rattle.model.specs.FieldsRead.{all-within}
+use Rattle.model.proofs.Framed.{both, either, every-take, Shown, nul-append, nul-text, Fit, Text, Identifier, CleanSettings}
+use Rattle.model.proofs.Legible.{payload-within, reported-items, number-within}
 
 -- ==== records: the texts of a good one
-
-pub both : (a b : Bool) → (a && b) ≡ true → (a ≡ true) × (b ≡ true)
-both a b h = and-eq-true-iff a b .0 h
 
 nul-in-time : (place b : ℕ) → good-in-time place b ≡ true → Shown b
 nul-in-time place b h =
@@ -85,13 +84,20 @@ clean-start slice = go (good-record settings-record-kind settings-items slice) r
   where
     go : (b : Bool) → good-record settings-record-kind settings-items slice ≡ b
         → CleanStart (cond b (some (settings-of (payload slice))) none)
-    go true e = fit-payload settings-items (payload slice) refl (good-of settings-record-kind settings-items slice e)
+    go true e =
+        let good = good-of settings-record-kind settings-items slice e in
+        let w = payload-within settings-items (payload slice) good in
+        record {
+          texts = fit-payload settings-items (payload slice) refl good;
+          within = w;
+          last = omega (arith, number-within (suc number-greatest) settings-items (values settings-items (payload slice)) 4 w refl);
+        }
     go false e = tt
 
 abbrev pub CleanTool : Option Tool → Type 0
 CleanTool none = Unit {0}
-CleanTool (some (scanned x)) = Text x
-CleanTool (some (tightening x t)) = Text x × Every Fit t
+CleanTool (some (scanned x)) = Identifier x
+CleanTool (some (tightening x t)) = Identifier x × Every Fit t × (all-within reported-items t ≡ true)
 
 -- and a tool record is good
 pub clean-tool : (slice : List ℕ) → CleanTool (read-tool slice)
@@ -105,13 +111,21 @@ clean-tool slice =
         (cond a (some (tightening (identifier-in (payload slice)) (tightening-of (payload slice))))
         (cond b (some (scanned (payload slice))) none))
     go true b e f =
-        fit-payload tightening-items (payload slice) refl (good-of tightening-record-kind tightening-items slice e)
+        let p = payload slice in
+        let g = good-of tightening-record-kind tightening-items slice e in
+        let fit = fit-payload tightening-items p refl g in
+        let n = length (identifier-in p) in
+        let w = both (eqb n identifier-length) (all-within reported-items (tightening-of p)) (payload-within tightening-items p g) in
+        (record { clean = fit .0; whole = eqb-true n identifier-length (w .0) }, fit .1, w .1)
     go false true e f =
         let g = good-of scanned-record-kind scanned-items slice f in
         let good = good-parts scanned-items (parts scanned-items (payload slice)) in
         let n = eqb-true (length (payload slice)) identifier-length (both (eqb (length (payload slice)) identifier-length) good g .0) in
-        subst Text (take-all identifier-length (payload slice) (omega arith))
-        (fit-payload scanned-items (payload slice) refl g .0)
+        record {
+          clean =
+              subst Text (take-all identifier-length (payload slice) (omega arith)) (fit-payload scanned-items (payload slice) refl g .0);
+          whole = n;
+        }
     go false false e f = tt
 
 -- ==== runs: a piece of bytes ends before its NUL, and so nothing that is kept has one
@@ -133,10 +147,36 @@ CleanRun r = NoNUL (r .kept)
 pub clean-longer : (r : Run) (bs : List ℕ) → CleanRun r → NoNUL bs → CleanRun (longer r bs)
 clean-longer r bs h k = every-take Shown run-kept (r .kept ++ bs) (nul-append (r .kept) bs h k)
 
--- the header of a message of 20 bytes is a frame, and its data field is no longer than an identifier
+-- the number that four digits give, or fewer
+digit-most : (b : ℕ) (more : Bool) → (is-digit b && more) ≡ true → (b ≤ 0x39) × (more ≡ true)
+digit-most b more h =
+    let p = both (is-digit b) more h in
+    (leb-true b 0x39 (both (leb 0x30 b) (leb b 0x39) (p .0) .1), p .1)
+
+four-digits : (bs : List ℕ) → all is-digit (take 4 bs) ≡ true → decimal (take 4 bs) < 10_000
+four-digits [] h = omega arith
+four-digits (a ∷ []) h = let p = digit-most a (all is-digit []) h in omega arith
+four-digits (a ∷ b ∷ []) h =
+    let p = digit-most a (all is-digit (b ∷ [])) h in
+    let q = digit-most b (all is-digit []) (p .1) in
+    omega arith
+four-digits (a ∷ b ∷ c ∷ []) h =
+    let p = digit-most a (all is-digit (b ∷ c ∷ [])) h in
+    let q = digit-most b (all is-digit (c ∷ [])) (p .1) in
+    let r = digit-most c (all is-digit []) (q .1) in
+    omega arith
+four-digits (a ∷ b ∷ c ∷ d ∷ bs) h =
+    let p = digit-most a (all is-digit (b ∷ c ∷ d ∷ [])) h in
+    let q = digit-most b (all is-digit (c ∷ d ∷ [])) (p .1) in
+    let r = digit-most c (all is-digit (d ∷ [])) (q .1) in
+    let s = digit-most d (all is-digit []) (r .1) in
+    omega arith
+
+-- the header of a message of 20 bytes is a frame, its data field is no longer than an identifier, and its number has four digits
 pub record CleanMessage (m : Message) : Type 0 where
   pub own : m .size ≡ header-length → Framed (m .header)
   pub short : length (m .data-field) ≤ identifier-length
+  pub mid : m .mid < 10_000
 
 clean-message : (r : Run) → CleanRun r → length (r .kept) ≤ run-kept → is-message r ≡ true → CleanMessage (message-of r)
 clean-message r h short e =
@@ -163,6 +203,7 @@ clean-message r h short e =
             (eqb-true (decimal (places 1 4 (r .kept))) (r .count) (own .1) ∙ size ∙ sym header-is);
       };
       short = omega (arith, length-drop header-length (r .kept));
+      mid = four-digits (drop 4 (r .kept)) (both (long && most && length-digits && own-length) mid five .1);
     }
 
 abbrev pub CleanEnd : Option Message → Type 0
@@ -224,6 +265,45 @@ entry-so mid = go (entry-of mid) refl
     go (some e) q =
         let s = entry-at own-entry refl mid e q in
         subst (λ (n : ℕ). mirrors-only (e .effect) n (e .least) (e .greatest) ≡ true) (s .0) (s .1)
+
+-- ==== the number of an error has two digits
+
+abbrev pub ShortCode : Option Error → Type 0
+ShortCode none = Unit {0}
+ShortCode (some e) = code e < 100
+
+abbrev own-short : Effect → Bool
+own-short starts = true
+own-short stops = true
+own-short (identifies n) = ltb n 100
+own-short (subscribes kind n) = ltb n 100
+own-short (unsubscribes kind n) = ltb n 100
+own-short (acknowledges kind) = true
+own-short mirrors = true
+
+own-code : (x : Standing) (f : Effect) → own-short f ≡ true → ShortCode (first none (own-test x f ∷ []))
+own-code x starts h = tt
+own-code x stops h = tt
+own-code x (identifies n) h = either ShortCode (not (x .granted)) (some (own n)) none (ltb-true n 100 h) tt
+own-code x (subscribes kind n) h = either ShortCode (x .subscribed kind) (some (own n)) none (ltb-true n 100 h) tt
+own-code x (unsubscribes kind n) h = either ShortCode (not (x .subscribed kind)) (some (own n)) none (ltb-true n 100 h) tt
+own-code x (acknowledges kind) h = tt
+own-code x mirrors h = tt
+
+pub code-short : (x : Standing) (mid size revision : ℕ) (bs : List ℕ) → ShortCode (tested x (entry-of mid) size revision bs)
+code-short x mid size revision bs = go (entry-of mid) refl
+  where
+    by-test : (b : Bool) (e : Error) (o : Option Error) → code e < 100 → ShortCode o → ShortCode (cond b (some e) o)
+    by-test b e o h k = either ShortCode b (some e) o h k
+
+    go : (o : Option Entry) → entry-of mid ≡ o → ShortCode (tested x o size revision bs)
+    go none q = omega arith
+    go (some e) q =
+        by-test (x .started && eqb (e .mid) 0001) already-started _ (omega arith)
+        (by-test (not (good-length e size)) wrong-length _ (omega arith)
+        (by-test (not (good-among (e .revision) revision)) wrong-revision _ (omega arith)
+        (by-test (not (all is-text bs)) wrong-data _ (omega arith)
+        (own-code x (e .effect) (entry-at (λ f. own-short (f .effect)) refl mid e q .1)))))
 
 -- a message that has no error has a good length, and its data are text
 pub passed : (x : Standing) (e : Entry) (size revision : ℕ) (bs : List ℕ) → tested x (some e) size revision bs ≡ none

@@ -10,7 +10,8 @@ use Rattle.model.specs.Bytes.{all, decimal, digits}
 use Rattle.model.specs.Kinds.{kinds}
 use Rattle.model.specs.Messages.{Revisions, not-read, revisions, Entry, table, entry-of, gets-reply}
 use Rattle.model.specs.Wire.{has-notice}
-use Rattle.model.proofs.Clean.{both, entry-at}
+use Rattle.model.proofs.Framed.{both}
+use Rattle.model.proofs.Clean.{entry-at}
 
 -- ==== the test
 

@@ -8,7 +8,7 @@ use native.Mathlib.Omega.{arith}
 use lib.Dec.{leb, eqb}
 use lib.ListN.{length, getD, take, length-append, length-replicate}
 use borrow.Author.Tests.{le-leb, leb-true}
-use Rattle.model.specs.Limits.{header-length, identifier-length}
+use Rattle.model.specs.Limits.{header-length, identifier-length, number-greatest}
 use Rattle.model.specs.Bytes.{NUL, space, digit-0, digit-1, is-digit, is-text, all, spaces, decimal, digits}
 use Rattle.model.specs.Records.{Value, counted, said, number-at, text-at, Settings}
 use Rattle.model.specs.Layouts.{Sources, settings, source, Row, number, text, blank, known, width-of, characters, label-length, label}
@@ -16,8 +16,13 @@ use Rattle.model.specs.Layouts.{Layout, data-from, data-of, layout-0002,
 use Rattle.model.specs.Layouts.{Layouts, layout-at, layouts-0052, layouts-0061}
 use Rattle.model.specs.Kinds.{kind-at}
 use Rattle.model.specs.Events.{Event, identified, tightened, kind-of, told-of}
+use Rattle.model.specs.Sharing.{last-after}
 use Rattle.model.specs.Frames.{header, frame, sources, nothing, frame-0002, frame-0004, frame-0005, event-frame}
+use Rattle.model.specs.FieldsRead.{settings-within, told-within}
 use Rattle.model.specs.Wire.{Every, NoNUL, Framed, is-notice}
+
+pub both : (a b : Bool) → (a && b) ≡ true → (a ≡ true) × (b ≡ true)
+both a b h = and-eq-true-iff a b .0 h
 
 -- ==== lists of which each element is so
 
@@ -203,20 +208,25 @@ module _ (b : Sources) (h : Fits b) where
 
 -- ==== the frames
 
-pub text-spaces : Text (spaces identifier-length)
-text-spaces = record { no-NUL = nul-spaces identifier-length; short = omega arith }
+-- an identifier: a text of its length
+pub record Identifier (x : List ℕ) : Type 0 where
+  pub clean : Text x
+  pub whole : length x ≡ identifier-length
 
--- settings, and events, whose texts can stand in fields
-abbrev pub CleanSettings : Settings → Type 0
-CleanSettings st = Every Fit (st .values)
+pub identifier-spaces : Identifier (spaces identifier-length)
+identifier-spaces = record { clean = record { no-NUL = nul-spaces identifier-length; short = omega arith }; whole = refl }
 
-abbrev pub CleanEvent : Event → Type 0
-CleanEvent (identified x) = Text x
-CleanEvent (tightened r) = Text (r .identifier) × Every Fit (r .tightening)
+-- settings, and events, whose texts can stand in fields, and whose values are within their items; the last number that they leave is one
+-- that there is
+pub record CleanSettings (st : Settings) : Type 0 where
+  pub texts : Every Fit (st .values)
+  pub within : settings-within st ≡ true
+  pub last : st .last ≤ number-greatest
 
-fit-told : (e : Event) → CleanEvent e → Every Fit (told-of e)
-fit-told (identified x) h = (h, tt)
-fit-told (tightened r) h = (h .0, every-append Fit (r .tightening) (counted (r .number) ∷ []) (h .1) (tt, tt))
+pub record CleanEvent (e : Event) : Type 0 where
+  pub texts : Every Fit (told-of e)
+  pub within : told-within e ≡ true
+  pub last : (n : ℕ) → n ≤ number-greatest → last-after n e ≤ number-greatest
 
 nothing-fits : Fits nothing
 nothing-fits = record { settings = tt; told = tt }
@@ -224,7 +234,7 @@ nothing-fits = record { settings = tt; told = tt }
 pub framed-0002 : (st : Settings) → CleanSettings st → Framed (frame-0002 st)
 unfolding frame-0002
 framed-0002 st h =
-    framed-layout (sources st []) (record { settings = h; told = tt }) 2 1 space layout-0002 (λ e. omega arith) refl
+    framed-layout (sources st []) (record { settings = h .texts; told = tt }) 2 1 space layout-0002 (λ e. omega arith) refl
 
 pub framed-0004 : (mid error : ℕ) → Framed (frame-0004 mid error)
 unfolding frame-0004
@@ -245,7 +255,7 @@ module _ (st : Settings) (clean : CleanSettings st) (revision : ℕ) (no-acknowl
   pub framed-event : (e : Event) → CleanEvent e → Framed (event-frame st revision no-acknowledge e)
   unfolding event-frame
   framed-event e h =
-      framed-layout (sources st (told-of e)) (record { settings = clean; told = fit-told e h }) ((kind-at (kind-of e)) .notice) revision
+      framed-layout (sources st (told-of e)) (record { settings = clean .texts; told = h .texts }) ((kind-at (kind-of e)) .notice) revision
       (cond no-acknowledge digit-1 digit-0) (layout-at ((kind-at (kind-of e)) .layouts) revision) (byte-12-shown no-acknowledge)
       (slim-notice e revision)
 

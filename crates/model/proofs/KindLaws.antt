@@ -12,8 +12,7 @@ use Rattle.model.specs.Bytes.{all}
 use Rattle.model.specs.Layouts.{Layout, layout-at}
 use Rattle.model.specs.Kinds.{Room, the-newest, up-to, Kind, kinds, kind-at}
 use Rattle.model.specs.Wire.{has-notice}
-use Rattle.model.proofs.Clean.{both}
-use Rattle.model.proofs.Framed.{at-every}
+use Rattle.model.proofs.Framed.{both, at-every}
 
 pub neither : (a b : Bool) → (a || b) ≡ false → (a ≡ false) × (b ≡ false)
 neither true b e = absurd (true≢false e)

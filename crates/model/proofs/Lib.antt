@@ -17,6 +17,7 @@ pub mod Cuts
 pub mod Erase
 pub mod Framed
 pub mod ReadBack
+pub mod Legible
 pub mod Clean
 pub mod Sent
 pub mod Wire

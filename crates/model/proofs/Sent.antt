@@ -1,7 +1,7 @@
 -- What goes out to one session, whatever its number: copies of notices, whose texts were clean when they came and stay so, and before them
--- a reply to the message that the session has sent. Each is a frame that is read alike by its NUL and by its length. Proved once over the
--- kind of a notice.
-use Prim.Native.Nat.{ℕ, suc, _-_, _%_, _≤_}
+-- a reply to the message that the session has sent. Each is a frame that is read alike by its NUL and by its length, and reads back as what
+-- it was made of. Proved once over the kind of a notice.
+use Prim.Native.Nat.{ℕ, suc, _-_, _%_, _≤_, _<_}
 use mathlib.Core.Path.{_≡_, refl, sym, subst}
 use mathlib.Core.Bool.{Bool, true, false, cond, _&&_}
 use mathlib.Core.List.{List, [], _∷_, _++_, map}
@@ -30,10 +30,12 @@ use Rattle.model.specs.Hearing.{begin, hear-opened, identifier-told, ide
 use Rattle.model.specs.Local.{end-run, end-run-opened, Local, opening, hang-up, receives, tick, event, elsewhere, tick-at}
 use Rattle.model.specs.Local.{receive-opened, receive, step, identifier-run, announces}
 use Rattle.model.specs.Wire.{Every, NoNUL, Framed, Answers, welcomes, refuses, accepts, mirrors as mirror, is-notice}
-use Rattle.model.proofs.Framed.{every-append, either, nul-append, nul-spaces, nul-text, Text, CleanSettings, CleanEvent}
+use Rattle.model.specs.FieldsRead.{ReadsBack, ReplyReads, reads-0002, reads-0004, reads-0005, reads-9999}
+use Rattle.model.proofs.Framed.{both, every-append, either, nul-append, nul-spaces, nul-text, Identifier, CleanSettings, CleanEvent}
 use Rattle.model.proofs.Framed.{framed-0002, framed-0004, framed-0005, framed-event, notice-event}
-use Rattle.model.proofs.Clean.{both, CleanRun, clean-longer, CleanMessage, CleanEnd, clean-end}
-use Rattle.model.proofs.Clean.{mirrors-only, Listed, entry-so, passed}
+use Rattle.model.proofs.Legible.{back-0002, back-0004, back-0005, copy-back}
+use Rattle.model.proofs.Clean.{CleanRun, clean-longer, CleanMessage, CleanEnd, clean-end}
+use Rattle.model.proofs.Clean.{mirrors-only, Listed, entry-so, ShortCode, code-short, passed}
 
 -- ==== a subscription
 
@@ -106,18 +108,21 @@ act-silent room (asks r a) = refl
 act-silent room drops = refl
 act-silent room acks = refl
 
--- ==== what goes out: a reply, if there is one, comes first, and then copies of notices and orders to close
+-- ==== what goes out, with these settings: a reply, if there is one, comes first, and then copies of notices and orders to close
 
-abbrev pub Follows : Emission → Type 0
-Follows (reply frame) = ⊥
-Follows (copy c) = Framed (c .what .frame) × (is-notice (c .what .frame) ≡ true)
-Follows close = Unit {0}
+abbrev pub CleanCopy : Settings → Copy → Type 0
+CleanCopy st c = Framed (c .frame) × (is-notice (c .frame) ≡ true) × ReadsBack st c
+
+abbrev pub Follows : Settings → Emission → Type 0
+Follows st (reply frame) = ⊥
+Follows st (copy c) = CleanCopy st (c .what)
+Follows st close = Unit {0}
 
 -- to one session, which has been sent that message, if any
-pub data Says (o : Option Message) : List Emission → Type 0 where
-  quiet : {es : List Emission} → Every Follows es → Says o es
+pub data Says (st : Settings) (o : Option Message) : List Emission → Type 0 where
+  quiet : {es : List Emission} → Every (Follows st) es → Says st o es
   answers : {m : Message} {frame : List ℕ} {es : List Emission}
-      → o ≡ some m → Answers m frame → Framed frame → Every Follows es → Says o (reply frame ∷ es)
+      → o ≡ some m → Answers m frame → Framed frame → ReplyReads st m frame → Every (Follows st) es → Says st o (reply frame ∷ es)
 
 -- ==== a row of cells
 
@@ -144,9 +149,6 @@ CleanSession closed = Unit {0}
 CleanSession (opened idle run) = CleanRun run
 CleanSession (started idle run subs) = CleanRun run × Every CleanSub subs
 
-abbrev pub CleanCopy : Copy → Type 0
-CleanCopy c = Framed (c .frame) × (is-notice (c .frame) ≡ true)
-
 -- a moment, as one session sees it
 abbrev pub CleanLocal : Local → Type 0
 CleanLocal opening = Unit {0}
@@ -172,37 +174,51 @@ heard elsewhere x = none
 
 abbrev pub CleanTold : Option (List ℕ) → Type 0
 CleanTold none = Unit {0}
-CleanTold (some x) = Text x
+CleanTold (some x) = Identifier x
 
 -- what a session becomes, and what goes out to it
-abbrev pub Goes : Option Message → Session × List Emission → Type 0
-Goes o r = CleanSession (r .0) × Says o (r .1)
+abbrev pub Goes : Settings → Option Message → Session × List Emission → Type 0
+Goes st o r = CleanSession (r .0) × Says st o (r .1)
 
 -- the same, where no reply goes out
-abbrev Still : Session × List Emission → Type 0
-Still r = CleanSession (r .0) × Every Follows (r .1)
+abbrev Still : Settings → Session × List Emission → Type 0
+Still st r = CleanSession (r .0) × Every (Follows st) (r .1)
 
-still : (o : Option Message) (r : Session × List Emission) → Still r → Goes o r
-still o r h = (h .0, quiet (h .1))
+still : (st : Settings) (o : Option Message) (r : Session × List Emission) → Still st r → Goes st o r
+still st o r h = (h .0, quiet (h .1))
 
 module _ (st : Settings) (clean : CleanSettings st) where
-  copies-plain : (revision : ℕ) (ns : List Notice) → CleanNotices ns → Every CleanCopy (copies-to st (plain revision) ns)
+  copies-plain : (revision : ℕ) (ns : List Notice) → CleanNotices ns → Every (CleanCopy st) (copies-to st (plain revision) ns)
   copies-plain revision [] h = tt
   copies-plain revision (n ∷ ns) h =
-      let e = n .event in
-      ((framed-event st clean revision true e (h .0), notice-event st clean revision true e), copies-plain revision ns (h .1))
+      let e = n .event in (
+        (
+          framed-event st clean revision true e (h .0),
+          notice-event st clean revision true e,
+          copy-back st e clean (h .0) (n .id) revision true,
+        ),
+        copies-plain revision ns (h .1),
+      )
 
-  copies-acked : (revision : ℕ) (q : Pending) (ns : List Notice) → CleanNotices ns → Every CleanCopy (copies-to st (acked revision q) ns)
+  copies-acked : (revision : ℕ) (q : Pending) (ns : List Notice) → CleanNotices ns
+      → Every (CleanCopy st) (copies-to st (acked revision q) ns)
   copies-acked revision q [] h = tt
   copies-acked revision q (n ∷ ns) h =
-      let e = n .event in
-      ((framed-event st clean revision false e (h .0), notice-event st clean revision false e), copies-acked revision q ns (h .1))
+      let e = n .event in (
+        (
+          framed-event st clean revision false e (h .0),
+          notice-event st clean revision false e,
+          copy-back st e clean (h .0) (n .id) revision false,
+        ),
+        copies-acked revision q ns (h .1),
+      )
 
   module _ (D : ℕ → Deed) (news-clean : (kind : ℕ) → CleanDeed (D kind)) where
-    deal-clean : (kind : ℕ) (s : Subscription) → CleanSub s → CleanSub ((deal st D kind s) .0) × Every CleanCopy ((deal st D kind s) .1)
+    deal-clean : (kind : ℕ) (s : Subscription) → CleanSub s
+        → CleanSub ((deal st D kind s) .0) × Every (CleanCopy st) ((deal st D kind s) .1)
     deal-clean kind unsubscribed h = (
       act-clean (room-of kind) (D kind) unsubscribed (news-clean kind) h .0,
-      subst (λ (ns : List Notice). Every CleanCopy (copies-to st unsubscribed ns)) (sym (act-silent (room-of kind) (D kind))) tt,
+      subst (λ (ns : List Notice). Every (CleanCopy st) (copies-to st unsubscribed ns)) (sym (act-silent (room-of kind) (D kind))) tt,
     )
     deal-clean kind (plain r) h =
         let a = act-clean (room-of kind) (D kind) (plain r) (news-clean kind) h in
@@ -211,13 +227,14 @@ module _ (st : Settings) (clean : CleanSettings st) where
         let a = act-clean (room-of kind) (D kind) (acked r q) (news-clean kind) h in
         (a .0, copies-acked r q ((act (room-of kind) (D kind) (acked r q)) .1) (a .1))
 
-    dealt-clean : (idle : ℕ) (run : Run) (subs : List Subscription) → CleanRun run → Every CleanSub subs → Still (dealt st idle run D subs)
+    dealt-clean : (idle : ℕ) (run : Run) (subs : List Subscription) → CleanRun run → Every CleanSub subs
+        → Still st (dealt st idle run D subs)
     dealt-clean idle run subs h k = (
       (h, row-every (deal st D) CleanSub (λ kind s c. deal-clean kind s c .0) 0 subs k),
-      copied (said (deal st D) 0 subs) (said-every (deal st D) CleanSub CleanCopy (λ kind s c. deal-clean kind s c .1) 0 subs k),
+      copied (said (deal st D) 0 subs) (said-every (deal st D) CleanSub (CleanCopy st) (λ kind s c. deal-clean kind s c .1) 0 subs k),
     )
       where
-        copied : (cs : List (Tagged Copy)) → Every (λ c. CleanCopy (c .what)) cs → Every Follows (map copy cs)
+        copied : (cs : List (Tagged Copy)) → Every (λ c. CleanCopy st (c .what)) cs → Every (Follows st) (map copy cs)
         copied [] h = tt
         copied (c ∷ cs) h = (h .0, copied cs (h .1))
 
@@ -225,28 +242,31 @@ module _ (st : Settings) (clean : CleanSettings st) where
   only-clean kind d h other = either CleanDeed (eqb other kind) d nothing h tt
 
   only-dealt : (idle : ℕ) (run : Run) (kind : ℕ) (d : Deed) (subs : List Subscription) → CleanDeed d → CleanRun run → Every CleanSub subs
-      → Still (dealt st idle run (only kind d) subs)
+      → Still st (dealt st idle run (only kind d) subs)
   only-dealt idle run kind d subs h k = dealt-clean (only kind d) (only-clean kind d h) idle run subs k
 
 -- a step, by what all share
 module _ (g : Shared) (clean : CleanSettings (g .settings)) where
   -- a message that is heard
-  accepted-clean : (m : Message) (r : Session × List Emission) → Still r → Goes (some m) (accepted m r)
-  accepted-clean m r h = (h .0, answers refl accepts (framed-0005 (m .mid)) (h .1))
+  accepted-clean : (m : Message) → m .mid < 10_000 → (r : Session × List Emission) → Still (g .settings) r
+      → Goes (g .settings) (some m) (accepted m r)
+  accepted-clean m n r h = (h .0, answers refl accepts (framed-0005 (m .mid)) (reads-0005 (back-0005 (m .mid) n)) (h .1))
 
   carry-out-clean : (subs : List Subscription) (m : Message) (f : Effect) → CleanMessage m → Every CleanSub subs → (least greatest : ℕ)
-      → mirrors-only f (m .mid) least greatest ≡ true → within least greatest (m .size) ≡ true → Goes (some m) (carry-out g subs m f)
+      → mirrors-only f (m .mid) least greatest ≡ true → within least greatest (m .size) ≡ true
+      → Goes (g .settings) (some m) (carry-out g subs m f)
   carry-out-clean subs m starts c h least greatest u v = ((tt, h), quiet tt)
-  carry-out-clean subs m stops c h least greatest u v = accepted-clean m (fresh, []) (tt, tt)
-  carry-out-clean subs m (identifies n) c h least greatest u v = accepted-clean m (started 0 empty-run subs, []) ((tt, h), tt)
+  carry-out-clean subs m stops c h least greatest u v = accepted-clean m (c .mid) (fresh, []) (tt, tt)
+  carry-out-clean subs m (identifies n) c h least greatest u v = accepted-clean m (c .mid) (started 0 empty-run subs, []) ((tt, h), tt)
   carry-out-clean subs m (subscribes kind n) c h least greatest u v =
       let d = asks (m .revision) (m .no-acknowledge) in
-      accepted-clean m (dealt (g .settings) 0 empty-run (only kind d) subs) (only-dealt (g .settings) clean 0 empty-run kind d subs tt tt h)
+      accepted-clean m (c .mid) (dealt (g .settings) 0 empty-run (only kind d) subs)
+      (only-dealt (g .settings) clean 0 empty-run kind d subs tt tt h)
   carry-out-clean subs m (unsubscribes kind n) c h least greatest u v =
-      accepted-clean m (dealt (g .settings) 0 empty-run (only kind drops) subs)
+      accepted-clean m (c .mid) (dealt (g .settings) 0 empty-run (only kind drops) subs)
       (only-dealt (g .settings) clean 0 empty-run kind drops subs tt tt h)
   carry-out-clean subs m (acknowledges kind) c h least greatest u v =
-      still (some m) (dealt (g .settings) 0 empty-run (only kind acks) subs)
+      still (g .settings) (some m) (dealt (g .settings) 0 empty-run (only kind acks) subs)
       (only-dealt (g .settings) clean 0 empty-run kind acks subs tt tt h)
   carry-out-clean subs m mirrors c h least greatest u v =
       let w = both (leb least (m .size)) (leb (m .size) greatest) v in
@@ -255,65 +275,82 @@ module _ (g : Shared) (clean : CleanSettings (g .settings)) where
       let from = eqb-true least header-length (b .1) in
       let to = eqb-true greatest header-length (a .1) in
       let size : m .size ≡ header-length = omega (arith, leb-true least (m .size) (w .0), leb-true (m .size) greatest (w .1)) in
-      ((tt, h), answers refl (mirror (eqb-true (m .mid) 9999 (b .0)) size) (c .own size) tt)
+      ((tt, h), answers refl (mirror (eqb-true (m .mid) 9999 (b .0)) size) (c .own size) reads-9999 tt)
 
-  error-clean : (m : Message) (o : Option Entry) (x : Error) → Says (some m) (error-reply m o x)
-  error-clean m none x = answers refl (refuses (code x)) (framed-0004 (m .mid) (code x)) tt
-  error-clean m (some e) x =
-      either (Says (some m)) (gets-reply (e .effect)) (reply (frame-0004 (m .mid) (code x)) ∷ []) []
-      (answers refl (refuses (code x)) (framed-0004 (m .mid) (code x)) tt) (quiet tt)
+  refused-clean : (m : Message) (x : Error) → m .mid < 10_000 → code x < 100
+      → Says (g .settings) (some m) (reply (frame-0004 (m .mid) (code x)) ∷ [])
+  refused-clean m x n k =
+      answers refl (refuses (code x)) (framed-0004 (m .mid) (code x)) (reads-0004 (code x) (back-0004 (m .mid) (code x) n k)) tt
 
-  hear-clean : (subs : List Subscription) (m : Message) → CleanMessage m → Every CleanSub subs → Goes (some m) (hear g subs m)
+  error-clean : (m : Message) (o : Option Entry) (x : Error) → m .mid < 10_000 → code x < 100
+      → Says (g .settings) (some m) (error-reply m o x)
+  error-clean m none x n k = refused-clean m x n k
+  error-clean m (some e) x n k =
+      either (Says (g .settings) (some m)) (gets-reply (e .effect)) (reply (frame-0004 (m .mid) (code x)) ∷ []) []
+      (refused-clean m x n k) (quiet tt)
+
+  hear-clean : (subs : List Subscription) (m : Message) → CleanMessage m → Every CleanSub subs → Goes (g .settings) (some m) (hear g subs m)
   unfolding error-of
-  hear-clean subs m c h = by-entry (entry-of (m .mid)) (entry-so (m .mid))
+  hear-clean subs m c h =
+      by-entry (entry-of (m .mid)) (entry-so (m .mid))
+      (code-short (started-standing g subs) (m .mid) (m .size) (m .revision) (m .data-field))
     where
       by-error : (o : Option Entry) (x : Option Error) → tested (started-standing g subs) o (m .size) (m .revision) (m .data-field) ≡ x
-          → Listed (m .mid) o → Goes (some m) (judged g subs m o x)
-      by-error o (some x) e u = ((tt, h), error-clean m o x)
-      by-error none none e u = ((tt, h), quiet tt)
-      by-error (some f) none e u =
+          → Listed (m .mid) o → ShortCode x → Goes (g .settings) (some m) (judged g subs m o x)
+      by-error o (some x) e u k = ((tt, h), error-clean m o x (c .mid) k)
+      by-error none none e u k = ((tt, h), quiet tt)
+      by-error (some f) none e u k =
           carry-out-clean subs m (f .effect) c h (f .least) (f .greatest) u
           (passed (started-standing g subs) f (m .size) (m .revision) (m .data-field) e .0)
 
       by-entry : (o : Option Entry) → Listed (m .mid) o
-          → Goes (some m) (judged g subs m o (tested (started-standing g subs) o (m .size) (m .revision) (m .data-field)))
-      by-entry o u = by-error o (tested (started-standing g subs) o (m .size) (m .revision) (m .data-field)) refl u
+          → ShortCode (tested (started-standing g subs) o (m .size) (m .revision) (m .data-field))
+          → Goes (g .settings) (some m) (judged g subs m o (tested (started-standing g subs) o (m .size) (m .revision) (m .data-field)))
+      by-entry o u k = by-error o (tested (started-standing g subs) o (m .size) (m .revision) (m .data-field)) refl u k
 
-  hear-opened-clean : (idle : ℕ) (m : Message) → Goes (some m) (hear-opened g idle m)
-  hear-opened-clean idle m = go (eqb (m .mid) 0001) refl (message-error (opened-standing g) m)
+  hear-opened-clean : (idle : ℕ) (m : Message) → Goes (g .settings) (some m) (hear-opened g idle m)
+  unfolding error-of
+  hear-opened-clean idle m =
+      go (eqb (m .mid) 0001) refl (message-error (opened-standing g) m)
+      (code-short (opened-standing g) (m .mid) (m .size) (m .revision) (m .data-field))
     where
-      go : (b : Bool) → eqb (m .mid) 0001 ≡ b → (x : Option Error) → Goes (some m) (cond b (begin g idle m x) (opened idle empty-run, []))
-      go true e none =
-          ((tt, (tt, (tt, tt))), answers refl (welcomes (g .settings) (eqb-true (m .mid) 0001 e)) (framed-0002 (g .settings) clean) tt)
-      go true e (some x) = (tt, answers refl (refuses (code x)) (framed-0004 (m .mid) (code x)) tt)
-      go false e x = (tt, quiet tt)
+      go : (b : Bool) → eqb (m .mid) 0001 ≡ b → (x : Option Error) → ShortCode x
+          → Goes (g .settings) (some m) (cond b (begin g idle m x) (opened idle empty-run, []))
+      go true e none k =
+          let st = g .settings in
+          let reads = reads-0002 (back-0002 st (clean .within)) in
+          ((tt, (tt, (tt, tt))), answers refl (welcomes st (eqb-true (m .mid) 0001 e)) (framed-0002 st clean) reads tt)
+      go true e (some x) k = (tt, refused-clean m x (omega (arith, eqb-true (m .mid) 0001 e)) k)
+      go false e x k = (tt, quiet tt)
 
   -- the end of a run, and bytes
   end-run-clean : (idle : ℕ) (subs : List Subscription) (o : Option Message) → CleanEnd o → Every CleanSub subs
-      → Goes o (end-run g idle subs o)
+      → Goes (g .settings) o (end-run g idle subs o)
   end-run-clean idle subs none c h = ((tt, h), quiet tt)
   end-run-clean idle subs (some m) c h = hear-clean subs m c h
 
-  end-run-opened-clean : (idle : ℕ) (o : Option Message) → Goes o (end-run-opened g idle o)
+  end-run-opened-clean : (idle : ℕ) (o : Option Message) → Goes (g .settings) o (end-run-opened g idle o)
   end-run-opened-clean idle none = (tt, quiet tt)
   end-run-opened-clean idle (some m) = hear-opened-clean idle m
 
   receive-clean : (idle : ℕ) (r : Run) (subs : List Subscription) (b : Bool) → CleanRun r → length (r .kept) ≤ run-kept
-      → Every CleanSub subs → Goes (cond b (read-run r) none) (receive g idle r subs b)
+      → Every CleanSub subs → Goes (g .settings) (cond b (read-run r) none) (receive g idle r subs b)
   receive-clean idle r subs false h n k = ((h, k), quiet tt)
   receive-clean idle r subs true h n k = end-run-clean idle subs (read-run r) (clean-end r h n) k
 
-  receive-opened-clean : (idle : ℕ) (r : Run) (b : Bool) → CleanRun r → Goes (cond b (read-run r) none) (receive-opened g idle r b)
+  receive-opened-clean : (idle : ℕ) (r : Run) (b : Bool) → CleanRun r
+      → Goes (g .settings) (cond b (read-run r) none) (receive-opened g idle r b)
   receive-opened-clean idle r false h = (h, quiet tt)
   receive-opened-clean idle r true h = end-run-opened-clean idle (read-run r)
 
-  tick-at-clean : (idle : ℕ) (r : Session × List Emission) → Still r → Goes none (tick-at idle r)
+  tick-at-clean : (idle : ℕ) (r : Session × List Emission) → Still (g .settings) r → Goes (g .settings) none (tick-at idle r)
   tick-at-clean idle r h =
+      let st = g .settings in
       let shut : Session × List Emission = (closed, close ∷ []) in
-      either (Goes none) (eqb idle idle-limit) shut r (still none shut (tt, (tt, tt))) (still none r h)
+      either (Goes st none) (eqb idle idle-limit) shut r (still st none shut (tt, (tt, tt))) (still st none r h)
 
   -- A STEP of a session
-  pub step-clean : (l : Local) (x : Session) → CleanLocal l → CleanSession x → Goes (heard l x) (step g l x)
+  pub step-clean : (l : Local) (x : Session) → CleanLocal l → CleanSession x → Goes (g .settings) (heard l x) (step g l x)
   step-clean opening closed c h = (tt, quiet tt)
   step-clean hang-up closed c h = (tt, quiet tt)
   step-clean (receives p) closed c h = (tt, quiet tt)
@@ -337,7 +374,7 @@ module _ (g : Shared) (clean : CleanSettings (g .settings)) where
   step-clean (event e) (started i run subs) c h =
       let kind = kind-of e in
       let n = notice-of g e in
-      still none (dealt (g .settings) i run (only kind (news n)) subs)
+      still (g .settings) none (dealt (g .settings) i run (only kind (news n)) subs)
       (only-dealt (g .settings) clean i run kind (news n) subs c (h .0) (h .1))
   step-clean elsewhere (started i run subs) c h = (h, quiet tt)
 
@@ -348,9 +385,14 @@ module _ (g : Shared) (clean : CleanSettings (g .settings)) where
   told-clean m (identifies n) c h =
       let room = identifier-length - length (m .data-field) in
       let short = c .short in
+      let n : length (m .data-field ++ spaces room) ≡ identifier-length =
+      omega (arith, length-append (m .data-field) (spaces room), length-replicate room space) in
       record {
-        no-NUL = nul-append (m .data-field) (spaces room) (nul-text (m .data-field) h) (nul-spaces room);
-        short = omega (arith, length-append (m .data-field) (spaces room), length-replicate room space);
+        clean = record {
+          no-NUL = nul-append (m .data-field) (spaces room) (nul-text (m .data-field) h) (nul-spaces room);
+          short = omega arith;
+        };
+        whole = n;
       }
   told-clean m (subscribes kind n) c h = tt
   told-clean m (unsubscribes kind n) c h = tt

@@ -24,10 +24,10 @@ use model::NUMBER_GREATEST;
 use model::NUMBER_LENGTH;
 use model::RECORD_HEAD;
 use model::SCANNED_RECORD_KIND;
-use model::SETTINGS_RECORD_KIND;
 use model::SETTINGS_LENGTH;
-use model::TIGHTENING_RECORD_KIND;
+use model::SETTINGS_RECORD_KIND;
 use model::TIGHTENING_LENGTH;
+use model::TIGHTENING_RECORD_KIND;
 use model::TIME_LENGTH;
 
 // ---- times
@@ -192,7 +192,12 @@ pub enum RecordKind {
 pub fn tool_record_kind(slice: &[u8]) -> RecordKind
     ensures { λ r. ⌜ tool-in r (now (slice .entry)) ≡ read-tool (now (slice .entry)) ⌝ }
 {
-    if good_record(slice, TIGHTENING_RECORD_KIND, TIGHTENING_LENGTH, &TIGHTENING) {
+    if good_record(
+        slice,
+        TIGHTENING_RECORD_KIND,
+        TIGHTENING_LENGTH,
+        &TIGHTENING,
+    ) {
         return RecordKind::Tightening;
     }
     if good_record(slice, SCANNED_RECORD_KIND, IDENTIFIER_LENGTH, &SCANNED) {

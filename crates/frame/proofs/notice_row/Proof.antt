@@ -2,10 +2,9 @@
 use borrow.Author.Needs.{needs}
 use mathlib.Core.Path.{ap, _∙_}
 use mathlib.Core.List.{[], _∷_}
-use Rattle.model.specs.Records.{scanned-items}
+use Rattle.model.specs.Records.{scanned-items, result-items}
 use Rattle.model.specs.Layouts.{identifier-rows}
 use Rattle.frame.specs.Layout.{placed}
-use Rattle.frame.specs.Places.{result-items}
 use Rattle.frame.proofs.Rows.{second-kind, among, same-row, controllers-row, behind-within, behind-row, first-revision}
 use Rattle.frame.proofs.notice_row.Statement.{statement}
 use Rattle.frame.proofs.notice_row.Tie as tie

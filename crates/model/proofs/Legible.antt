@@ -1,0 +1,190 @@
+-- What a reader gets out of the frames that we write: a payload that is good says only values that are within its items, and rows that have
+-- room for whatever the items say are legible. So the data of our frames reads back as the values that they were made of.
+use Prim.Native.Nat.{ℕ, zero, suc, _+_, _≤_, _<_, _^_}
+use mathlib.Core.Path.{_≡_, refl, sym, ap, _∙_}
+use mathlib.Core.Bool.{Bool, true, false, cond, and-eq-true-iff, true≢false}
+use mathlib.Core.List.{List, [], _∷_, _++_, append-nil}
+use native.Mathlib.Omega.{arith}
+use lib.Dec.{leb, eqb}
+use lib.ListN.{length, take, drop, length-take, length-drop}
+use borrow.Author.Tests.{leb-true, ltb-true, eqb-true, le-leb, lt-ltb, eq-eqb}
+use Rattle.model.specs.Limits.{header-length, identifier-length, number-length, number-greatest}
+use Rattle.model.specs.Bytes.{space, digit-0, digit-1, all, digits}
+use Rattle.model.specs.Records.{Item, number as number-item, text as text-item, time, item-length, payload-length}
+use Rattle.model.specs.Records.{parts-from, parts, good-item, good-parts, good-payload}
+use Rattle.model.specs.Records.{Value, counted, said, value-of, values-of, values, number-at, text-at}
+use Rattle.model.specs.Records.{Settings, settings-items, tightening-items, result-items, scanned-items}
+use Rattle.model.specs.Layouts.{Sources, settings, source, Row, number, text, blank, known, Layout, data-of}
+use Rattle.model.specs.Layouts.{layout-0002, layout-0004, layout-0005, layouts-0052, layouts-0061}
+use Rattle.model.specs.Kinds.{kind-at}
+use Rattle.model.specs.Events.{Result, Event, identified, tightened, kind-of, told-of}
+use Rattle.model.specs.Frames.{header, frame, sources, nothing, frame-0002, frame-0004, frame-0005, event-frame}
+use Rattle.model.specs.FieldsRead.{legible, read-fields, read-frame, values-in, number-below, text-of, passes-at, row-fits}
+use Rattle.model.specs.FieldsRead.{layout-for, ReadsBack, is-within, all-within, items-of, settings-within, told-within}
+use Rattle.model.specs.Wire.{Every}
+use Rattle.model.proofs.Framed.{both, every-append, at-every, Fit, Identifier, CleanSettings, CleanEvent}
+use Rattle.model.proofs.ReadBack.{read-back}
+
+-- ==== a good payload says values that are within its items
+
+value-within : (e : Item) (bs : List ℕ) → good-item e bs ≡ true → length bs ≡ item-length e → is-within e (value-of e bs) ≡ true
+value-within (number-item size greatest) bs good n = good
+value-within (text-item size) bs good n = eq-eqb (length bs) size n
+value-within time bs good n = eq-eqb (length bs) _ n
+
+parts-within : (es : List Item) (at : ℕ) (bs : List ℕ) → good-parts es (parts-from at es bs) ≡ true
+    → at + payload-length es ≤ length bs → all-within es (values-of es (parts-from at es bs)) ≡ true
+parts-within [] at bs good n = refl
+parts-within (e ∷ es) at bs good n =
+    let p = take (item-length e) (drop at bs) in
+    let g = both (good-item e p) (good-parts es (parts-from (at + item-length e) es bs)) good in
+    and-eq-true-iff (is-within e (value-of e p)) (all-within es (values-of es (parts-from (at + item-length e) es bs))) .1 (
+      value-within e p (g .0) (omega (arith, length-take (item-length e) (drop at bs), length-drop at bs)),
+      parts-within es (at + item-length e) bs (g .1) (omega arith),
+    )
+
+pub payload-within : (es : List Item) (bs : List ℕ) → good-payload es bs ≡ true → all-within es (values es bs) ≡ true
+unfolding good-payload
+payload-within es bs good =
+    let g = both (eqb (length bs) (payload-length es)) (good-parts es (parts es bs)) good in
+    parts-within es 0 bs (g .1) (omega (arith, eqb-true (length bs) (payload-length es) (g .0)))
+
+-- ==== rows that fit the items are legible, whatever values within them the sources have
+
+pub number-within : (bound : ℕ) (es : List Item) (vs : List Value) (i : ℕ) → all-within es vs ≡ true
+    → passes-at (number-below bound) es i ≡ true → number-at vs i < bound
+number-within bound [] vs i a f = absurd (true≢false (sym f))
+number-within bound (e ∷ es) [] i a f = absurd (true≢false (sym a))
+number-within bound (e ∷ es) (v ∷ vs) (suc i) a f = number-within bound es vs i (both (is-within e v) (all-within es vs) a .1) f
+number-within bound (number-item size greatest ∷ es) (counted n ∷ vs) zero a f =
+    omega (arith, leb-true n greatest (both (leb n greatest) (all-within es vs) a .0), ltb-true greatest bound f)
+number-within bound (number-item size greatest ∷ es) (said bs ∷ vs) zero a f = absurd (true≢false (sym a))
+number-within bound (text-item size ∷ es) (v ∷ vs) zero a f = absurd (true≢false (sym f))
+number-within bound (time ∷ es) (v ∷ vs) zero a f = absurd (true≢false (sym f))
+
+text-within : (w : ℕ) (es : List Item) (vs : List Value) (i : ℕ) → all-within es vs ≡ true → passes-at (text-of w) es i ≡ true
+    → eqb (length (text-at vs i)) w ≡ true
+text-within w [] vs i a f = absurd (true≢false (sym f))
+text-within w (e ∷ es) [] i a f = absurd (true≢false (sym a))
+text-within w (e ∷ es) (v ∷ vs) (suc i) a f = text-within w es vs i (both (is-within e v) (all-within es vs) a .1) f
+text-within w (number-item size greatest ∷ es) (v ∷ vs) zero a f = absurd (true≢false (sym f))
+text-within w (text-item size ∷ es) (counted n ∷ vs) zero a f = absurd (true≢false (sym a))
+text-within w (text-item size ∷ es) (said bs ∷ vs) zero a f =
+    eq-eqb (length bs) w (eqb-true (length bs) size (both (eqb (length bs) size) (all-within es vs) a .0) ∙ eqb-true size w f)
+text-within w (time ∷ es) (counted n ∷ vs) zero a f = absurd (true≢false (sym a))
+text-within w (time ∷ es) (said bs ∷ vs) zero a f =
+    eq-eqb (length bs) w (eqb-true (length bs) _ (both _ (all-within es vs) a .0) ∙ eqb-true _ w f)
+
+-- the data of a frame stands behind its header
+data-behind : (mid revision byte-12 : ℕ) (bs : List ℕ) → drop header-length (frame mid revision byte-12 bs) ≡ bs
+unfolding frame header digits
+data-behind mid revision byte-12 bs = refl
+
+-- sources whose values are within these items
+module _ (ss ts : List Item) (b : Sources) (s : all-within ss (b .settings) ≡ true) (t : all-within ts (b .told) ≡ true) where
+  source-within : (from : ℕ) → all-within (cond (eqb from settings) ss ts) (source b from) ≡ true
+  source-within from = go (eqb from settings)
+    where
+      go : (c : Bool) → all-within (cond c ss ts) (cond c (b .settings) (b .told)) ≡ true
+      go true = s
+      go false = t
+
+  fit-legible : (row : Row) → row-fits ss ts row ≡ true → legible b row ≡ true
+  fit-legible (number w from i) f =
+      lt-ltb (number-at (source b from) i) (10 ^ w)
+      (number-within (10 ^ w) (cond (eqb from settings) ss ts) (source b from) i (source-within from) f)
+  fit-legible (text w from i) f = text-within w (cond (eqb from settings) ss ts) (source b from) i (source-within from) f
+  fit-legible (blank w) f = refl
+  fit-legible (known w n) f = f
+
+  pub all-legible : (rows : List Row) → all (row-fits ss ts) rows ≡ true → all (legible b) rows ≡ true
+  all-legible [] f = refl
+  all-legible (row ∷ rows) f =
+      let g = both (row-fits ss ts row) (all (row-fits ss ts) rows) f in
+      and-eq-true-iff (legible b row) (all (legible b) rows) .1 (fit-legible row (g .0), all-legible rows (g .1))
+
+  -- so a frame that has them reads back
+  pub frame-back : (mid revision byte-12 : ℕ) (l : Layout) → all (row-fits ss ts) (l .rows) ≡ true
+      → read-frame l (frame mid revision byte-12 (data-of l b)) ≡ values-in b l
+  frame-back mid revision byte-12 l f =
+      let d = data-of l b in
+      ap (read-fields (l .numbered) (l .rows)) (data-behind mid revision byte-12 d ∙ sym (append-nil d))
+      ∙ read-back b (l .numbered) (l .rows) 1 [] (all-legible (l .rows) f)
+
+-- what a tool reports besides the identifier
+abbrev pub reported-items : List Item
+reported-items = drop 1 tightening-items
+
+-- ==== replies
+
+pub back-0002 : (st : Settings) → settings-within st ≡ true → read-frame layout-0002 (frame-0002 st) ≡ values-in (sources st []) layout-0002
+unfolding frame-0002
+back-0002 st h = frame-back settings-items [] (sources st []) h refl 2 1 space layout-0002 refl
+
+pub back-0004 : (mid error : ℕ) → mid < 10_000 → error < 100
+    → read-frame (layout-0004 mid error) (frame-0004 mid error) ≡ counted mid ∷ counted error ∷ []
+unfolding frame-0004
+back-0004 mid error h k =
+    frame-back [] [] nothing refl refl 4 1 space (layout-0004 mid error) (rw (lt-ltb mid 10_000 h, lt-ltb error 100 k))
+
+pub back-0005 : (mid : ℕ) → mid < 10_000 → read-frame (layout-0005 mid) (frame-0005 mid) ≡ counted mid ∷ []
+unfolding frame-0005
+back-0005 mid h = frame-back [] [] nothing refl refl 5 1 space (layout-0005 mid) (rw (lt-ltb mid 10_000 h))
+
+-- ==== notices, whatever the kind and the revision: by the layout of these
+
+notice-fits : (e : Event) (revision : ℕ) → all (row-fits settings-items (items-of e)) ((layout-for e revision) .rows) ≡ true
+notice-fits (identified x) revision = at-every (λ l. all (row-fits settings-items scanned-items) (l .rows)) layouts-0052 refl revision
+notice-fits (tightened r) revision = at-every (λ l. all (row-fits settings-items result-items) (l .rows)) layouts-0061 refl revision
+
+pub event-back : (st : Settings) (e : Event) → settings-within st ≡ true → told-within e ≡ true → (revision : ℕ) (no-acknowledge : Bool)
+    → read-frame (layout-for e revision) (event-frame st revision no-acknowledge e)
+    ≡ values-in (sources st (told-of e)) (layout-for e revision)
+unfolding event-frame
+event-back st e h k revision no-acknowledge =
+    frame-back settings-items (items-of e) (sources st (told-of e)) h k ((kind-at (kind-of e)) .notice) revision
+    (cond no-acknowledge digit-1 digit-0) (layout-for e revision) (notice-fits e revision)
+
+-- a copy of it
+pub copy-back : (st : Settings) (e : Event) → CleanSettings st → CleanEvent e → (id revision : ℕ) (no-acknowledge : Bool)
+    → ReadsBack st (record { notice = record { id = id; event = e }; frame = event-frame st revision no-acknowledge e })
+copy-back st e h k id revision no-acknowledge = record {
+  revision = revision;
+  no-acknowledge = no-acknowledge;
+  made = refl;
+  back = event-back st e (h .within) (k .within) revision no-acknowledge;
+}
+
+-- ==== events: an identifier, and a tightening whose values are good and whose number there is
+
+pub identified-clean : (x : List ℕ) → Identifier x → CleanEvent (identified x)
+identified-clean x h = record {
+  texts = (h .clean, tt);
+  within = rw (eq-eqb (length x) identifier-length (h .whole));
+  last = λ n k. k;
+}
+
+all-within-append : (es : List Item) (vs : List Value) (fs : List Item) (ws : List Value) → all-within es vs ≡ true
+    → all-within fs ws ≡ true → all-within (es ++ fs) (vs ++ ws) ≡ true
+all-within-append [] [] fs ws h k = k
+all-within-append [] (v ∷ vs) fs ws h k = absurd (true≢false (sym h))
+all-within-append (e ∷ es) [] fs ws h k = absurd (true≢false (sym h))
+all-within-append (e ∷ es) (v ∷ vs) fs ws h k =
+    let t = both (is-within e v) (all-within es vs) h in
+    and-eq-true-iff (is-within e v) (all-within (es ++ fs) (vs ++ ws)) .1 (t .0, all-within-append es vs fs ws (t .1) k)
+
+pub tightened-clean : (r : Result) → Identifier (r .identifier) → Every Fit (r .tightening)
+    → all-within reported-items (r .tightening) ≡ true → r .number ≤ number-greatest → CleanEvent (tightened r)
+tightened-clean r h k w n =
+    let number-items = number-item number-length number-greatest ∷ [] in
+    let numbers = counted (r .number) ∷ [] in
+    record {
+      texts = (h .clean, every-append Fit (r .tightening) numbers k (tt, tt));
+      within =
+          and-eq-true-iff (eqb (length (r .identifier)) identifier-length)
+          (all-within (reported-items ++ number-items) (r .tightening ++ numbers)) .1 (
+            eq-eqb (length (r .identifier)) identifier-length (h .whole),
+            all-within-append reported-items (r .tightening) number-items numbers w (rw (le-leb (r .number) number-greatest n)),
+          );
+      last = λ m l. n;
+    }
