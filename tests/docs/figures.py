@@ -29,6 +29,7 @@ import mutants  # noqa: E402
 import house_records  # noqa: E402
 from assumptions import bare  # noqa: E402
 from check import read  # noqa: E402
+from edits import item  # noqa: E402
 from compare import FULLEST  # noqa: E402
 
 COUNT = re.compile(r"(\d[\d,]*)<!-- ([\w./-]+) -->")
@@ -131,7 +132,7 @@ def sizes():
 
 def host_test(name, test):
     shows = " ".join((test.__doc__ or "").split())
-    return f"`{name}`", f"`tests/host/{test.__module__}.py`", shows + (" In `make soak` only." if hasattr(test, "long") else "")
+    return item(f"`{name}` (`tests/host/{test.__module__}.py`): {shows}{' In `make soak` only.' if hasattr(test, 'long') else ''}")
 
 
 def records():
@@ -142,15 +143,15 @@ def records():
 
     def name(kind):
         return next(name.lower() for name, value in vars(house_records).items() if name.isupper() and value == kind)
-    return [(f"{name(kind)}, kind {kind}", items(payload)) for kind, payload in house_records.PAYLOADS.items()]
+    return "".join(item(f"{name(kind)}, kind {kind}: {items(payload)}") for kind, payload in house_records.PAYLOADS.items())
 
 
 def tables():
     return {
         "counts": table(("What", "How many"), [(what, f"{number:,}") for _, what, number in counts()]),
-        "records": table(("Record", "Items"), records()),
+        "records": records(),
         "sizes": table(("Crate", "Specs", "Code", "Proofs"), sizes()),
-        "host-tests": table(("Test", "In", "What it shows"), [host_test(*named) for named in HOST_TESTS.items()]),
+        "host-tests": "".join(host_test(*named) for named in HOST_TESTS.items()),
         "host-faults": table(("Fault", "In", "Found by"), [(name, f"`host/{file}`", f"`{test}`") for name, test, file, *_ in HOST_FAULTS]),
     }
 
@@ -187,9 +188,9 @@ def wrong_tables(path, text, rows):
 
 
 def functions_of(text):
-    """The functions that a text names, as (crate, function). In a line, or a cell of a table, `frame::row`, `measure` are two of frame."""
+    """The functions that a text names, as (crate, function). Up to the next colon or item `frame::row`, `measure` are two of frame."""
     found = set()
-    for cell in re.split(r"[|\n]", text):
+    for cell in re.split(r"[|]|: |\n(?! )", text):
         crate = None
         for name in re.findall(r"`([\w:]+)`", cell):
             crate, function = name.split("::") if name.count("::") == 1 else (crate, name)
@@ -202,7 +203,7 @@ def left_out():
     readme, of_tests, said = read("README.md"), read("tests/README.md"), functions_of(read("docs/PROVED.md"))
     yield from (f"docs/PROVED.md: not a word of {crate}::{function}" for crate in crates() for function in check.Crate(crate).public
                 if (crate, function) not in said)
-    listed = set(re.findall(r"`(\w+)`", " ".join(re.findall(r"^\| (`.*?) \|", readme, re.M))))
+    listed = set(re.findall(r"`(\w+)`", " ".join(re.findall(r"^- ((?:`\w+`(?:, )?)+):", readme, re.M))))
     yield from (f"README.md: the table of crates and crates.txt differ in {name}" for name in sorted(listed ^ set(crates())))
     yield from (f"README.md: no link to {path}" for path in sorted(glob.glob("docs/*.md")) if f"({path})" not in readme)
     for path in sorted(path for ending in ("py", "c", "h") for path in glob.glob(f"tests/*/*.{ending}")):

@@ -16,7 +16,7 @@ import os
 import re
 import sys
 
-from edits import COLUMNS, about, applied, replacements
+from edits import COLUMNS, about, applied, item, replacements
 
 LIST = "docs/MUST-FAIL.md"
 MARKER = "<!-- The rest is written by make must-fail-list. -->\n"
@@ -59,13 +59,13 @@ class Crate:
 
 
 def listed(crates, edits):
-    """The list: how many edits there are, and a table for each crate."""
+    """The list: how many edits there are, and those of each crate."""
     gate = sum(edit.gate for edit in edits)
     text = f"\n{len(edits)} edits: {gate} in the gate, and {len(edits) - gate} in `tests/wrong`.\n"
     for name, crate in crates.items():
-        text += f"\n## {name}\n\n| Function | Wrong program | Edit |\n|---|---|---|\n"
+        text += f"\n## {name}\n\n"
         for edit in sorted((edit for edit in edits if edit.crate == name), key=crate.place):
-            text += f"| {', '.join(edit.names)} | {edit.program} | {edit.label if edit.gate else f'*{edit.label}*'} |\n"
+            text += item(f"{', '.join(edit.names)}: {edit.program}; {edit.label if edit.gate else f'*{edit.label}*'}")
     return text
 
 

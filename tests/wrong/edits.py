@@ -2,8 +2,14 @@
 
 import os
 import re
+import textwrap
 
 COLUMNS = 140
+
+
+def item(text):
+    """An item of a list in a document."""
+    return textwrap.fill("- " + text, COLUMNS, subsequent_indent="  ", break_long_words=False, break_on_hyphens=False) + "\n"
 
 
 def about(path):
