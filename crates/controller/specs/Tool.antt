@@ -25,7 +25,7 @@ pub record Reporting (record-kind : RecordKind) (t o slice : List ℕ) : Type 0 
   pub reads : tool-in record-kind slice ≡ read-tool slice
   pub number : record-kind ≡ Tightening → decode t .shared .last ≡ number-greatest → ⊥
 
--- what the event of a tool record does
+-- what report does: the moments of the tool record have passed, and `took` says who took its event
 pub record Reports (slice t o : List ℕ) (at took : ℕ) (t′ o′ : List ℕ) : Type 0 where
   pub within : at ≤ call-most
   pub went : Went t o 0 (moments (decode t) (tool slice)) at t′ o′

@@ -5,14 +5,7 @@ ghost use lib.ListN.{drop};
 ghost use Rattle.model.specs.Records.{identifier-in, tightening-of, tightening};
 ghost use Rattle.model.specs.Events.{tightened};
 ghost use Rattle.model.specs.Sharing.{reported};
-ghost use Rattle.model.specs.Calls.{
-  start as start-call,
-  open-session,
-  hang-up-session,
-  bytes as bytes-call,
-  one-tick,
-  tool,
-};
+ghost use Rattle.model.specs.Calls.{start as start-call, open-session, hang-up-session, bytes as bytes-call, one-tick, tool};
 ghost use Rattle.frame.specs.Places.{result-of};
 ghost use Rattle.table.specs.Table.{decode};
 ghost use Rattle.controller.specs.Contract.{Outcome};
