@@ -13,7 +13,7 @@ use Rattle.model.specs.Kinds.{identifiers, tightenings, event-most, call-most}
 use Rattle.model.proofs.Bounds.{event-within}
 use Rattle.model.specs.Events.{Event, identified, tightened}
 use Rattle.model.specs.World.{Moment, happens}
-use Rattle.model.specs.Calls.{tool, does, happening, moments, takers, taken-by}
+use Rattle.model.specs.Calls.{happening, takers, taken-by}
 use Rattle.model.specs.Sharing.{reported}
 use Rattle.frame.specs.Places.{result-of}
 use Rattle.frame.specs.Places.{event-in}
@@ -22,12 +22,8 @@ use Rattle.record.specs.declared.RecordKind.the-variants.{Bad, Tightening, Scan
 use Rattle.record.specs.Tools.{tool-in}
 use Rattle.table.specs.Table.{decode, Table, Went}
 use Rattle.refusal.proofs.Numbers.{good-length}
+use Rattle.controller.specs.Tool.{Reports}
 use Rattle.controller.proofs.Calls.{nothing-passed}
-
--- what the event of a tool record does
-abbrev pub Reports : (slice t o : List ℕ) (at taken : ℕ) (t′ o′ : List ℕ) → Type 0
-Reports slice t o at taken t′ o′ =
-    (at ≤ call-most) × Went t o 0 (moments (decode t) (tool slice)) at t′ o′ × (taken ≡ (does (decode t) (tool slice)) .taken)
 
 module _ (record-kind : RecordKind) (slice : List ℕ) (e : tool-in record-kind slice ≡ read-tool slice) where
   -- the tool record that is read
@@ -72,11 +68,11 @@ module _ (record-kind : RecordKind) (slice : List ℕ) (e : tool-in record-kind 
 
     as-reported : {ms : List Moment} {at taken : ℕ} {t′ o′ : List ℕ} (r : Option Tool) → r ≡ read-tool slice → ms ≡ happening (is r)
         → taken ≡ taken-by (decode t .sessions) (is r) → at ≤ call-most → Went t o 0 ms at t′ o′ → Reports slice t o at taken t′ o′
-    as-reported {at = at} {t′ = t′} {o′ = o′} r q m k h w = (
-      h,
-      subst (λ (x : List Moment). Went t o 0 x at t′ o′) (m ∙ ap (λ (x : Option Tool). happening (is x)) q) w,
-      k ∙ ap (λ (x : Option Tool). taken-by (decode t .sessions) (is x)) q,
-    )
+    as-reported {at = at} {t′ = t′} {o′ = o′} r q m k h w = record {
+      within = h;
+      went = subst (λ (x : List Moment). Went t o 0 x at t′ o′) (m ∙ ap (λ (x : Option Tool). happening (is x)) q) w;
+      taken = k ∙ ap (λ (x : Option Tool). taken-by (decode t .sessions) (is x)) q;
+    }
 
     pub bad-reported : record-kind ≡ Bad → Table t → Reports slice t o 0 0 t o
     bad-reported k h = as-reported none (read k) refl refl (omega arith) (nothing-passed t o h)

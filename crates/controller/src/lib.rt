@@ -1,27 +1,15 @@
 // The calls of the product.
 ghost use mathlib.Core.Path.{_≡_};
 ghost use mathlib.Core.List.{[]};
-ghost use Prim.Native.Nat.{_≤_, _<_};
-ghost use lib.ListN.{length, drop};
-ghost use Rattle.model.specs.Limits.{output-least, number-greatest};
-ghost use Rattle.model.specs.Kinds.{call-most};
-ghost use Rattle.model.specs.Records.{tightening-length, identifier-in, tightening-of, tightening, read-tool};
+ghost use lib.ListN.{drop};
+ghost use Rattle.model.specs.Records.{identifier-in, tightening-of, tightening};
 ghost use Rattle.model.specs.Events.{tightened};
 ghost use Rattle.model.specs.Sharing.{reported};
-ghost use Rattle.model.specs.Calls.{
-  start as start-call,
-  open-session,
-  hang-up-session,
-  bytes as bytes-call,
-  one-tick,
-  tool,
-  does,
-  moments,
-};
+ghost use Rattle.model.specs.Calls.{start as start-call, open-session, hang-up-session, bytes as bytes-call, one-tick, tool};
 ghost use Rattle.frame.specs.Places.{result-of};
-ghost use Rattle.record.specs.Tools.{tool-in};
-ghost use Rattle.table.specs.Table.{decode, Table, Went};
+ghost use Rattle.table.specs.Table.{decode};
 ghost use Rattle.controller.specs.Contract.{Outcome};
+ghost use Rattle.controller.specs.Tool.{Keeping, Reporting, Reports};
 use frame::To;
 use model::IDENTIFIER_LENGTH;
 use model::NUMBER_LENGTH;
@@ -135,8 +123,7 @@ pub fn rest(bytes: &[u8], answer: Answer) -> &[u8]
 
 // A tightening as it is kept: the tool record's payload with the identifier that is meant now, and its number, the next one.
 fn result<'a>(table: &'a [u8], payload: &'a [u8]) -> [u8; RESULT_LENGTH]
-    requires { ⌜ Table (now table) × (length (now payload) ≡ tightening-length)
-        × (decode (now table) .shared .last ≡ number-greatest → ⊥) ⌝ }
+    requires { ⌜ Keeping (now table) (now payload) ⌝ }
     ensures { λ r. ⌜ tightened (result-of r) ≡ reported (decode (now (table .entry)) .shared)
         (tightening (identifier-in (now (payload .entry))) (tightening-of (now (payload .entry)))) ⌝ }
 {
@@ -151,11 +138,9 @@ fn result<'a>(table: &'a [u8], payload: &'a [u8]) -> [u8; RESULT_LENGTH]
 
 // The event of a tool record, if it is good.
 fn report(table: &mut [u8], output: &mut [u8], slice: &[u8], record_kind: RecordKind) -> Told
-    requires { ⌜ Table (now table) × (output-least ≤ length (now output)) × (tool-in «record_kind» (now slice) ≡ read-tool (now slice)) ⌝ }
-    requires { ⌜ («record_kind» ≡ RecordKind.Tightening → decode (now table) .shared .last ≡ number-greatest → ⊥) ⌝ }
-    ensures { λ r. ⌜ (r .at ≤ call-most) × Went (now (table .entry)) (now (output .entry)) 0
-        (moments (decode (now (table .entry))) (tool (now (slice .entry)))) (r .at) (now (table .exit)) (now (output .exit))
-        × (r .taken ≡ (does (decode (now (table .entry))) (tool (now (slice .entry)))) .taken) ⌝ }
+    requires { ⌜ Reporting «record_kind» (now table) (now output) (now slice) ⌝ }
+    ensures { λ r. ⌜ Reports (now (slice .entry)) (now (table .entry)) (now (output .entry)) (r .at) (r .taken) (now (table .exit))
+        (now (output .exit)) ⌝ }
 {
     let payload = record::payload(slice);
     match record_kind {

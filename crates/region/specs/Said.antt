@@ -6,9 +6,9 @@ use mathlib.Core.Bool.{Bool, true, false, cond}
 use mathlib.Core.List.{List, [], _∷_, _++_, map}
 use mathlib.Core.Option.{Option, none, some}
 use lib.ListN.{length, getD, set, take, drop}
-use Rattle.model.specs.Limits.{header-length}
+use Rattle.model.specs.Limits.{header-length, identifier-length, idle-limit}
 use Rattle.model.specs.Records.{Settings}
-use Rattle.model.specs.Runs.{Run, Piece}
+use Rattle.model.specs.Runs.{Run, Piece, empty-run}
 use Rattle.model.specs.Kinds.{kinds, room-of}
 use Rattle.model.specs.Events.{Notice}
 use Rattle.model.specs.Notices.{Subscription, unsubscribed, is-subscribed, Deed, act}
@@ -18,7 +18,7 @@ use Rattle.model.specs.Row.{tag, row}
 use Rattle.model.specs.Local.{step, tick, event, receives, announces, takes}
 use Rattle.model.specs.Sharing.{Shared, shared-begun}
 use Rattle.frame.specs.Header.{header-of}
-use Rattle.frame.specs.Places.{event-in, notice-in}
+use Rattle.frame.specs.Places.{place-size, event-in, notice-in}
 use Rattle.message.specs.declared.Standing.{Standing}
 use Rattle.session.specs.Decisions.{is-started, decision}
 use Rattle.session.specs.Effects.{ticked-so, dealt-by, replies, announced}
@@ -100,6 +100,12 @@ pub record Ticks (r : List ℕ) (t : Ticked) (r′ : List ℕ) : Type 0 where
 
 -- ==== an event of that kind, whose notice is in the place p
 
+-- what take asks for: the region, the kind and the place of its notice
+pub record Taking (kind : ℕ) (p r : List ℕ) : Type 0 where
+  pub good : Good r
+  pub known : kind < length kinds
+  pub place : length p ≡ place-size kind
+
 abbrev pub event-said : Settings → ℕ → List ℕ → Told → List ℕ → List Emission
 event-said st kind p told r = cond (told .tell) (copies-out st kind (subscription-in kind r) (notice-in kind p ∷ [])) []
 
@@ -140,6 +146,12 @@ pub record Ruled (x : Session) (standing : Standing) (run : Run) (place : List �
   pub decides : d ≡ decision x standing (header-of (run .kept) (run .count)) (drop header-length (run .kept))
   pub knows : place′ ≡ known-in (announced (d .identifies) (drop header-length (run .kept))) place
 
+-- what carry_out asks for: the decision is of a kind that there is, and leaves an idle count that can be stored
+pub record CarryingOut (d : Decision) (r : List ℕ) : Type 0 where
+  pub good : Good r
+  pub known : d .kind < length kinds
+  pub idle : d .next .idle < idle-limit
+
 -- what the decision does
 pub record CarriesOut (d : Decision) (r : List ℕ) (sends : Bool) (r′ : List ℕ) : Type 0 where
   pub good : Good r′
@@ -163,6 +175,12 @@ abbrev pub end-said : Settings → List ℕ → Ended → List ℕ → List Emis
 end-said st bs e r =
     replies st (take header-length (ended-in (e .whole) bs r)) (e .reply)
     ++ due-copy st (e .kind) (e .sends) (subscription-in (e .kind) r)
+
+-- what end_whole asks for: no run has begun, so that the one that ends stands whole in the slice
+pub record EndingWhole (r p : List ℕ) : Type 0 where
+  pub good : Good r
+  pub place : length p ≡ identifier-length
+  pub empty : run-of (run-area r) ≡ empty-run
 
 -- the bytes bs end a run, where identifiers over the net are granted or not
 pub record RunEnds (granted : Bool) (bs r place : List ℕ) (e : Ended) (r′ place′ : List ℕ) : Type 0 where

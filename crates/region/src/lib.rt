@@ -11,7 +11,6 @@ ghost use Rattle.model.specs.Runs.{empty-run, longer};
 ghost use Rattle.model.specs.Kinds.{kinds};
 ghost use Rattle.model.specs.Notices.{is-subscribed, beats};
 ghost use Rattle.model.specs.Session.{closed, fresh, is-closed as is-closed-session, no-subscriptions};
-ghost use Rattle.frame.specs.Places.{place-size};
 ghost use Rattle.message.specs.Meaning.{standing-of};
 ghost use Rattle.session.specs.Meaning.{deed-of};
 ghost use Rattle.session.specs.Decisions.{is-started as is-started-so};
@@ -20,7 +19,8 @@ ghost use Rattle.head.specs.Head.{head-of};
 ghost use Rattle.lane.specs.Lane.{lane-formed};
 ghost use Rattle.region.specs.Region.{region-size, head-area, run-area, lane-at as lane-begins, lanes, lane-in, subscriptions-in};
 ghost use Rattle.region.specs.Region.{session-of, region-formed, Good, run-bytes as bytes-of-run, Becomes, Changes, LanesCleared};
-ghost use Rattle.region.specs.Said.{DealtTo, DealtToAll, TickStays, Ticks, Takes, stood, Ruled, CarriesOut, ended-by, RunEnds};
+ghost use Rattle.region.specs.Said.{DealtTo, DealtToAll, TickStays, Ticks, Taking, Takes};
+ghost use Rattle.region.specs.Said.{stood, Ruled, CarryingOut, CarriesOut, ended-by, EndingWhole, RunEnds};
 use lane::Told;
 use message::Standing;
 use model::IDENTIFIER_LENGTH;
@@ -270,7 +270,7 @@ pub fn tick(region: &mut [u8]) -> Ticked
 
 // An event of that kind, whose notice is in `place`.
 pub fn take(region: &mut [u8], kind: usize, place: &[u8]) -> Told
-    requires { ⌜ Good (now region) × (kind < length kinds) × (length (now place) ≡ place-size kind) ⌝ }
+    requires { ⌜ Taking kind (now place) (now region) ⌝ }
     ensures { λ r. ⌜ Takes kind (now (place .entry)) (now (region .entry)) r (now (region .exit)) ⌝ }
 {
     let x = load(region);
@@ -366,7 +366,7 @@ fn let_go(region: &mut [u8], begins: bool)
 
 // What a decision does to the session: whether a copy of the notice of its kind that is then open is due.
 fn carry_out(region: &mut [u8], d: Decision) -> bool
-    requires { ⌜ Good (now region) × (d .kind < length kinds) × (d .next .idle < idle-limit) ⌝ }
+    requires { ⌜ CarryingOut d (now region) ⌝ }
     ensures { λ r. ⌜ CarriesOut d (now (region .entry)) r (now (region .exit)) ⌝ }
 {
     clear_run(region);
@@ -402,7 +402,7 @@ fn left_to_say(d: Decision, whole: bool, sends: bool) -> Ended
 
 // A run ends that stands whole in the slice: it is read there.
 fn end_whole(region: &mut [u8], granted: bool, bytes: &[u8], place: &mut [u8]) -> Ended
-    requires { ⌜ Good (now region) × (length (now place) ≡ identifier-length) × (run-of (run-area (now region)) ≡ empty-run) ⌝ }
+    requires { ⌜ EndingWhole (now region) (now place) ⌝ }
     ensures { λ r. ⌜ RunEnds «granted» (now (bytes .entry)) (now (region .entry)) (now (place .entry)) r (now (region .exit))
         (now (place .exit)) ⌝ }
 {

@@ -8,7 +8,6 @@ use lib.Dec.{leb, ltb, eqb}
 use lib.ListN.{length, drop, length-drop}
 use lib.Seq.{sets, length-sets}
 use borrow.Author.Tests.{eq-eqb, ne-eqb, leb-true, ltb-true}
-use Rattle.model.specs.Limits.{output-least}
 use Rattle.model.specs.Bytes.{within}
 use Rattle.model.specs.Runs.{cut, consumed-by}
 use Rattle.model.specs.World.{World}
@@ -22,6 +21,7 @@ use Rattle.refusal.specs.Numbers.{number}
 use Rattle.controller.specs.declared.Answer.{Answer}
 use Rattle.controller.specs.Contract.{said, Outcome}
 use Rattle.controller.proofs.Outputs.{so-long, stands}
+use Rattle.replay.specs.States.{Fits}
 
 -- ==== the call of a record
 
@@ -105,12 +105,11 @@ used-up {s = s} {t = t} {o = o} {r = r} (b ∷ bs) out e h =
 pub same-output : {c : Call} {t o : List ℕ} {r : Answer} {t′ o′ : List ℕ} → Outcome c t o r t′ o′ → length o′ ≡ length o
 same-output {c = c} {t = t} {o = o} out = ap length (out .output) ∙ length-sets o 0 (output ((said c t o) .2))
 
-pub fits-in : {c : Call} {t o : List ℕ} {r : Answer} {t′ o′ : List ℕ} → Outcome c t o r t′ o′
-    → (r .written ≤ length o′) × (r .written ≤ output-least)
+pub fits-in : {c : Call} {t o : List ℕ} {r : Answer} {t′ o′ : List ℕ} → Outcome c t o r t′ o′ → Fits r o′
 fits-in out =
     let h = stands out .within in
     let e = same-output out in
-    (omega arith, out .fits)
+    record { within = omega arith; few = out .fits }
 
 -- the measure of a loop over received bytes, which goes on where more than so many are left
 pub fewer : {s : ℕ} {t o t′ o′ rest : List ℕ} (least : ℕ) (left : List ℕ) (r : Answer) (going : Bool)

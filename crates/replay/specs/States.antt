@@ -9,6 +9,7 @@ use Rattle.model.specs.Limits.{session-count, table-least, output-least}
 use Rattle.model.specs.Program.{State, all-given, printed}
 use Rattle.model.specs.Erased.{erase-world}
 use Rattle.table.specs.Table.{decode, table-formed}
+use Rattle.controller.specs.declared.Answer.{Answer}
 use Rattle.replay.specs.Whole.{records, waits}
 
 -- what the program lends its calls, and where it has lines wait
@@ -16,6 +17,21 @@ pub record Lends (t o l : List ℕ) : Type 0 where
   pub table : length t ≡ table-least
   pub output : length o ≡ output-least
   pub room : output-least ≤ length l
+
+-- what feed and given ask for: the same, where lines wait up to `at`
+pub record LendsFrom (t o l : List ℕ) (at : ℕ) : Type 0 where
+  pub lends : Lends t o l
+  pub within : at ≤ length l
+
+-- what room and print ask for, of the lines alone: they wait up to `at`, and one call's have room
+pub record Holds (l : List ℕ) (at : ℕ) : Type 0 where
+  pub within : at ≤ length l
+  pub room : output-least ≤ length l
+
+-- what tell and print ask for: the records of an answer stand in the output, and are no more than one call's
+pub record Fits (r : Answer) (o : List ℕ) : Type 0 where
+  pub within : r .written ≤ length o
+  pub few : r .written ≤ output-least
 
 -- a table means a state: it has as many sessions, is well formed where the state is, and has then the state's world, but for the numbers
 -- of events, of which it keeps none

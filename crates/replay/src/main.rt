@@ -1,9 +1,9 @@
 // The test program: house records on standard input, a line for each output record and each refusal on standard output.
 ghost use mathlib.Core.Path.{_≡_};
-ghost use mathlib.Core.Bool.{true, false, not, cond};
+ghost use mathlib.Core.Bool.{true, false, cond};
 ghost use lib.Dec.{eqb};
 ghost use mathlib.Core.List.{[], _∷_, _++_};
-ghost use Prim.Native.Nat.{suc, _+_, _≤_, _<_};
+ghost use Prim.Native.Nat.{suc, _+_, _≤_};
 ghost use lib.ListN.{length, take};
 ghost use Rattle.model.specs.Limits.{output-least};
 ghost use Rattle.model.specs.Bytes.{space, within};
@@ -13,8 +13,8 @@ ghost use Rattle.model.specs.Program.{fed, given as given-state, all-given};
 ghost use Rattle.text.specs.Put.{Put};
 ghost use Rattle.controller.specs.Contract.{Outcome};
 ghost use Rattle.replay.specs.Lines.{line-in, lines-in, text-of};
-ghost use Rattle.replay.specs.Whole.{whole-size, too-long, records, waits};
-ghost use Rattle.replay.specs.States.{Lends, free-from, Behind, Follows, Turned, Ran};
+ghost use Rattle.replay.specs.Whole.{Measured, CutOff, too-long, records, Leaves, Moves};
+ghost use Rattle.replay.specs.States.{Lends, LendsFrom, Holds, Fits, free-from, Behind, Follows, Turned, Ran};
 use controller::Answer;
 use model::OUTPUT_LEAST;
 use model::RECORD_HEAD;
@@ -82,7 +82,7 @@ fn line(slice: &[u8], lines: &mut [u8], at: usize) -> usize
 
 // The size of the record that bytes begin with; 0 if there is no whole one, or one that is too long.
 fn whole(bytes: &[u8]) -> usize
-    ensures { λ r. ⌜ (r ≡ whole-size (now (bytes .entry))) × (r ≤ length (now (bytes .entry))) × (0 < r → record-head ≤ r) ⌝ }
+    ensures { λ r. ⌜ Measured (now (bytes .entry)) r ⌝ }
 {
     if bytes.len() < RECORD_HEAD {
         return 0;
@@ -117,7 +117,7 @@ fn show(output: &[u8], lines: &mut [u8], at: usize) -> usize
 
 // What a call's answer and its output have it print.
 fn tell(answer: Answer, output: &[u8], lines: &mut [u8], at: usize) -> usize
-    requires { ⌜ (answer .written ≤ length (now output)) × (answer .written ≤ output-least) × (at + output-least ≤ length (now lines)) ⌝ }
+    requires { ⌜ Fits answer (now output) × (at + output-least ≤ length (now lines)) ⌝ }
     ensures { λ r. ⌜ Put (now (lines .entry)) at (text-of answer (now (output .entry))) r (now (lines .exit)) × (r ≤ at + output-least) ⌝ }
 {
     if answer.number != 0 {
@@ -138,7 +138,7 @@ fn flush(lines: &[u8], at: usize)
 
 // Room for the lines of one more call: those that wait are written out where there is none.
 fn room(lines: &[u8], at: usize) -> usize
-    requires { ⌜ (at ≤ length (now lines)) × (output-least ≤ length (now lines)) ⌝ }
+    requires { ⌜ Holds (now lines) at ⌝ }
     ensures { λ r. ⌜ (r ≡ free-from (length (now (lines .entry))) at) × (r + output-least ≤ length (now (lines .entry))) ⌝ }
 {
     if lines.len() - at >= OUTPUT_LEAST {
@@ -150,8 +150,7 @@ fn room(lines: &[u8], at: usize) -> usize
 
 // The lines of a call, behind those that wait.
 fn print(answer: Answer, output: &[u8], lines: &mut [u8], at: usize) -> usize
-    requires { ⌜ (answer .written ≤ length (now output)) × (answer .written ≤ output-least) × (at ≤ length (now lines))
-        × (output-least ≤ length (now lines)) ⌝ }
+    requires { ⌜ Fits answer (now output) × Holds (now lines) at ⌝ }
     ensures behind { λ r. ⌜ Behind (length (now (lines .entry))) (take at (now (lines .entry)))
         (text-of answer (now (output .entry))) (take r (now (lines .exit))) ⌝ }
     ensures within { λ r. ⌜ r ≤ length (now (lines .entry)) ⌝ }
@@ -171,32 +170,32 @@ fn is_within(least: u64, greatest: u64, n: u64) -> bool
     n <= greatest
 }
 
-// Received bytes: one call at least, and with what is left of them again until nothing is, or a call is refused.
-fn feed(
-    table: &mut [u8],
-    output: &mut [u8],
-    lines: &mut [u8],
-    at: usize,
+// Where received bytes go: to which session, and from which place of the lines on what that prints.
+struct To {
     session: u64,
-    bytes: &[u8],
-) -> usize
-    requires { ⌜ Lends (now table) (now output) (now lines) × (at ≤ length (now lines)) ⌝ }
-    ensures follows { λ r. ⌜ Follows (λ x. fed (suc (length (now (bytes .entry)))) x session (now (bytes .entry)))
-        (length (now (lines .entry))) (now (table .entry)) (take at (now (lines .entry)))
+    at: usize,
+}
+
+// Received bytes: one call at least, and with what is left of them again until nothing is, or a call is refused.
+fn feed(table: &mut [u8], output: &mut [u8], lines: &mut [u8], to: To, bytes: &[u8]) -> usize
+    requires { ⌜ LendsFrom (now table) (now output) (now lines) (to .at) ⌝ }
+    ensures follows { λ r. ⌜ Follows (λ x. fed (suc (length (now (bytes .entry)))) x (to .session) (now (bytes .entry)))
+        (length (now (lines .entry))) (now (table .entry)) (take (to .at) (now (lines .entry)))
         (now (table .exit)) (take r (now (lines .exit))) ⌝ }
     ensures within { λ r. ⌜ r ≤ length (now (lines .entry)) ⌝ }
 {
-    let mut to = at;
+    let session = to.session;
+    let mut at = to.at;
     let mut left = bytes;
     let mut going = true;
     while going {
         let answer = controller::bytes(table, output, session, left);
-        to = print(answer, output, lines, to);
+        at = print(answer, output, lines, at);
         let rest = controller::rest(left, answer);
         going = answer.number == 0 && rest.len() > 0;
         left = rest;
     }
-    to
+    at
 }
 
 // The call that a record of any other kind stands for.
@@ -222,19 +221,19 @@ fn call(table: &mut [u8], output: &mut [u8], record_kind: u64, slice: &[u8]) -> 
 
 // One record, as a slice.
 fn given(table: &mut [u8], output: &mut [u8], lines: &mut [u8], at: usize, slice: &[u8]) -> usize
-    requires { ⌜ Lends (now table) (now output) (now lines) × (at ≤ length (now lines)) × (record-head ≤ length (now slice)) ⌝ }
+    requires { ⌜ LendsFrom (now table) (now output) (now lines) at × (record-head ≤ length (now slice)) ⌝ }
     ensures follows { λ r. ⌜ Follows (λ x. given-state x (now (slice .entry))) (length (now (lines .entry)))
         (now (table .entry)) (take at (now (lines .entry))) (now (table .exit)) (take r (now (lines .exit))) ⌝ }
     ensures within { λ r. ⌜ r ≤ length (now (lines .entry)) ⌝ }
 {
     let record_kind = text::little(slice, 2, 2);
     if is_within(BYTES_RECORD_KIND, BYTES_LAST, record_kind) {
+        let session = record_kind - BYTES_RECORD_KIND;
         return feed(
             table,
             output,
             lines,
-            at,
-            record_kind - BYTES_RECORD_KIND,
+            To { session, at },
             &slice[RECORD_HEAD..],
         );
     }
@@ -264,8 +263,7 @@ fn serve(table: &mut [u8], output: &mut [u8], lines: &mut [u8], input: &[u8]) ->
     requires { ⌜ Lends (now table) (now output) (now lines) ⌝ }
     ensures follows { λ r. ⌜ Follows (λ x. all-given x (records (now (input .entry)))) (length (now (lines .entry)))
         (now (table .entry)) [] (now (table .exit)) (take (r .lines) (now (lines .exit))) ⌝ }
-    ensures waits { λ r. ⌜ (r .size ≡ length (waits (now (input .entry)))) × (r .going ≡ not (too-long (waits (now (input .entry)))))
-        × (r .lines ≤ length (now (lines .entry))) ⌝ }
+    ensures leaves { λ r. ⌜ Leaves (now (input .entry)) (length (now (lines .entry))) r ⌝ }
 {
     let mut to = 0;
     let mut left = input;
@@ -293,10 +291,7 @@ fn serve_and_move(
     requires { ⌜ Lends (now table) (now output) (now lines) × (have ≤ length (now input)) ⌝ }
     ensures follows { λ r. ⌜ Follows (λ x. all-given x (records (take have (now (input .entry))))) (length (now (lines .entry)))
         (now (table .entry)) [] (now (table .exit)) (take (r .lines) (now (lines .exit))) ⌝ }
-    ensures waits { λ r. ⌜ (take (r .size) (now (input .exit)) ≡ waits (take have (now (input .entry))))
-        × (r .going ≡ not (too-long (waits (take have (now (input .entry))))))
-        × (r .size ≤ have)
-        × (r .lines ≤ length (now (lines .entry))) ⌝ }
+    ensures moves { λ r. ⌜ Moves have (now (input .entry)) (length (now (lines .entry))) r (now (input .exit)) ⌝ }
 {
     let waiting = serve(table, output, lines, &input[..have]);
     let left = waiting.size;
@@ -328,7 +323,7 @@ fn turn(
     input: &mut [u8],
     size: usize,
 ) -> Waiting
-    requires { ⌜ Lends (now table) (now output) (now lines) × (size ≤ length (now input)) × (whole-size (take size (now input)) ≡ 0) ⌝ }
+    requires { ⌜ Lends (now table) (now output) (now lines) × CutOff (now input) size ⌝ }
     ensures turned { λ r. ⌜ Turned (now (table .entry)) (take size (now (input .entry)))
         (now (table .exit)) (take (r .size) (now (input .exit))) ⌝ }
     ensures within { λ r. ⌜ r .size ≤ length (now (input .entry)) ⌝ }

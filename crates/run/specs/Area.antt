@@ -40,6 +40,12 @@ pub record Passed (bs : List ℕ) (i : ℕ) : Type 0 where
   pub bytes : (cut bs) .bytes ≡ take i bs ++ (cut (drop i bs)) .bytes
   pub ends : (cut bs) .ends ≡ (cut (drop i bs)) .ends
 
+-- what may_end asks for: what was passed ends at `from`, and the bytes from there to `to` are there to be looked at
+pub record Looking (bs : List ℕ) (from to : ℕ) : Type 0 where
+  pub passed : Passed bs from
+  pub forward : from ≤ to
+  pub within : to ≤ length bs
+
 -- where a piece of received bytes ends: before the first NUL, or with the last byte
 pub record Ends (bs : List ℕ) (n : ℕ) : Type 0 where
   pub within : n ≤ length bs

@@ -5,7 +5,7 @@ ghost use Prim.Native.Nat.{_≤_, _<_, min};
 ghost use lib.ListN.{length};
 ghost use Rattle.model.specs.Limits.{run-counted};
 ghost use Rattle.model.specs.Runs.{empty-run, longer as longer-run, cut, consumed-by};
-ghost use Rattle.run.specs.Area.{run-size, run-of, run-formed, bytes-of, Area, Over, Passed, Ends};
+ghost use Rattle.run.specs.Area.{run-size, run-of, run-formed, bytes-of, Area, Over, Passed, Looking, Ends};
 
 const KEPT: usize = 45;
 
@@ -26,7 +26,7 @@ const NARROW: usize = 16;
 
 // Whether a NUL may stand at from..to. Every byte is looked at, whatever stands before it, so that the compiler takes many at a time.
 fn may_end(bytes: &[u8], from: usize, to: usize) -> bool
-    requires { ⌜ Passed (now bytes) from × (from ≤ to) × (to ≤ length (now bytes)) ⌝ }
+    requires { ⌜ Looking (now bytes) from to ⌝ }
     ensures { λ r. ⌜ (r ≡ false → Passed (now (bytes .entry)) to) ⌝ }
 {
     let mut lowest = 255;

@@ -9,23 +9,21 @@ result-requires : tie.Need-result-requires
 result-requires c κs =
     let k = c .before in
     let p = k .before .before in
-    let s = p .before .before .before .before in (
-      s .pre .0 .0,
-      tightening-size _ _ (s .pre .0 .2) (p .payload .ensures) (k .enum-told2 .given .1),
-      s .pre .1 (k .enum-told2 .given .1),
-    )
+    let q = p .before .before .before .before .pre in
+    let e = k .enum-told2 .given .1 in
+    record { table = q .table; payload = tightening-size _ _ (q .reads) (p .payload .ensures) e; number = q .number e }
 
 happens-requires-2 : tie.Need-happens-requires-2
 happens-requires-2 c κs =
     let k = c .before .before in
     let p = k .before .before in
-    let q = p .before .before .before .before .pre .0 in
-    (q .0, omega arith, omega arith, scan-size _ _ (q .2) (p .payload .ensures) (k .enum-told3 .given .1))
+    let q = p .before .before .before .before .pre in
+    (q .table, omega arith, omega arith, scan-size _ _ (q .reads) (p .payload .ensures) (k .enum-told3 .given .1))
 
 returns : tie.Need-returns
 returns c =
     let s = c .before .before .before .before .before .before in
-    bad-reported _ _ (s .pre .0 .2) _ _ (c .enum-told .given .1) (s .pre .0 .0)
+    bad-reported _ _ (s .pre .reads) _ _ (c .enum-told .given .1) (s .pre .table)
 
 returns-2 : tie.Need-returns-2
 returns-2 c =
@@ -34,7 +32,7 @@ returns-2 c =
     let k = r .before .before in
     let p = k .before .before in
     let s = p .before .before .before .before in
-    tightening-reported _ _ (s .pre .0 .2) _ _ (r .result .result) (k .enum-told2 .given .1) (p .payload .ensures)
+    tightening-reported _ _ (s .pre .reads) _ _ (r .result .result) (k .enum-told2 .given .1) (p .payload .ensures)
     (r .result .ensures) (h .happens .ensures .within) (h .happens .ensures .went) (h .happens .ensures .taken)
 
 returns-3 : tie.Need-returns-3
@@ -43,7 +41,7 @@ returns-3 c =
     let k = h .before .before .before in
     let p = k .before .before in
     let s = p .before .before .before .before in
-    scan-reported _ _ (s .pre .0 .2) _ _ (k .enum-told3 .given .1) (p .payload .ensures)
+    scan-reported _ _ (s .pre .reads) _ _ (k .enum-told3 .given .1) (p .payload .ensures)
     (h .happens2 .ensures .within) (h .happens2 .ensures .went) (h .happens2 .ensures .taken)
 
 pub report-spec : {M : Type 1} → statement M

@@ -20,7 +20,7 @@ copy-requires-2 c κs =
     let s = f .before .before .before .before .before .before .before in
     let p = s .args .payload .now in
     let l = meant-length (take identifier-length (drop 0 p)) (now (f .in-force .result)) (m .meant .ensures)
-    (length-take-le identifier-length p (omega (arith, s .pre .1))) (f .in-force .ensures .1) in
+    (length-take-le identifier-length p (omega (arith, s .pre .payload))) (f .in-force .ensures .1) in
     omega (arith, l)
 
 returns : tie.Need-returns
@@ -35,9 +35,9 @@ returns c =
     let p = s .args .payload .now in
     let h = l .last .ensures in
     result-put _ p (now (m .meant .result)) (l .last .result + 1) (j .copy .ensures) (k .copy2 .ensures) (u .put-little .ensures .1) refl
-    (s .pre .1) (meant-length (take identifier-length (drop 0 p)) (now (f .in-force .result)) (m .meant .ensures)
-    (length-take-le identifier-length p (omega (arith, s .pre .1))) (f .in-force .ensures .1))
-    (next-number (l .last .result) (h .1) (λ e. s .pre .2 (sym (h .0) ∙ e))) (decode (s .args .table .now) .shared)
+    (s .pre .payload) (meant-length (take identifier-length (drop 0 p)) (now (f .in-force .result)) (m .meant .ensures)
+    (length-take-le identifier-length p (omega (arith, s .pre .payload))) (f .in-force .ensures .1))
+    (next-number (l .last .result) (h .1) (λ e. s .pre .number (sym (h .0) ∙ e))) (decode (s .args .table .now) .shared)
     (m .meant .ensures ∙ ap (identifier-of (take identifier-length (drop 0 p))) (f .in-force .ensures .0)) (ap (λ (n : ℕ). n + 1) (h .0))
 
 pub result-spec : {M : Type 1} → statement M

@@ -12,7 +12,7 @@ report-requires c κs =
     let i = c .before .before in
     let k = i .before .before .before in
     let p = tool-passes _ _ (k .tool-record-kind .result) (sym (i .before .tool-record .ensures) ∙ i .if1 .left) in
-    ((p .0 .table, p .0 .room, k .tool-record-kind .ensures), p .2)
+    record { table = p .0 .table; room = p .0 .room; reads = k .tool-record-kind .ensures; number = p .2 }
 
 returns-2 : tie.Need-returns-2
 returns-2 c =
@@ -21,7 +21,7 @@ returns-2 c =
     let n = i .before in
     let e = r .report .ensures in
     finish _ _ _ _ 0 _ (n .tool-record .ensures ∙ tool-refused _ _ _ _ (n .before .before .tool-record-kind .ensures)) (i .if1 .left)
-    (c .done .ensures) refl (e .2) (e .1) (omega (arith, e .0))
+    (c .done .ensures) refl (e .taken) (e .went) (omega (arith, e .within))
 
 pub tool-record-spec : {M : Type 1} → statement M
 tool-record-spec =

@@ -7,7 +7,7 @@ use Rattle.region.proofs.carry_out.Tie as tie
 store-requires : tie.Need-store-requires
 store-requires c κs =
     let s = c .before .before .before .before .before .before .before .before .before .before .before in
-    (c .before .before .before .before .let-go .ensures .becomes .good, s .pre .2)
+    (c .before .before .before .before .let-go .ensures .becomes .good, s .pre .idle)
 
 returns : tie.Need-returns
 returns c =
@@ -16,7 +16,7 @@ returns c =
     let g = p .before .before .before .before .before in
     let k = g .before .before .before .before in
     let s = k .before .before .before in
-    carries-out (s .args .d) (s .pre .1) (changed-so (s .args .d) (k .clear-run .ensures) (g .let-go .ensures) (p .store .ensures))
+    carries-out (s .args .d) (s .pre .known) (changed-so (s .args .d) (k .clear-run .ensures) (g .let-go .ensures) (p .store .ensures))
     (e .deal .ensures)
 
 pub carry-out-spec : {M : Type 1} → statement M

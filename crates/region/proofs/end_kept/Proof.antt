@@ -28,7 +28,8 @@ module _ (c : tie.After-rule-kept) where
 carry-out-requires : tie.Need-carry-out-requires
 carry-out-requires c κs =
     let o = judged (c .before .before .before) in
-    (c .before .before .before .before .before .before .before .before .before .before .before .pre .0, kind-known o, idle-few o)
+    let s = c .before .before .before .before .before .before .before .before .before .before .before in
+    record { good = s .pre .0; known = kind-known o; idle = idle-few o }
 
 returns : tie.Need-returns
 returns c =

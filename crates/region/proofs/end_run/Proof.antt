@@ -10,7 +10,8 @@ end-whole-requires : tie.Need-end-whole-requires
 end-whole-requires c κs =
     let n = c .before .before .before in
     let s = n .before .before .before .before .before .before in
-    (s .pre .0, s .pre .1, run-empty _ (sym (n .count .ensures .0) ∙ c .before .before .if1 .taken))
+    let empty = run-empty _ (sym (n .count .ensures .0) ∙ c .before .before .if1 .taken) in
+    record { good = s .pre .0; place = s .pre .1; empty = empty }
 
 returns-2 : tie.Need-returns-2
 returns-2 c =

@@ -17,7 +17,7 @@ rule-requires : tie.Need-rule-requires
 rule-requires c κs =
     let k = c .before .before in
     let s = k .before .before .before .before .before .before .before .before in
-    (subst (λ (z : List ℕ). length z ≤ run-kept) (sym (k .kept-of .ensures)) (taken-few (s .args .bytes .now)), s .pre .1)
+    (subst (λ (z : List ℕ). length z ≤ run-kept) (sym (k .kept-of .ensures)) (taken-few (s .args .bytes .now)), s .pre .place)
 
 -- the decision is on the run that the bytes are
 module _ (c : tie.After-rule) where
@@ -28,7 +28,7 @@ module _ (c : tie.After-rule) where
       let k = n .before in
       let l = k .before .before .before in
       let s = l .before .before .before .before .before in
-      let whole = ap (λ (z : Run). longer z (s .args .bytes .now)) (sym (s .pre .2)) in
+      let whole = ap (λ (z : Run). longer z (s .args .bytes .now)) (sym (s .pre .empty)) in
       record {
         who = l .load .result;
         here = l .load .ensures .0;
@@ -44,14 +44,15 @@ carry-out-requires : tie.Need-carry-out-requires
 carry-out-requires c κs =
     let u = c .before .before .before in
     let o = judged u in
-    (u .before .before .before .before .before .before .before .before .before .before .before .pre .0, kind-known o, idle-few o)
+    let s = u .before .before .before .before .before .before .before .before .before .before .before in
+    record { good = s .pre .good; known = kind-known o; idle = idle-few o }
 
 returns : tie.Need-returns
 returns c =
     let o = c .before .before .before in
     let u = o .before .before .before .before in
     let s = u .before .before .before .before .before .before .before .before .before .before .before in
-    rw (c .left-to-say .ensures) (ends-whole (judged u) (o .carry-out .ensures) (s .pre .2))
+    rw (c .left-to-say .ensures) (ends-whole (judged u) (o .carry-out .ensures) (s .pre .empty))
 
 pub end-whole-spec : {M : Type 1} → statement M
 end-whole-spec =

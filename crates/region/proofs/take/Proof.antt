@@ -15,19 +15,20 @@ take-requires : tie.Need-take-requires
 take-requires c κs =
     let z = c .before in
     let p = z .before .before .before .before .before .before .before .before .pre in
-    record { known = p .1; lane = lane-lent _ (p .1) (z .before .lane-at .ensures) (z .size .ensures) (p .0); place = p .2 }
+    let f = lane-lent _ (p .known) (z .before .lane-at .ensures) (z .size .ensures) (p .good) in
+    record { known = p .known; lane = f; place = p .place }
 
 returns : tie.Need-returns
 returns c =
     let l = c .before .before in
     let p = l .before .before .before .before .pre in
-    takes-none _ _ (p .1) (l .load .ensures .0) (c .enum-told .given .1) unlike-closed (p .0)
+    takes-none _ _ (p .known) (l .load .ensures .0) (c .enum-told .given .1) unlike-closed (p .good)
 
 returns-2 : tie.Need-returns-2
 returns-2 c =
     let l = c .before .before in
     let p = l .before .before .before .before .pre in
-    takes-none _ _ (p .1) (l .load .ensures .0) (c .enum-told2 .given .1) unlike-opened (p .0)
+    takes-none _ _ (p .known) (l .load .ensures .0) (c .enum-told2 .given .1) unlike-opened (p .good)
 
 returns-3 : tie.Need-returns-3
 returns-3 c =
@@ -36,10 +37,10 @@ returns-3 c =
     let l = z .before .before .before .before in
     let s = l .before .before .before .before in
     let kind = s .args .kind in
-    let few = s .pre .1 in
+    let few = s .pre .known in
     let took = t .take .ensures (notice-in kind) in
     takes-one _ _ few (l .load .ensures .0) (z .before .before .enum-told3 .given .1)
-    (dealt-to few (s .pre .0) (z .before .lane-at .ensures) (z .size .ensures) (took .deals))
+    (dealt-to few (s .pre .good) (z .before .lane-at .ensures) (z .size .ensures) (took .deals))
     (took .takes ∙ ap (λ l. takes (room-of kind) (lane-of kind l)) (lane-part _ few (z .before .lane-at .ensures) (z .size .ensures)))
 
 pub take-spec : {M : Type 1} → statement M
@@ -47,10 +48,10 @@ take-spec =
     tie.close (tie.spec (λ c κs. search needs) (λ c. search needs) (λ c. search needs) (λ c. search needs) (λ c κs. search needs)
     (λ c κs. search needs)
     (λ c. let s = c .before .before .before .before .before .before .before .before in
-    let f = lane-lies (s .args .region .now) (s .pre .1) (c .before .lane-at .ensures) (c .size .ensures) (s .pre .0 .size) in
+    let f = lane-lies (s .args .region .now) (s .pre .known) (c .before .lane-at .ensures) (c .size .ensures) (s .pre .good .size) in
     search needs)
     (λ c. search needs) (λ c. search needs)
     (λ c. let s = c .before .before .before .before .before .before .before .before in
-    let f = lane-lies (s .args .region .now) (s .pre .1) (c .before .lane-at .ensures) (c .size .ensures) (s .pre .0 .size) in
+    let f = lane-lies (s .args .region .now) (s .pre .known) (c .before .lane-at .ensures) (c .size .ensures) (s .pre .good .size) in
     search needs)
     take-requires (λ c. search needs) returns (λ c. search needs) returns-2 (λ c. search needs) returns-3)

@@ -13,30 +13,30 @@ use Rattle.replay.proofs.feed.Statement.{statement}
 use Rattle.replay.proofs.feed.Tie as tie
 
 abbrev Inv-loop : tie.InvT-loop
-Inv-loop table₀ output₀ lines₀ at session bytes to₀ left₀ going₀ table output lines to left going =
+Inv-loop table₀ output₀ lines₀ bytes session at₀ left₀ going₀ table output lines at left going =
     (length table ≡ length table₀)
     × (length output ≡ length output₀)
     × (length lines ≡ length lines₀)
-    × (to ≤ length lines₀)
-    × Feeding session bytes (length lines₀) table₀ (take at lines₀) table (take to lines) left going
+    × (at ≤ length lines₀)
+    × Feeding session bytes (length lines₀) table₀ (take at₀ lines₀) table (take at lines) left going
 
 abbrev μ-loop : tie.MeasureT-loop
-μ-loop table₀ output₀ lines₀ at session bytes to₀ left₀ going₀ table output lines to left going = cond going (suc (length left)) 0
+μ-loop table₀ output₀ lines₀ bytes session at₀ left₀ going₀ table output lines at left going = cond going (suc (length left)) 0
 
 loop-holds : tie.Need-loop-holds Inv-loop μ-loop
 loop-holds c =
     let s = c .before .before .before .before in
     let a = s .args in
-    let begins = feeding-begins (a .session) (a .bytes .now) (length (a .lines .now)) (a .table .now) (take (a .at) (a .lines .now)) in
-    (refl, refl, refl, s .pre .1, begins)
+    let waited = take (a .to .at) (a .lines .now) in
+    let begins = feeding-begins (a .to .session) (a .bytes .now) (length (a .lines .now)) (a .table .now) waited in
+    (refl, refl, refl, s .pre .within, begins)
 
 print-requires : tie.Need-print-requires Inv-loop μ-loop
 print-requires c κs =
     let called = c .before .before .before .before .before .before in
     let loop = called .before .before .before .before in
     let i = loop .loop .inv in
-    let f = fits-in (called .bytes .ensures) in
-    (f .0, f .1, omega arith, omega arith)
+    (fits-in (called .bytes .ensures), record { within = omega arith; room = omega arith })
 
 loop-less : tie.Need-loop-less Inv-loop μ-loop
 loop-less c =
@@ -55,7 +55,7 @@ loop-again c =
     let test = called .before .before .before in
     let l = test .before .loop in
     let i = l .inv in
-    let pre = test .before .before .before .before .before .before .pre .0 in
+    let pre = test .before .before .before .before .before .before .pre .lends in
     let p = c .before .before .before .before .before .print in
     let rest = c .before .before .rest in
     let same = i .2 in (
@@ -83,7 +83,7 @@ loop-again-2 c =
     let test = called .before .before .before in
     let l = test .before .loop in
     let i = l .inv in
-    let pre = test .before .before .before .before .before .before .pre .0 in
+    let pre = test .before .before .before .before .before .before .pre .lends in
     let p = c .before .before .before .before .before .print in
     let rest = c .before .before .rest in
     let same = i .2 in (

@@ -14,10 +14,9 @@ use Rattle.replay.proofs.Turns.{at-least, fits-in}
 use Rattle.replay.proofs.given.Statement.{statement}
 use Rattle.replay.proofs.given.Tie as tie
 
-sub-feed : tie.Need-sub-feed
-sub-feed c =
-    at-least bytes-record-kind (c .before .before .before .before .before .little .result)
-    (sym (c .before .before .before .before .is-within .ensures) ∙ c .before .before .before .if1 .taken)
+sub-session : tie.Need-sub-session
+sub-session c =
+    at-least bytes-record-kind (c .before .before .little .result) (sym (c .before .is-within .ensures) ∙ c .if1 .taken)
 
 returns : tie.Need-returns
 returns c =
@@ -35,8 +34,7 @@ print-requires : tie.Need-print-requires
 print-requires c κs =
     let called = c .before .before .before .before .before .before in
     let p = called .before .before .before .before .before .before .before .before .before .before .pre in
-    let f = fits-in (called .call .ensures) in
-    (f .0, f .1, p .1, p .0 .room)
+    (fits-in (called .call .ensures), record { within = p .0 .within; room = p .0 .lends .room })
 
 returns-2 : tie.Need-returns-2
 returns-2 c =
@@ -44,7 +42,7 @@ returns-2 c =
     let asked = called .before .before .before .before in
     let record-kind = asked .before .little in
     let s = asked .before .before .before .before .before .before in
-    let lends = s .pre .0 in
+    let lends = s .pre .0 .lends in
     let are-none = sym (asked .is-within .ensures) ∙ called .before .before .before .if1 .left in
     let p = c .before .before .print .ensures in
     let f = called-follows (called .call .ensures) (lends .table) (lends .output) (p .0) in
@@ -54,13 +52,13 @@ pub given-spec : {M : Type 1} → statement M
 given-spec =
     tie.close
     (tie.spec
-    (λ c κs. let p = c .before .before .before .before .pre .2 in (omega arith, omega arith))
+    (λ c κs. let p = c .before .before .before .before .pre .1 in (omega arith, omega arith))
     (λ c κs. search needs)
-    sub-feed
-    (λ c. omega (arith, c .before .before .before .before .before .before .before .before .before .before .pre .2))
-    (λ c. omega (arith, c .before .before .before .before .before .before .before .before .before .before .pre .2))
+    sub-session
+    (λ c. omega (arith, c .before .before .before .before .before .before .before .before .before .before .pre .1))
+    (λ c. omega (arith, c .before .before .before .before .before .before .before .before .before .before .pre .1))
     (λ c. search needs)
-    (λ c κs. let p = c .before .before .before .before .before .before .before .before .before .before .before .pre in (p .0, p .1))
+    (λ c κs. c .before .before .before .before .before .before .before .before .before .before .before .pre .0)
     (λ c. search needs)
     (λ c. search needs)
     (λ c. search needs)

@@ -9,14 +9,14 @@ returns : tie.Need-returns
 returns c =
     let free = c .before .before .before .before .room .ensures in
     let put = c .before .before .tell .ensures in
-    let here = c .before .before .before .before .before .before .before .before .pre .2 in
+    let here = c .before .before .before .before .before .before .before .before .pre .1 .within in
     (behind-put here (free .0) (free .1) (put .0) (put .1), omega (arith, put .1, free .1))
 
 pub print-spec : {M : Type 1} → statement M
 print-spec =
     tie.close
     (tie.spec
-    (λ c κs. let p = c .before .before .before .pre in (p .2, p .3))
-    (λ c κs. let p = c .before .before .before .before .before .pre in (p .0, p .1, c .before .room .ensures .1))
+    (λ c κs. c .before .before .before .pre .1)
+    (λ c κs. (c .before .before .before .before .before .pre .0, c .before .room .ensures .1))
     (λ c. search needs)
     returns)

@@ -26,8 +26,10 @@ turn-requires : tie.Need-turn-requires Inv-loop μ-loop
 turn-requires c κs =
     let i = c .before .before .before .before .before .before .loop .inv in
     let pre = c .before .before .before .before .before .before .before .before .before .before .before .pre in
-    let room = pre .room in
-    (record { table = i .0 ∙ pre .table; output = i .1 ∙ pre .output; room = omega arith }, omega arith, turned-cut (i .5))
+    let room = pre .room in (
+      record { table = i .0 ∙ pre .table; output = i .1 ∙ pre .output; room = omega arith },
+      record { within = omega arith; cut = turned-cut (i .5) },
+    )
 
 loop-again : tie.Need-loop-again Inv-loop μ-loop
 loop-again c =

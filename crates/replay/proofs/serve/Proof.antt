@@ -4,12 +4,11 @@ use borrow.Author.Needs.{needs}
 use mathlib.Core.Path.{_≡_, refl, sym, ap, _∙_}
 use mathlib.Core.Bool.{not}
 use mathlib.Core.List.{List, []}
-use Prim.Native.Nat.{ℕ, _-_, _≤_, _<_}
+use Prim.Native.Nat.{ℕ, _-_, _≤_}
 use native.Mathlib.Omega.{arith}
 use lib.ListN.{length, take, drop, length-drop}
 use lib.Seq.{length-take-le, take-all}
-use Rattle.model.specs.Records.{record-head}
-use Rattle.replay.specs.Whole.{whole-size, too-long}
+use Rattle.replay.specs.Whole.{Measured, too-long}
 use Rattle.replay.proofs.Follows.{follows-room}
 use Rattle.replay.proofs.Records.{Serving, serving-begins, serving-on, serving-ends}
 use Rattle.replay.proofs.serve.Statement.{statement}
@@ -22,9 +21,7 @@ Inv-loop table₀ output₀ lines₀ input to₀ left₀ size₀ table output li
     × (length lines ≡ length lines₀)
     × (to ≤ length lines₀)
     × (length left ≤ length input)
-    × (size ≤ length left)
-    × (0 < size → record-head ≤ size)
-    × (size ≡ whole-size left)
+    × Measured left size
     × Serving input (length lines₀) table₀ [] table (take to lines) left
 
 abbrev μ-loop : tie.MeasureT-loop
@@ -33,18 +30,22 @@ abbrev μ-loop : tie.MeasureT-loop
 loop-holds : tie.Need-loop-holds Inv-loop μ-loop
 loop-holds c =
     let a = c .before .before .before .before .before .args in
-    let w = c .whole .ensures in
     let begins = serving-begins (a .input .now) (length (a .lines .now)) (a .table .now) [] in
-    (refl, refl, refl, omega arith, omega arith, w .1, w .2, w .0, begins)
+    (refl, refl, refl, omega arith, omega arith, c .whole .ensures, begins)
 
 given-requires : tie.Need-given-requires Inv-loop μ-loop
 given-requires c κs =
     let l = c .before .before .before .before .before .loop in
-    let n = length-take-le (l .size) (l .left .now) (l .inv .5) in
-    let four = l .inv .6 (c .before .before .before .before .loop-test .taken) in
+    let n = length-take-le (l .size) (l .left .now) (l .inv .5 .within) in
+    let four = l .inv .5 .head (c .before .before .before .before .loop-test .taken) in
     let pre = c .before .before .before .before .before .before .before .before .before .before .before .pre in
-    let room = pre .room in
-    (record { table = l .inv .0 ∙ pre .table; output = l .inv .1 ∙ pre .output; room = omega arith }, omega arith, omega arith)
+    let room = pre .room in (
+      record {
+        lends = record { table = l .inv .0 ∙ pre .table; output = l .inv .1 ∙ pre .output; room = omega arith };
+        within = omega arith;
+      },
+      omega arith,
+    )
 
 loop-again : tie.Need-loop-again Inv-loop μ-loop
 loop-again c =
@@ -53,9 +54,8 @@ loop-again c =
     let some = test .loop-test .taken in
     let i = l .inv in
     let g = c .before .before .before .before .before .before .before .before .given in
-    let w = c .whole2 .ensures in
     let d = length-drop (l .size) (l .left .now) in
-    let few = i .5 in
+    let few = i .5 .within in
     let same = i .2 in
     let rest = take-all (length (l .left .now) - l .size) (drop (l .size) (l .left .now)) (simp length-drop (omega arith)) in (
       g .kept .0 ∙ i .0,
@@ -63,20 +63,17 @@ loop-again c =
       g .kept .1 .1 .0 ∙ i .2,
       omega arith,
       omega arith,
-      w .1,
-      w .2,
-      w .0,
-      serving-on (i .8) (i .7) some few (follows-room same (g .ensures .0)) rest,
+      c .whole2 .ensures,
+      serving-on (i .6) (i .5 .whole) some few (follows-room same (g .ensures .0)) rest,
     )
 
 returns : tie.Need-returns Inv-loop μ-loop
 returns c =
     let l = c .before .before .loop in
     let z : l .size ≡ 0 = omega arith in
-    let s = serving-ends (l .inv .8) (sym (l .inv .7) ∙ z) in (
-      s .0,
-      (ap length (s .1), ap not (c .is-too-long .ensures) ∙ ap (λ (z : List ℕ). not (too-long z)) (s .1), l .inv .3),
-    )
+    let s = serving-ends (l .inv .6) (sym (l .inv .5 .whole) ∙ z) in
+    let going = ap not (c .is-too-long .ensures) ∙ ap (λ (z : List ℕ). not (too-long z)) (s .1) in
+    (s .0, record { size = ap length (s .1); going = going; lines = l .inv .3 })
 
 pub serve-spec : {M : Type 1} → statement M
 serve-spec =
@@ -86,10 +83,12 @@ serve-spec =
     μ-loop
     (λ c κs. search needs)
     loop-holds
-    (λ c. let l = c .before .before .before .before .before .loop in sym (length-take-le (l .size) (l .left .now) (l .inv .5)))
+    (λ c. let l = c .before .before .before .before .before .loop in sym (length-take-le (l .size) (l .left .now) (l .inv .5 .within)))
     given-requires
-    (λ c. omega (arith, c .before .before .before .before .before .before .before .before .before .before .before .before .loop .inv .5))
-    (λ c. omega (arith, c .before .before .before .before .before .before .before .before .before .before .before .before .loop .inv .5))
+    (λ c. let l = c .before .before .before .before .before .before .before .before .before .before .before .before .loop in
+    omega (arith, l .inv .5 .within))
+    (λ c. let l = c .before .before .before .before .before .before .before .before .before .before .before .before .loop in
+    omega (arith, l .inv .5 .within))
     (λ c. search needs)
     (λ c κs. search needs)
     (λ c. let l = c .before .before .before .before .before .before .before .before .before .before .before .before .before .before .loop in

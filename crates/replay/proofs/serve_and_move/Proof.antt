@@ -12,10 +12,10 @@ returns c =
     let served = c .before .before .before .before .before .before .before .before .before .before in
     let s = served .before .before .before .before .before .before .before .before .before in
     let v = served .serve .ensures .1 in
-    let few = waits-within (s .args .input .now) (s .pre .1) (v .0) in
-    let moved = waits-moved (s .args .have) (served .serve .result .size) (s .args .input .now) (s .pre .1) (v .0)
+    let few = waits-within (s .args .input .now) (s .pre .1) (v .size) in
+    let moved = waits-moved (s .args .have) (served .serve .result .size) (s .args .input .now) (s .pre .1) (v .size)
     (c .before .before .shift .ensures) in
-    (served .serve .ensures .0, (moved, v .1, omega arith, v .2))
+    (served .serve .ensures .0, record { front = moved; going = v .going; size = omega arith; lines = v .lines })
 
 pub serve-and-move-spec : {M : Type 1} → statement M
 serve-and-move-spec =
@@ -25,8 +25,8 @@ serve-and-move-spec =
     (λ c κs. search needs)
     (λ c. let v = c .before .before .before .before .before .before .before in
     let s = v .before .before .before .before .before .before .before .before .before in
-    omega (arith, waits-within (s .args .input .now) (s .pre .1) (v .serve .ensures .1 .0)))
+    omega (arith, waits-within (s .args .input .now) (s .pre .1) (v .serve .ensures .1 .size)))
     (λ c κs. let v = c .before .before .before .before .before .before .before in
     let s = v .before .before .before .before .before .before .before .before .before in
-    let few = waits-within (s .args .input .now) (s .pre .1) (v .serve .ensures .1 .0) in (omega arith, omega arith))
+    let few = waits-within (s .args .input .now) (s .pre .1) (v .serve .ensures .1 .size) in (omega arith, omega arith))
     (λ c. search needs) (λ c. search needs) (λ c. search needs) (λ c. search needs) returns)

@@ -2,15 +2,14 @@
 use borrow.Author.Needs.{needs}
 use mathlib.Core.Path.{_≡_, sym, ap}
 use mathlib.Core.List.{List}
-use Prim.Native.Nat.{ℕ, _+_, _-_, _≤_, _<_}
+use Prim.Native.Nat.{ℕ, _+_, _-_, _≤_}
 use native.Mathlib.Omega.{arith}
 use lib.ListN.{length, drop, length-drop}
 use lib.Seq.{length-take-le, take-all}
 use Rattle.model.specs.Program.{printed}
-use Rattle.model.specs.Records.{record-head}
 use Rattle.text.proofs.Puts.{Left, left-all, left-put, left-none, left-as}
 use Rattle.replay.specs.Lines.{lines-in}
-use Rattle.replay.specs.Whole.{whole-size}
+use Rattle.replay.specs.Whole.{Measured}
 use Rattle.replay.proofs.Lines.{lines-next, lines-none}
 use Rattle.replay.proofs.show.Statement.{statement}
 use Rattle.replay.proofs.show.Tie as tie
@@ -19,9 +18,7 @@ abbrev Inv-loop : tie.InvT-loop
 Inv-loop output lines₀ at to₀ left₀ size₀ lines to left size =
     Left lines₀ at (printed (lines-in output)) lines to (printed (lines-in left))
     × (to + length left ≤ at + length output)
-    × (size ≡ whole-size left)
-    × (size ≤ length left)
-    × (0 < size → record-head ≤ size)
+    × Measured left size
 
 abbrev μ-loop : tie.MeasureT-loop
 μ-loop output lines₀ at to₀ left₀ size₀ lines to left size = length left
@@ -29,15 +26,14 @@ abbrev μ-loop : tie.MeasureT-loop
 loop-holds : tie.Need-loop-holds Inv-loop μ-loop
 loop-holds c =
     let a = c .before .before .before .args in
-    let w = c .whole .ensures in
-    (left-all (a .lines .now) (a .at) (printed (lines-in (a .output .now))), omega arith, w .0, w .1, w .2)
+    (left-all (a .lines .now) (a .at) (printed (lines-in (a .output .now))), omega arith, c .whole .ensures)
 
 line-requires : tie.Need-line-requires Inv-loop μ-loop
 line-requires c κs =
     let l = c .before .before .before .loop in
-    let n = length-take-le (l .size) (l .left .now) (l .inv .3) in
+    let n = length-take-le (l .size) (l .left .now) (l .inv .2 .within) in
     let some = c .before .before .loop-test .taken in
-    let four = l .inv .4 some in
+    let four = l .inv .2 .head some in
     (omega arith, omega arith)
 
 loop-again : tie.Need-loop-again Inv-loop μ-loop
@@ -45,24 +41,21 @@ loop-again c =
     let l = c .before .before .before .before .before .before .before .before .loop in
     let some = c .before .before .before .before .before .before .before .loop-test .taken in
     let k = c .before .before .before .before .line in
-    let w = c .whole2 .ensures in
-    let few = l .inv .3 in
+    let few = l .inv .2 .within in
     let d = length-drop (l .size) (l .left .now) in
     let n = length-take-le (l .size) (l .left .now) few in
     let rest = take-all (length (l .left .now) - l .size) (drop (l .size) (l .left .now)) (simp length-drop (omega arith)) in (
       left-as (ap (λ (z : List ℕ). printed (lines-in z)) (sym rest))
-          (left-put (left-as (lines-next (l .left .now) (l .size) (l .inv .2) some) (l .inv .0)) (k .ensures .0)),
+          (left-put (left-as (lines-next (l .left .now) (l .size) (l .inv .2 .whole) some) (l .inv .0)) (k .ensures .0)),
       omega arith,
-      w .0,
-      w .1,
-      w .2,
+      c .whole2 .ensures,
     )
 
 returns : tie.Need-returns Inv-loop μ-loop
 returns c =
     let l = c .before .loop in
     let z : l .size ≡ 0 = omega (arith, c .loop-test .left) in
-    (left-none (left-as (lines-none (l .left .now) (l .size) (l .inv .2) z) (l .inv .0)), omega arith)
+    (left-none (left-as (lines-none (l .left .now) (l .size) (l .inv .2 .whole) z) (l .inv .0)), omega arith)
 
 pub show-spec : {M : Type 1} → statement M
 show-spec =
@@ -72,10 +65,10 @@ show-spec =
     μ-loop
     (λ c κs. search needs)
     loop-holds
-    (λ c. let l = c .before .before .loop in sym (length-take-le (l .size) (l .left .now) (l .inv .3)))
+    (λ c. let l = c .before .before .loop in sym (length-take-le (l .size) (l .left .now) (l .inv .2 .within)))
     line-requires
-    (λ c. omega (arith, c .before .before .before .before .before .before .loop .inv .3))
-    (λ c. omega (arith, c .before .before .before .before .before .before .loop .inv .3))
+    (λ c. omega (arith, c .before .before .before .before .before .before .loop .inv .2 .within))
+    (λ c. omega (arith, c .before .before .before .before .before .before .loop .inv .2 .within))
     (λ c. search needs)
     (λ c κs. search needs)
     (λ c. let l = c .before .before .before .before .before .before .before .before .loop in

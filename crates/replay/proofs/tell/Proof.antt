@@ -25,19 +25,19 @@ returns c =
 slice-aggregate-show : tie.Need-slice-aggregate-show
 slice-aggregate-show c =
     let s = c .before .before .before .before .before in
-    sym (length-take-le (s .args .answer .written) (s .args .output .now) (s .pre .0))
+    sym (length-take-le (s .args .answer .written) (s .args .output .now) (s .pre .0 .within))
 
 show-requires : tie.Need-show-requires
 show-requires c κs =
     let s = c .before .before .before .before .before .before in
-    let n = length-take-le (s .args .answer .written) (s .args .output .now) (s .pre .0) in
+    let n = length-take-le (s .args .answer .written) (s .args .output .now) (s .pre .0 .within) in
     omega arith
 
 returns-2 : tie.Need-returns-2
 returns-2 c =
     let s = c .before .before .before .before .before .before .before .before .before in
     let a = s .args in
-    let n = length-take-le (a .answer .written) (a .output .now) (s .pre .0) in
+    let n = length-take-le (a .answer .written) (a .output .now) (s .pre .0 .within) in
     let k = c .before .before .show .ensures in
     (put-as (done-text (a .answer) (a .output .now) (c .before .before .before .before .before .if1 .left)) (k .0), omega arith)
 

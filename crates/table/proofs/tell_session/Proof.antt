@@ -9,7 +9,8 @@ use Rattle.table.proofs.tell_session.Tie as tie
 
 take-requires : tie.Need-take-requires
 take-requires c κs =
-    let p = c .before .before .before .before .pre in (part-good _ _ (p .lent .table) (p .lent .session), p .known, p .place)
+    let p = c .before .before .before .before .pre in
+    record { good = part-good _ _ (p .lent .table) (p .lent .session); known = p .known; place = p .place }
 
 put-copy-requires : tie.Need-put-copy-requires
 put-copy-requires c κs =
