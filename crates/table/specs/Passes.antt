@@ -16,7 +16,7 @@ use Rattle.text.specs.Put.{Put}
 use Rattle.frame.specs.Places.{place-size, event-in}
 use Rattle.frame.specs.declared.To.{To}
 use Rattle.region.specs.Said.{ending, Knows}
-use Rattle.table.specs.Table.{decode, Becomes, Went}
+use Rattle.table.specs.Table.{Table, decode, Becomes, Went}
 use Rattle.table.specs.Says.{Lent}
 use Rattle.table.specs.declared.Took.{Took}
 use Rattle.table.specs.declared.Told.{Told}
@@ -24,6 +24,12 @@ use Rattle.table.specs.declared.Heard.{Heard}
 
 -- ==== an event of a kind, whose notice is in the place p
 
+pub record EventTo (t : List ℕ) (kind : ℕ) (p : List ℕ) : Type 0 where
+  pub table : Table t
+  pub known : kind < length kinds
+  pub place : length p ≡ place-size kind
+
+-- and to one session, with an output
 pub record EventLent (t o : List ℕ) (to : To) (kind : ℕ) (p : List ℕ) : Type 0 where
   pub known : kind < length kinds
   pub lent : Lent t o to (copy-most (kind-at kind))

@@ -1,6 +1,6 @@
 -- The lent table: what all sessions share, then a region for each session. 01, "What the product holds"; docs/TABLE.md has the map.
 use mathlib.Core.Path.{_≡_}
-use Prim.Native.Nat.{ℕ, _+_, _*_, _≤_}
+use Prim.Native.Nat.{ℕ, _+_, _*_, _≤_, _<_}
 use mathlib.Core.Bool.{Bool, true, _&&_}
 use mathlib.Core.List.{List}
 use lib.ListN.{length, take, drop}
@@ -8,7 +8,8 @@ use Rattle.model.specs.Limits.{session-count, table-least}
 use Rattle.model.specs.Bytes.{all}
 use Rattle.model.specs.Records.{Settings, settings-of}
 use Rattle.model.specs.Events.{Event}
-use Rattle.model.specs.World.{World, uncounted, Moment, after, emitted}
+use Rattle.model.specs.Session.{is-closed}
+use Rattle.model.specs.World.{World, session-at, uncounted, Moment, after, emitted}
 use Rattle.model.specs.Sharing.{Shared, shared-after, unnumbered}
 use Rattle.model.specs.Calls.{output}
 use Rattle.text.specs.Put.{Put}
@@ -55,6 +56,12 @@ table-formed t = shared-formed (shared-area t) && all (λ formed. formed) (regio
 pub record Table (t : List ℕ) : Type 0 where
   pub size : table-least ≤ length t
   pub formed : table-formed t ≡ true
+
+-- a session of it is closed, and can be opened
+pub record Openable (t : List ℕ) (s : ℕ) : Type 0 where
+  pub table : Table t
+  pub session : s < session-count
+  pub closed : is-closed (session-at (decode t) s) ≡ true
 
 -- ==== what a call makes of it
 

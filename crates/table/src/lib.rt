@@ -11,14 +11,14 @@ ghost use Rattle.model.specs.Runs.{cut};
 ghost use Rattle.model.specs.Session.{is-closed as is-closed-session};
 ghost use Rattle.model.specs.Local.{tick as one-tick};
 ghost use Rattle.model.specs.World.{session-at, begun, uncounted, to as to-one, opens, hangs-up, hears, ticks, next};
-ghost use Rattle.frame.specs.Places.{place-size, event-in, notice-in};
+ghost use Rattle.frame.specs.Places.{event-in, notice-in};
 ghost use Rattle.run.specs.Area.{Ends};
 ghost use Rattle.lane.specs.Lane.{is-plain as is-plain-so};
 ghost use Rattle.region.specs.Said.{copies-out, due-copy, due-copies, ending, end-said};
 ghost use Rattle.shared.specs.Shared.{settings-part};
-ghost use Rattle.table.specs.Table.{shared-area, region-in, decode, settings-in, table-formed, Table, Becomes, noted, Went};
+ghost use Rattle.table.specs.Table.{shared-area, region-in, decode, settings-in, table-formed, Table, Openable, Becomes, noted, Went};
 ghost use Rattle.table.specs.Says.{Lent, Wrote, CopyLent, OpenLent, DueLent, EndLent, subscription-to, subscriptions-to};
-ghost use Rattle.table.specs.Passes.{EventLent, TellsOne, Tells, Happens, Hears, unended, Received};
+ghost use Rattle.table.specs.Passes.{EventTo, EventLent, TellsOne, Tells, Happens, Hears, unended, Received};
 use frame::Asked;
 use frame::To;
 use model::IDENTIFIER_LENGTH;
@@ -115,7 +115,7 @@ pub fn start(table: &mut [u8], payload: &[u8])
 
 // Session s, which is closed, is opened.
 pub fn open(table: &mut [u8], s: u64)
-    requires { ⌜ Table (now table) × (s < session-count) × (is-closed-session (session-at (decode (now table)) s) ≡ true) ⌝ }
+    requires { ⌜ Openable (now table) s ⌝ }
     ensures { λ _. ⌜ Becomes (now (table .entry)) (uncounted (next (decode (now (table .entry))) (opens s))) (now (table .exit)) ⌝ }
 {
     let a = SHARED + s as usize * SIZE;
@@ -266,8 +266,7 @@ fn share(taken: bool, bit: u64) -> u64
 
 // An event of that kind, whose notice is in `place`, to every session, in order.
 fn tell(table: &mut [u8], out: &mut [u8], at: usize, kind: usize, place: &[u8]) -> Told
-    requires { ⌜ Table (now table) × (at + event-most kind ≤ length (now out)) × (kind < length kinds)
-        × (length (now place) ≡ place-size kind) ⌝ }
+    requires { ⌜ EventTo (now table) kind (now place) × (at + event-most kind ≤ length (now out)) ⌝ }
     ensures { λ r. ⌜ Tells (now (table .entry)) (now (out .entry)) at kind (now (place .entry)) r (now (table .exit)) (now (out .exit)) ⌝ }
 {
     let mut at = at;
@@ -286,7 +285,7 @@ fn tell(table: &mut [u8], out: &mut [u8], at: usize, kind: usize, place: &[u8]) 
 
 // What the event leaves to all sessions: the identifier in force, or the last number.
 fn note(table: &mut [u8], kind: usize, place: &[u8])
-    requires { ⌜ Table (now table) × (kind < length kinds) × (length (now place) ≡ place-size kind) ⌝ }
+    requires { ⌜ EventTo (now table) kind (now place) ⌝ }
     ensures { λ _. ⌜ Becomes (now (table .entry)) (noted (decode (now (table .entry))) (event-in kind (now (place .entry))))
         (now (table .exit)) ⌝ }
 {
@@ -300,8 +299,7 @@ fn note(table: &mut [u8], kind: usize, place: &[u8])
 
 // An event of that kind, whose notice is in `place`.
 pub fn happens(table: &mut [u8], out: &mut [u8], at: usize, kind: usize, place: &[u8]) -> Told
-    requires { ⌜ Table (now table) × (at + event-most kind ≤ length (now out)) × (kind < length kinds)
-        × (length (now place) ≡ place-size kind) ⌝ }
+    requires { ⌜ EventTo (now table) kind (now place) × (at + event-most kind ≤ length (now out)) ⌝ }
     ensures { λ r. ⌜ Happens (now (table .entry)) (now (out .entry)) at kind (now (place .entry)) r (now (table .exit))
         (now (out .exit)) ⌝ }
 {

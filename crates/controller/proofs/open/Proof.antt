@@ -22,7 +22,8 @@ open-spec =
     (λ c κs. search needs)
     (λ c. search needs)
     (λ c. refuse _ _ _ (c .before .before .«open» .ensures) (c .before .if1 .taken) (c .refused .ensures))
-    (λ c κs. let p = open-passes _ _ _ (sym (c .before .before .«open» .ensures) ∙ c .before .if1 .left) in (p .0 .table, p .1, p .2))
+    (λ c κs. let p = open-passes _ _ _ (sym (c .before .before .«open» .ensures) ∙ c .before .if1 .left) in
+    record { table = p .0 .table; session = p .1; closed = p .2 })
     (λ c κs. search needs)
     (λ c. search needs)
     returns-2)

@@ -18,7 +18,8 @@ happens-requires-2 c κs =
     let k = c .before .before in
     let p = k .before .before in
     let q = p .before .before .before .before .pre in
-    (q .table, omega arith, omega arith, scan-size _ _ (q .reads) (p .payload .ensures) (k .enum-told3 .given .1))
+    let place = scan-size _ _ (q .reads) (p .payload .ensures) (k .enum-told3 .given .1) in
+    (record { table = q .table; known = omega arith; place = place }, omega arith)
 
 returns : tie.Need-returns
 returns c =

@@ -18,7 +18,7 @@ happens-requires c κs =
     let h = c .before .before .before .before .before .before .before .before .before in
     let e = h .hear .ensures in
     let size = put-length (e .went .bytes) in
-    (e .went .table .table, omega arith, omega arith, search needs)
+    (record { table = e .went .table .table; known = omega arith; place = search needs }, omega arith)
 
 returns : tie.Need-returns
 returns c =

@@ -16,10 +16,10 @@ returns c =
     let s = k .before .before .before in
     let t = s .args .table .now in
     let n = s .args .s in
-    became-alone t n opening (s .pre .0) (s .pre .1) _ (k .«open» .ensures .0) (k .«open» .ensures .1
-    ∙ opened-fresh (decode t .shared) (session-of (part t n)) (ap is-closed (sym (part-is t n (s .pre .1))) ∙ s .pre .2))
+    became-alone t n opening (s .pre .table) (s .pre .session) _ (k .«open» .ensures .0) (k .«open» .ensures .1
+    ∙ opened-fresh (decode t .shared) (session-of (part t n)) (ap is-closed (sym (part-is t n (s .pre .session))) ∙ s .pre .closed))
 
 pub open-spec : {M : Type 1} → statement M
 open-spec =
     tie.close (tie.spec (λ c. search needs) (λ c. search needs) (λ c. search needs) (λ c. search needs) (λ c. search needs)
-    (λ c. search needs) (λ c κs. let p = c .before .before .pre in part-good _ _ (p .0) (p .1)) (λ c. search needs) returns)
+    (λ c. search needs) (λ c κs. let p = c .before .before .pre in part-good _ _ (p .table) (p .session)) (λ c. search needs) returns)

@@ -26,7 +26,7 @@ tell-session-requires : tie.Need-tell-session-requires Inv-loop μ-loop
 tell-session-requires c κs =
     let p = c .before .before .before .before .before .before .before .pre in
     let l = c .before .before .before .loop in
-    record { known = p .2; lent = turn-lent (l .inv .0) (p .1) (c .before .before .loop-test .taken); place = p .3 }
+    record { known = p .0 .known; lent = turn-lent (l .inv .0) (p .1) (c .before .before .loop-test .taken); place = p .0 .place }
 
 loop-again : tie.Need-loop-again Inv-loop μ-loop
 loop-again c =
@@ -50,7 +50,7 @@ tell-spec =
     (tie.spec
     Inv-loop
     μ-loop
-    (λ c. (turns-none _ _ _ _ _ (c .before .before .before .pre .0), record { power = refl; sum = omega arith }))
+    (λ c. (turns-none _ _ _ _ _ (c .before .before .before .pre .0 .table), record { power = refl; sum = omega arith }))
     tell-session-requires
     (λ c κs. search needs)
     (λ c. let k = c .before .before .before .before .before in let t = k .before .before .before in
