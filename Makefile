@@ -80,16 +80,16 @@ proved: tools
 	@grep -oE '^ *pub (extern "C" )?fn [a-z0-9_]+' crates/*/src/*.rt | sed -E 's#crates/([a-z]+)/.*fn (.*)#  \1::\2#'
 
 # The layout, that nothing is assumed, that the must-fail edits fit and are listed, that the documents name what is there and count it
-# right, that no line is too long; then the gate itself, then the comparison over what the gate built and left, three parts at a time, since
-# the host's tests mostly wait. The gate's own last line is said again at the end: it is the last line of a run in which nothing failed.
-# What fails behind the gate says so in the last line.
+# right, that sources have their form; then the gate itself, then the comparison over what the gate built and left, three parts at a time,
+# since the host's tests mostly wait. The gate's own last line is said again at the end: it is the last line of a run in which nothing
+# failed. What fails behind the gate says so in the last line.
 test: tools
 	@rt fmt --check
 	@python3 tests/wrong/assumptions.py
 	@python3 tests/wrong/check.py
 	@python3 tests/docs/names.py
 	@python3 tests/docs/figures.py --check
-	@python3 tests/docs/columns.py
+	@python3 tests/docs/form.py
 	@said=$$(mktemp); trap 'rm -f "$$said"' EXIT; \
 	rt ci | tee "$$said"; \
 	rt staticlib serifladder | tail -n 1 || { echo "test: failed, rt staticlib serifladder"; exit 1; }; \

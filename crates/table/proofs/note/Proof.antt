@@ -24,7 +24,8 @@ returns-2 : tie.Need-returns-2
 returns-2 c =
     let k = c .before .before in
     let l = k .before .before in
-    noted-number _ _ _ _ (l .before .before .before .before .pre .table) _ (second (l .before)) (l .little .ensures .0) (k .put-last .ensures)
+    noted-number _ _ _ _ (l .before .before .before .before .pre .table) _ (second (l .before)) (l .little .ensures .0)
+    (k .put-last .ensures)
 
 pub note-spec : {M : Type 1} → statement M
 note-spec =

@@ -1,0 +1,65 @@
+#!/usr/bin/env python3
+"""The form of sources and documents: no line is longer than 140 columns, no contract has more than two parts that no record names, no
+function more than five parameters.
+
+    form.py      says where it is otherwise
+
+For their lines, what is data is not asked for: vectors, stories, what a program reads, drawings; nor what a must-fail edit puts in a line's
+place, since an edit replaces one line by one. Exit status 0: all have the form."""
+
+import glob
+import os
+import re
+import sys
+
+import names
+
+sys.path.insert(0, os.path.join(names.ROOT, "tests", "wrong"))
+
+from edits import COLUMNS  # noqa: E402
+
+PARTS, PARAMETERS = 2, 5
+DATA = (".edit", ".svg", ".txt")
+FOLDERS = (".git", "target", "stories", "__pycache__")
+FILES = ("stdin", "stdout")
+CONTRACT = re.compile(r"(?:requires|ensures)(?: \w+)? \{ (.*?) \}\n", re.S)
+FUNCTION = re.compile(r"\bfn (\w+)(?:<[^>]*>)?\(([^)]*)\)")
+
+
+def read(path):
+    with open(path, encoding="utf-8") as file:
+        return file.read()
+
+
+def texts():
+    for folder, inner, files in os.walk("."):
+        inner[:] = sorted(name for name in inner if name not in FOLDERS)
+        yield from (os.path.join(folder, name)[2:] for name in sorted(files) if name not in FILES and not name.endswith(DATA))
+
+
+def too_long(path):
+    return [f"{path}:{number}: {len(line)} columns" for number, line in enumerate(read(path).split("\n"), 1) if len(line) > COLUMNS]
+
+
+def too_many(path):
+    """Of a source: the contracts and functions that want a record."""
+    text = read(path)
+    for found in CONTRACT.finditer(text):
+        if (parts := found[1].count("×") + 1) > PARTS:
+            yield f"{path}:{text.count(chr(10), 0, found.start()) + 1}: a contract of {parts} parts"
+    for name, parameters in FUNCTION.findall(text):
+        if (count := sum(bool(parameter.strip()) for parameter in parameters.split(","))) > PARAMETERS:
+            yield f"{path}: {name} has {count} parameters"
+
+
+def main():
+    os.chdir(names.ROOT)
+    paths, sources = list(texts()), sorted(glob.glob("crates/*/src/*.rt"))
+    wrong = [line for path in paths for line in too_long(path)] + [line for path in sources for line in too_many(path)]
+    print("\n".join(wrong) or f"no line of {len(paths)} sources and documents is longer than {COLUMNS} columns; in {len(sources)} of them "
+          f"no contract has more than {PARTS} parts, no function more than {PARAMETERS} parameters")
+    return 1 if wrong else 0
+
+
+if __name__ == "__main__":
+    sys.exit(main())
