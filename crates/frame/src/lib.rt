@@ -38,7 +38,7 @@ ghost use Rattle.frame.specs.Output.{
   frame-length,
   heading-of,
   frame-of,
-  Closable,
+  Recordable,
   head-bytes,
   length-0004,
   length-0005,
@@ -461,9 +461,9 @@ fn put_fields(out: &mut [u8], at: usize, content: Content, settings: &[u8], told
     to
 }
 
-// ---- headers
+// ---- the header of a frame
 
-// What a header says.
+// What it says.
 pub struct Heading {
     pub size: u64,
     pub mid: u64,
@@ -559,7 +559,7 @@ const CLOSE_RECORD_KIND: u64 = 512;
 
 // Makes an output record of the payload that stands behind the place of its head, up to `end`.
 fn put_record(out: &mut [u8], to: To, record_kind: u64, end: usize) -> usize
-    requires { ⌜ Closable (now out) to «record_kind» end ⌝ }
+    requires { ⌜ Recordable (now out) to «record_kind» end ⌝ }
     ensures { λ r. ⌜ (r ≡ end) × Written (now (out .entry)) (to .at) record-head (head-bytes to «record_kind» end) (to .at + record-head)
         (now (out .exit)) ⌝ }
 {

@@ -20,7 +20,7 @@ returns c =
     let f = z .fill .ensures .0 in
     let g = i .copy .ensures .place in (
       omega arith,
-      recorded (s .args .to) 256 (put-then (i .copy .ensures) (z .fill .ensures .1)) (h .put-record .ensures),
+      recorded (s .args .to) _ (put-then (i .copy .ensures) (z .fill .ensures .1)) (h .put-record .ensures),
     )
 
 pub put-9999-spec : {M : Type 1} → statement M

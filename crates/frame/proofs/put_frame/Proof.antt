@@ -64,7 +64,7 @@ returns c =
     let w = wrote-frame (s .args .content) _ (h .put-header .ensures) (d .put-fields .ensures) (z .fill .ensures) in
     let e = w .0 in
     let f = p .put-record .ensures .0 in
-    record { place = omega arith; put = recorded (s .args .to) 256 (w .1) (p .put-record .ensures) }
+    record { place = omega arith; put = recorded (s .args .to) _ (w .1) (p .put-record .ensures) }
 
 pub put-frame-spec : {M : Type 1} → statement M
 put-frame-spec =
