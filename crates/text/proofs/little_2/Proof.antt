@@ -10,15 +10,13 @@ use Rattle.text.proofs.little_2.Tie as tie
 
 -- both are bytes
 module _ (c : tie.After-wide2) where
-  first : c .before .before .wide .result < 256
-  first =
-      let s = c .before .before .before .before .before .args in
-      omega (arith, c .before .before .wide .ensures, c .before .shared-slice-known3 .given (s .at))
-
-  second : c .wide2 .result < 256
-  second =
-      let s = c .before .before .before .before .before .args in
-      omega (arith, c .wide2 .ensures, c .before .shared-slice-known3 .given (s .at + 1))
+  small : (c .before .before .wide .result < 256) × (c .wide2 .result < 256)
+  small =
+      let at = c .before .before .before .before .before .args .at in
+      let byte = c .before .shared-slice-known3 .given in (
+        omega (arith, c .before .before .wide .ensures, byte at, byte (at + 1)),
+        omega (arith, c .wide2 .ensures, byte at, byte (at + 1)),
+      )
 
 returns : tie.Need-returns
 returns c =
@@ -26,9 +24,9 @@ returns c =
     let a = c .before .before .wide .ensures in
     let b = c .wide2 .ensures in
     let e = little-2 (s .args .b .now) (s .args .at) (s .pre) in
-    (omega (arith, e, a, b), omega (arith, first c, second c))
+    (omega (arith, e, a, b), omega (arith, small c .0, small c .1))
 
 pub little-2-spec : {M : Type 1} → statement M
 little-2-spec =
     tie.close (tie.spec (λ c. search needs) (λ c κs. search needs) (λ c. search needs) (λ c. search needs) (λ c κs. search needs)
-    (λ c. omega (arith, second c)) (λ c. omega (arith, first c, second c)) returns)
+    (λ c. omega (arith, small c .1)) (λ c. omega (arith, small c .0, small c .1)) returns)
