@@ -12,7 +12,8 @@ use Rattle.frame.proofs.notice_row.Tie as tie
 
 identifier-row-requires : tie.Need-identifier-row-requires
 identifier-row-requires c κs =
-    let s = c .before .before in among identifier-rows (1 ∷ []) 4 (s .args .asked .revision) (s .args .k) (rw (c .if1 .taken) at (s .pre .1))
+    let s = c .before .before in
+    among identifier-rows (1 ∷ []) 4 (s .args .asked .revision) (s .args .k) (rw (c .if1 .taken) at (s .pre .1))
 
 returns : tie.Need-returns
 returns c =

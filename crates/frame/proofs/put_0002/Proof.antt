@@ -10,7 +10,9 @@ use Rattle.frame.proofs.put_0002.Statement.{statement}
 use Rattle.frame.proofs.put_0002.Tie as tie
 
 put-frame-requires : tie.Need-put-frame-requires
-put-frame-requires c κs = let s = c .before .before .before .before in record { output = s .pre .0; real = tt; few = lit< tt; sound = rw (s .pre .1) refl }
+put-frame-requires c κs =
+    let s = c .before .before .before .before in
+    record { output = s .pre .0; real = tt; few = lit< tt; sound = rw (s .pre .1) refl }
 
 returns : tie.Need-returns
 returns c =

@@ -68,4 +68,5 @@ returns c =
 
 pub put-frame-spec : {M : Type 1} → statement M
 put-frame-spec =
-    tie.close (tie.spec (λ c. search needs) put-header-requires put-fields-requires fill-requires put-record-requires (λ c. search needs) returns)
+    tie.close (tie.spec (λ c. search needs) put-header-requires put-fields-requires fill-requires put-record-requires
+    (λ c. search needs) returns)

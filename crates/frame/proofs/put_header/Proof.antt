@@ -9,7 +9,8 @@ use Rattle.frame.proofs.put_header.Tie as tie
 returns : tie.Need-returns
 returns c =
     let h = c .before .before in
-    headed (h .before .reply-heading .ensures ∙ sym (ap heading-of (h .before .before .before .enum-told .given .1))) (h .put-heading .ensures)
+    headed (h .before .reply-heading .ensures ∙ sym (ap heading-of (h .before .before .before .enum-told .given .1)))
+    (h .put-heading .ensures)
 
 returns-2 : tie.Need-returns-2
 returns-2 c =
@@ -42,7 +43,8 @@ put-header-spec =
     (λ c. search needs)
     (λ c κs. search needs)
     (λ c. search needs)
-    (λ c κs. let s = c .before .before .before .before .before in (subst Real (c .before .before .content3 .given .1) (s .pre .0), s .pre .1))
+    (λ c κs. let s = c .before .before .before .before .before in
+    (subst Real (c .before .before .content3 .given .1) (s .pre .0), s .pre .1))
     (λ c. search needs)
     returns
     (λ c. search needs)
