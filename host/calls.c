@@ -37,24 +37,24 @@ static void carry_out(uint64_t written)
     size_t at = 0;
     while (at < written) {
         size_t length = (size_t)little(output + at, 2);
-        unsigned kind = (unsigned)little(output + at + 2, 2);
+        unsigned record_kind = (unsigned)little(output + at + 2, 2);
         at += SERIFLADDER_RECORD_HEADER;
-        if (kind >= SERIFLADDER_CLOSE)
-            links_close(kind - SERIFLADDER_CLOSE);
+        if (record_kind >= SERIFLADDER_CLOSE)
+            links_close(record_kind - SERIFLADDER_CLOSE);
         else
-            links_send(kind - SERIFLADDER_FRAME, output + at, length);
+            links_send(record_kind - SERIFLADDER_FRAME, output + at, length);
         at += length;
     }
     links_hang_up_failed();
 }
 
 /* A call that the host makes of itself is never refused: where it is, the host is at fault and does not go on. */
-static void settle_done(const char *call, uint64_t number, unsigned kind, const uint8_t *payload, size_t length)
+static void settle_done(const char *call, uint64_t number, unsigned record_kind, const uint8_t *payload, size_t length)
 {
     struct answer answer = read_answer(answer_bytes);
     if (number != SERIFLADDER_DONE)
         fail("%s was refused: %u %s", call, (unsigned)number, meaning(number));
-    journal_record(kind, payload, length);
+    journal_record(record_kind, payload, length);
     carry_out(answer.written);
 }
 
@@ -96,23 +96,23 @@ void call_tick(void)
 }
 
 /* In the journal a record of a kind that stands for another call there gets kind 0, which is as bad a tool record. */
-static unsigned journal_kind(unsigned kind)
+static unsigned journal_record_kind(unsigned record_kind)
 {
-    return kind == SERIFLADDER_SETTINGS || (kind >= JOURNAL_OPEN && kind <= JOURNAL_TICK) ? 0 : kind;
+    return record_kind == SERIFLADDER_SETTINGS || (record_kind >= JOURNAL_OPEN && record_kind <= JOURNAL_TICK) ? 0 : record_kind;
 }
 
 struct answer call_record(const uint8_t *serial, const uint8_t *record, size_t length)
 {
-    unsigned kind = (unsigned)little(record + 2, 2);
+    unsigned record_kind = (unsigned)little(record + 2, 2);
     journal_prepare(table);
     uint64_t number = serifladder_record(LENT, record, length, ANSWER);
     struct answer answer = read_answer(answer_bytes);
-    bool numbered = number == SERIFLADDER_DONE && kind == SERIFLADDER_TIGHTENING;
+    bool numbered = number == SERIFLADDER_DONE && record_kind == SERIFLADDER_TIGHTENING;
     if (number == SERIFLADDER_DONE && serial != NULL)
         serial_keep(serial, numbered ? last + 1 : 0, answer.taken);
     if (numbered)
         state_keep(++last);
-    journal_record(journal_kind(kind), record + SERIFLADDER_RECORD_HEADER, length - SERIFLADDER_RECORD_HEADER);
+    journal_record(journal_record_kind(record_kind), record + SERIFLADDER_RECORD_HEADER, length - SERIFLADDER_RECORD_HEADER);
     if (numbered)
         sessions_result(last, answer.taken);
     carry_out(answer.written);

@@ -17,10 +17,10 @@ static struct {
     size_t length;
 } record;
 
-static void begin(unsigned kind, size_t payload)
+static void begin(unsigned record_kind, size_t payload)
 {
     put_little(record.bytes, 2, payload);
-    put_little(record.bytes + 2, 2, kind);
+    put_little(record.bytes + 2, 2, record_kind);
     record.length = SERIFLADDER_RECORD_HEADER;
 }
 

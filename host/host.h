@@ -177,7 +177,7 @@ void journal_open(void);
 
 /* Before a call: puts a part that is full aside, begins one that was removed anew, and keeps the table beside what begins. */
 void journal_prepare(const uint8_t *table);
-void journal_record(unsigned kind, const uint8_t *payload, size_t length);
+void journal_record(unsigned record_kind, const uint8_t *payload, size_t length);
 
 /* How many files the journal has, the one that is written included. */
 uint64_t journal_parts(void);

@@ -448,14 +448,14 @@ static bool write_waiting(const uint8_t *bytes, size_t length)
     return true;
 }
 
-void journal_record(unsigned kind, const uint8_t *payload, size_t length)
+void journal_record(unsigned record_kind, const uint8_t *payload, size_t length)
 {
     static uint64_t ticks;
     uint8_t record[RECORD_GREATEST];
     if (file < 0)
         return;
     put_little(record, 2, length);
-    put_little(record + 2, 2, kind);
+    put_little(record + 2, 2, record_kind);
     if (length > 0)
         memcpy(record + SERIFLADDER_RECORD_HEADER, payload, length);
     length += SERIFLADDER_RECORD_HEADER;
@@ -467,6 +467,6 @@ void journal_record(unsigned kind, const uint8_t *payload, size_t length)
         cannot("written");
     }
     size += length;
-    if (regular && kind == JOURNAL_TICK && ++ticks % TICKS_BETWEEN_TIMES == 0)
+    if (regular && record_kind == JOURNAL_TICK && ++ticks % TICKS_BETWEEN_TIMES == 0)
         note_time();
 }

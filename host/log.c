@@ -15,7 +15,7 @@
 
 enum {
     LINE = 1024,
-    KINDS = 128,              /* so many formats are told apart */
+    LINE_KINDS = 128,         /* so many formats are told apart */
     LINES_A_SECOND = 32,      /* of one kind */
     FILE_GREATEST = 8 << 20,  /* a file that is longer is put aside */
 };
@@ -25,13 +25,13 @@ static int log_file = STDERR_FILENO;
 static off_t file_size;
 
 /* What was said within a second of one kind of line: those of one format. */
-static struct kind {
+static struct line_kind {
     const char *format;
     time_t second;
     unsigned said;
     unsigned long left_out;
     char last[LINE]; /* the text of the last one that was left out */
-} kinds[KINDS];
+} line_kinds[LINE_KINDS];
 static bool some_left_out;
 
 /* ---- writing */
@@ -96,13 +96,13 @@ static void write_text(const char *before, const char *text)
 
 /* ---- lines that repeat */
 
-static void say_left_out(struct kind *kind)
+static void say_left_out(struct line_kind *line_kind)
 {
     char before[64];
-    snprintf(before, sizeof before, "%lu lines like this are left out, the last: ", kind->left_out);
-    if (kind->left_out > 0)
-        write_text(before, kind->last);
-    kind->left_out = 0;
+    snprintf(before, sizeof before, "%lu lines like this are left out, the last: ", line_kind->left_out);
+    if (line_kind->left_out > 0)
+        write_text(before, line_kind->last);
+    line_kind->left_out = 0;
 }
 
 static void say_left_out_before(time_t second)
@@ -110,11 +110,11 @@ static void say_left_out_before(time_t second)
     if (!some_left_out)
         return;
     some_left_out = false;
-    for (struct kind *kind = kinds; kind < kinds + KINDS && kind->format != NULL; kind++)
-        if (kind->second < second)
-            say_left_out(kind);
+    for (struct line_kind *line_kind = line_kinds; line_kind < line_kinds + LINE_KINDS && line_kind->format != NULL; line_kind++)
+        if (line_kind->second < second)
+            say_left_out(line_kind);
         else
-            some_left_out |= kind->left_out > 0;
+            some_left_out |= line_kind->left_out > 0;
 }
 
 void log_counts(void)
@@ -127,32 +127,32 @@ static void log_end(void)
     say_left_out_before(time(NULL) + 2);
 }
 
-static struct kind *kind_of(const char *format)
+static struct line_kind *line_kind_of(const char *format)
 {
-    for (struct kind *kind = kinds; kind < kinds + KINDS; kind++) {
-        if (kind->format == NULL)
-            kind->format = format;
-        if (kind->format == format)
-            return kind;
+    for (struct line_kind *line_kind = line_kinds; line_kind < line_kinds + LINE_KINDS; line_kind++) {
+        if (line_kind->format == NULL)
+            line_kind->format = format;
+        if (line_kind->format == format)
+            return line_kind;
     }
     return NULL;
 }
 
 /* Whether a line of a kind is left out: there were enough within this second. */
-static bool is_left_out(struct kind *kind, const char *text)
+static bool is_left_out(struct line_kind *line_kind, const char *text)
 {
     time_t now = time(NULL);
-    if (kind->second != now) {
-        say_left_out(kind);
-        kind->second = now;
-        kind->said = 0;
+    if (line_kind->second != now) {
+        say_left_out(line_kind);
+        line_kind->second = now;
+        line_kind->said = 0;
     }
-    if (kind->said < LINES_A_SECOND) {
-        kind->said += 1;
+    if (line_kind->said < LINES_A_SECOND) {
+        line_kind->said += 1;
         return false;
     }
-    memcpy(kind->last, text, strlen(text) + 1);
-    kind->left_out += 1;
+    memcpy(line_kind->last, text, strlen(text) + 1);
+    line_kind->left_out += 1;
     some_left_out = true;
     return true;
 }
@@ -166,8 +166,8 @@ void say(const char *format, ...)
     va_start(values, format);
     vsnprintf(text, sizeof text, format, values);
     va_end(values);
-    struct kind *kind = kind_of(format);
-    if (kind == NULL || !is_left_out(kind, text))
+    struct line_kind *line_kind = line_kind_of(format);
+    if (line_kind == NULL || !is_left_out(line_kind, text))
         write_text("", text);
 }
 

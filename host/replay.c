@@ -40,12 +40,12 @@ static void print_answer(const struct answer *answer, const uint8_t *output)
         printf("R %u\n", (unsigned)answer->number);
     for (size_t at = 0; at < answer->written;) {
         size_t length = (size_t)little(output + at, 2);
-        unsigned kind = (unsigned)little(output + at + 2, 2);
+        unsigned record_kind = (unsigned)little(output + at + 2, 2);
         at += SERIFLADDER_RECORD_HEADER;
-        if (kind >= SERIFLADDER_CLOSE)
-            printf("%u C\n", kind - SERIFLADDER_CLOSE);
+        if (record_kind >= SERIFLADDER_CLOSE)
+            printf("%u C\n", record_kind - SERIFLADDER_CLOSE);
         else
-            print_frame(kind - SERIFLADDER_FRAME, output + at, length);
+            print_frame(record_kind - SERIFLADDER_FRAME, output + at, length);
         at += length;
     }
 }

@@ -34,18 +34,18 @@ static void replay_bytes(unsigned session, const uint8_t *bytes, size_t length)
 
 static void replay_record(const uint8_t *record, size_t length)
 {
-    unsigned kind = (unsigned)little(record + 2, 2);
-    if (kind >= JOURNAL_BYTES && kind < JOURNAL_TICK) {
-        replay_bytes(kind - JOURNAL_BYTES, record + SERIFLADDER_RECORD_HEADER, length - SERIFLADDER_RECORD_HEADER);
+    unsigned record_kind = (unsigned)little(record + 2, 2);
+    if (record_kind >= JOURNAL_BYTES && record_kind < JOURNAL_TICK) {
+        replay_bytes(record_kind - JOURNAL_BYTES, record + SERIFLADDER_RECORD_HEADER, length - SERIFLADDER_RECORD_HEADER);
         return;
     }
-    if (kind == SERIFLADDER_SETTINGS)
+    if (record_kind == SERIFLADDER_SETTINGS)
         serifladder_start(lent_table, SERIFLADDER_TABLE_SIZE, record, length, ANSWER);
-    else if (kind >= JOURNAL_OPEN && kind < JOURNAL_HANG_UP)
-        serifladder_open(LENT, kind - JOURNAL_OPEN, ANSWER);
-    else if (kind >= JOURNAL_HANG_UP && kind < JOURNAL_BYTES)
-        serifladder_hang_up(LENT, kind - JOURNAL_HANG_UP, ANSWER);
-    else if (kind == JOURNAL_TICK)
+    else if (record_kind >= JOURNAL_OPEN && record_kind < JOURNAL_HANG_UP)
+        serifladder_open(LENT, record_kind - JOURNAL_OPEN, ANSWER);
+    else if (record_kind >= JOURNAL_HANG_UP && record_kind < JOURNAL_BYTES)
+        serifladder_hang_up(LENT, record_kind - JOURNAL_HANG_UP, ANSWER);
+    else if (record_kind == JOURNAL_TICK)
         serifladder_tick(LENT, ANSWER);
     else
         serifladder_record(LENT, record, length, ANSWER);

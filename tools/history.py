@@ -69,9 +69,9 @@ def quote(data):
     return '"' + "".join(out) + '"'
 
 
-def read_fields(kind, tokens):
+def read_fields(record_kind, tokens):
     """The values of a line by their names; one that has none is that of the item in its place."""
-    items, fields = PAYLOADS[kind].items, {}
+    items, fields = PAYLOADS[record_kind].items, {}
     for place, token in enumerate(tokens):
         name, text = VALUE.fullmatch(token).groups()
         item = items[name or list(items)[place]]
@@ -84,9 +84,9 @@ def line_to_records(line):
     if not line.strip() or line.lstrip()[0] in "#>":
         return []
     word, *rest = TOKEN.findall(line)
-    for kind in WORDS:
-        if word == WORDS[kind]:
-            return [record_of(kind, **read_fields(kind, rest))]
+    for record_kind in WORDS:
+        if word == WORDS[record_kind]:
+            return [record_of(record_kind, **read_fields(record_kind, rest))]
     if word == "open":
         return [record(OPEN + int(rest[0]))]
     if word == "hangup":
@@ -119,28 +119,28 @@ def quoted_parts(data):
     return " ".join(parts)
 
 
-def fields_line(kind, fields):
-    words = [WORDS[kind]]
-    for item in PAYLOADS[kind].items.values():
+def fields_line(record_kind, fields):
+    words = [WORDS[record_kind]]
+    for item in PAYLOADS[record_kind].items.values():
         value = fields[item.name].rstrip(b" ") if item.sort == TEXT else fields[item.name]
-        if kind in IN_ORDER or value != item.usual:
+        if record_kind in IN_ORDER or value != item.usual:
             shown = "%d" % value if item.sort == NUMBER else quote(value)
-            words.append(shown if kind in IN_ORDER else item.name + "=" + shown)
+            words.append(shown if record_kind in IN_ORDER else item.name + "=" + shown)
     return " ".join(words)
 
 
-def record_line(kind, payload):
-    if fields := fields_of(kind, payload):
-        return fields_line(kind, fields)
-    if BYTES <= kind < TICK:
-        return "bytes %d %s" % (kind - BYTES, quoted_parts(payload))
-    if not payload and OPEN <= kind < HANG_UP:
-        return "open %d" % (kind - OPEN)
-    if not payload and HANG_UP <= kind < BYTES:
-        return "hangup %d" % (kind - HANG_UP)
-    if not payload and kind == TICK:
+def record_line(record_kind, payload):
+    if fields := fields_of(record_kind, payload):
+        return fields_line(record_kind, fields)
+    if BYTES <= record_kind < TICK:
+        return "bytes %d %s" % (record_kind - BYTES, quoted_parts(payload))
+    if not payload and OPEN <= record_kind < HANG_UP:
+        return "open %d" % (record_kind - OPEN)
+    if not payload and HANG_UP <= record_kind < BYTES:
+        return "hangup %d" % (record_kind - HANG_UP)
+    if not payload and record_kind == TICK:
         return "tick"
-    return ("record %d %s" % (kind, payload.hex())).rstrip()
+    return ("record %d %s" % (record_kind, payload.hex())).rstrip()
 
 
 def to_lines(data):

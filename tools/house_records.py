@@ -3,7 +3,7 @@ it by this.
 
     record(TICK)                                   a record as bytes
     record_of(TIGHTENING, job=7)                   one with a payload: what is not named has its usual value
-    fields_of(kind, payload)                       the items of a payload by their names
+    fields_of(record_kind, payload)                the items of a payload by their names
     split(data)                                    the records of a file, as kinds and payloads"""
 
 import struct
@@ -92,28 +92,28 @@ PAYLOADS = {
 }
 
 
-def record(kind, payload=b""):
-    return HEAD.pack(len(payload), kind) + payload
+def record(record_kind, payload=b""):
+    return HEAD.pack(len(payload), record_kind) + payload
 
 
-def record_of(kind, **named):
-    return record(kind, PAYLOADS[kind].pack(PAYLOADS[kind].usual(**named)))
+def record_of(record_kind, **named):
+    return record(record_kind, PAYLOADS[record_kind].pack(PAYLOADS[record_kind].usual(**named)))
 
 
-def fields_of(kind, payload):
+def fields_of(record_kind, payload):
     """None where the kind has no items, or the payload is not as long as they are."""
-    items = PAYLOADS.get(kind)
+    items = PAYLOADS.get(record_kind)
     return items.unpack(payload) if items and len(payload) == items.size else None
 
 
 def split(data):
-    """The records as (kind, payload), and the bytes behind the last whole one."""
+    """The records as (record kind, payload), and the bytes behind the last whole one."""
     records, at = [], 0
     while at + HEAD.size <= len(data):
-        length, kind = HEAD.unpack_from(data, at)
+        length, record_kind = HEAD.unpack_from(data, at)
         begin, end = at + HEAD.size, at + HEAD.size + length
         if end > len(data):
             break
-        records.append((kind, data[begin:end]))
+        records.append((record_kind, data[begin:end]))
         at = end
     return records, data[at:]

@@ -118,11 +118,11 @@ class Records:
             self.buffer += block
             at = 0
             while at + HEAD.size <= len(self.buffer):
-                length, kind = HEAD.unpack_from(self.buffer, at)
+                length, record_kind = HEAD.unpack_from(self.buffer, at)
                 begin, end = at + HEAD.size, at + HEAD.size + length
                 if length > PAYLOAD_LONGEST or end > len(self.buffer):
                     break
-                yield self.size - self.left, kind, self.buffer[begin:end]
+                yield self.size - self.left, record_kind, self.buffer[begin:end]
                 self.left -= end - at
                 at = end
             self.buffer = self.buffer[at:]
@@ -142,10 +142,10 @@ class Records:
             return ""
         if self.left < HEAD.size:
             return "the last record is cut: %s of it" % count(self.left, "byte")
-        length, kind = HEAD.unpack_from(self.buffer)
+        length, record_kind = HEAD.unpack_from(self.buffer)
         if length > PAYLOAD_LONGEST:
             return "a record of %d bytes, longer than %d, ends the run: %s not read" % (length, PAYLOAD_LONGEST, count(self.left, "byte"))
-        return "the last record is cut: kind %d, %d of %d bytes" % (kind, self.left - HEAD.size, length)
+        return "the last record is cut: kind %d, %d of %d bytes" % (record_kind, self.left - HEAD.size, length)
 
 
 @dataclass
@@ -154,7 +154,7 @@ class Piece:
 
     record: int  # its number in the journal, from 1
     place: int  # where in the journal the record begins
-    kind: int
+    record_kind: int
     payload: bytes
     lines: list = ()  # what replay printed for it
 
@@ -165,12 +165,12 @@ class Piece:
 
 def pieces_of(records):
     """A bytes record is given run by run, so that an answer stands behind its message: how bytes are cut does not matter."""
-    for number, (place, kind, payload) in enumerate(records, 1):
-        if BYTES <= kind < TICK and payload:
+    for number, (place, record_kind, payload) in enumerate(records, 1):
+        if BYTES <= record_kind < TICK and payload:
             for part in re.findall(rb"[^\0]*\0|[^\0]+", payload):
-                yield Piece(number, place, kind, part)
+                yield Piece(number, place, record_kind, part)
         else:
-            yield Piece(number, place, kind, payload)
+            yield Piece(number, place, record_kind, payload)
 
 
 # ---- what replay prints
@@ -216,7 +216,7 @@ def feed(journal, pipe):
     try:
         with pipe:
             for piece in pieces_of(records):
-                given += record(piece.kind, piece.payload) + MARKS
+                given += record(piece.record_kind, piece.payload) + MARKS
                 if len(given) >= BLOCK:
                     pipe.write(given)
                     given.clear()

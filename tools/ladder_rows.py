@@ -60,12 +60,12 @@ def verdict(status):
     return "OK" if status else "NOT OK"
 
 
-def tool_words(kind, payload, number=None, taken=()):
+def tool_words(record_kind, payload, number=None, taken=()):
     """What a tool record says; of one that was done its number too, and who took it."""
-    fields = fields_of(kind, payload)
+    fields = fields_of(record_kind, payload)
     if not fields:
-        words = "of kind %d, %s" % (kind, count(len(payload), "byte"))
-    elif kind == SCANNED:
+        words = "of kind %d, %s" % (record_kind, count(len(payload), "byte"))
+    elif record_kind == SCANNED:
         words = text_bytes(payload)
     else:
         own = fields["identifier"]
@@ -76,8 +76,8 @@ def tool_words(kind, payload, number=None, taken=()):
     return words
 
 
-def tool_word(kind, payload):
-    return {SCANNED: "identifier", TIGHTENING: "tightening"}[kind] if fields_of(kind, payload) else "record"
+def tool_word(record_kind, payload):
+    return {SCANNED: "identifier", TIGHTENING: "tightening"}[record_kind] if fields_of(record_kind, payload) else "record"
 
 
 def start_words(payload):
@@ -409,7 +409,7 @@ class Ladder:
     def take(self, piece):
         self.meet_times(piece.place)
         refused = piece.refused()
-        self.ticked = piece.kind == TICK and not refused
+        self.ticked = piece.record_kind == TICK and not refused
         if self.ticked:
             self.second += 1
             closed = {int(line[0]) for line in piece.lines if line[2] == "C"}
@@ -419,55 +419,55 @@ class Ladder:
             self.take_refused(piece, refused)
             return
         else:
-            self.take_record(piece.kind, piece.payload)
+            self.take_record(piece.record_kind, piece.payload)
         for line in piece.lines:
             self.take_line(line)
         self.books.expect_sent(self.second)
 
     def take_refused(self, piece, refused):
-        kind, payload = piece.kind, piece.payload
+        record_kind, payload = piece.record_kind, piece.payload
         more = {"refused": refused, "source": piece.lines[0]}
-        if kind == SETTINGS:
+        if record_kind == SETTINGS:
             self.add(CONTROLLER, CONTROLLER, "start", partial(start_words, payload), **more)
-        elif OPEN <= kind < HANG_UP:
-            self.add_open(kind - OPEN, **more)
-        elif HANG_UP <= kind < BYTES:
-            self.add_hang_up(kind - HANG_UP, **more)
-        elif BYTES <= kind < TICK:
-            self.add(kind - BYTES, CONTROLLER, "bytes", count(len(payload), "byte"), **more)
-        elif kind == TICK:
+        elif OPEN <= record_kind < HANG_UP:
+            self.add_open(record_kind - OPEN, **more)
+        elif HANG_UP <= record_kind < BYTES:
+            self.add_hang_up(record_kind - HANG_UP, **more)
+        elif BYTES <= record_kind < TICK:
+            self.add(record_kind - BYTES, CONTROLLER, "bytes", count(len(payload), "byte"), **more)
+        elif record_kind == TICK:
             self.add(CONTROLLER, CONTROLLER, "tick", "", **more)
         else:
-            self.add(TOOL, CONTROLLER, tool_word(kind, payload), partial(tool_words, kind, payload), concerns=(), **more)
+            self.add(TOOL, CONTROLLER, tool_word(record_kind, payload), partial(tool_words, record_kind, payload), concerns=(), **more)
 
-    def take_record(self, kind, payload):
-        source = (kind, payload)
-        if kind == SETTINGS:
+    def take_record(self, record_kind, payload):
+        source = (record_kind, payload)
+        if record_kind == SETTINGS:
             self.started = True
             self.show_all_unended()
             self.add(CONTROLLER, CONTROLLER, "start", partial(start_words, payload), source)
             for session in sorted(self.open):
                 self.end_session(session, "when the controller was started anew")
             self.last = fields_of(SETTINGS, payload)["last"]
-        elif OPEN <= kind < HANG_UP:
-            self.add_open(kind - OPEN, source)
-            self.open |= {kind - OPEN}
-        elif HANG_UP <= kind < BYTES:
-            session = kind - HANG_UP
+        elif OPEN <= record_kind < HANG_UP:
+            self.add_open(record_kind - OPEN, source)
+            self.open |= {record_kind - OPEN}
+        elif HANG_UP <= record_kind < BYTES:
+            session = record_kind - HANG_UP
             self.show_unended(session)
             self.add_hang_up(session, source)
             self.end_session(session, "when the link went")
-        elif BYTES <= kind < TICK:
-            self.take_bytes(kind - BYTES, payload, source)
+        elif BYTES <= record_kind < TICK:
+            self.take_bytes(record_kind - BYTES, payload, source)
         else:
-            self.take_tool(kind, payload, source)
+            self.take_tool(record_kind, payload, source)
 
-    def take_tool(self, kind, payload, source):
+    def take_tool(self, record_kind, payload, source):
         number, event = None, payload
-        if kind == TIGHTENING:
+        if record_kind == TIGHTENING:
             number = event = self.last = self.last + 1
-        taken, not_taken, replaced = self.books.tell(TIGHTENED if kind == TIGHTENING else IDENTIFIER, event)
-        self.add(TOOL, CONTROLLER, tool_word(kind, payload), partial(tool_words, kind, payload, number, taken), source,
+        taken, not_taken, replaced = self.books.tell(TIGHTENED if record_kind == TIGHTENING else IDENTIFIER, event)
+        self.add(TOOL, CONTROLLER, tool_word(record_kind, payload), partial(tool_words, record_kind, payload, number, taken), source,
                  concerns=(*taken, *not_taken))
         for session in not_taken:
             self.lose(session, "tightening %d: not taken; server %d has %d already" % (number, session, MOST[TIGHTENED]))

@@ -217,7 +217,7 @@ static void run_download(unsigned i) { SEND(i, 1, "00290050001         BODY 4712
 static void run_tick(unsigned i) { tick(i); }
 static void run_tighten(unsigned i) { tighten(i); }
 
-struct kind {
+struct call_kind {
     const char *name;
     void (*prepare)(unsigned);
     void (*run)(unsigned);
@@ -225,7 +225,7 @@ struct kind {
     uint64_t written; /* what the last call writes, as document 01 has it */
 };
 
-static const struct kind KINDS[] = {
+static const struct call_kind CALL_KINDS[] = {
     { "start", prepare_closed, run_start, 8, 0 },
     { "open and hang-up", prepare_closed, run_open_and_hang_up, 8, 0 },
     { "bytes: keep-alive", prepare_started, run_keep_alive, 8, 25 },
@@ -238,7 +238,7 @@ static const struct kind KINDS[] = {
     { "tool record to four sessions", prepare_results, run_tighten, 8, 4 * 236 },
 };
 
-enum { KIND_COUNT = sizeof KINDS / sizeof KINDS[0] };
+enum { CALL_KIND_COUNT = sizeof CALL_KINDS / sizeof CALL_KINDS[0] };
 
 /* ---- time */
 
@@ -261,15 +261,15 @@ static void clear_upper_halves(void)
         __asm__ volatile("vzeroupper");
 }
 
-static double ticks_of(const struct kind *kind, unsigned i)
+static double ticks_of(const struct call_kind *call_kind, unsigned i)
 {
     unsigned cpu;
     memcpy(table[i], state[i], TABLE);
     clear_upper_halves();
     _mm_lfence();
     uint64_t began = __rdtsc();
-    for (unsigned k = 0; k < kind->times; k++)
-        kind->run(i);
+    for (unsigned k = 0; k < call_kind->times; k++)
+        call_kind->run(i);
     uint64_t ended = __rdtscp(&cpu);
     _mm_lfence();
     return (double)(ended - began);
@@ -291,14 +291,14 @@ static double overhead(void)
 }
 
 /* Many measurements for each library, taken in turn; what one in ten of them stays below. */
-static void one_round(const struct kind *kind, double nothing, double quick[COMPARED])
+static void one_round(const struct call_kind *call_kind, double nothing, double quick[COMPARED])
 {
     static double taken[COMPARED][REPEATS];
     for (unsigned k = 0; k < REPEATS; k++)
         for (unsigned i = 0; i < COMPARED; i++)
-            taken[i][k] = ticks_of(kind, i);
+            taken[i][k] = ticks_of(call_kind, i);
     for (unsigned i = 0; i < COMPARED; i++)
-        quick[i] = (at_part(taken[i], REPEATS, 0.1) - nothing) / kind->times;
+        quick[i] = (at_part(taken[i], REPEATS, 0.1) - nothing) / call_kind->times;
 }
 
 /* How the product's time stands to another library's, in the rounds so far. */
@@ -338,23 +338,23 @@ static void take_traps(void)
     }
 }
 
-static uint64_t counted_of(const struct kind *kind, unsigned i)
+static uint64_t counted_of(const struct call_kind *call_kind, unsigned i)
 {
     memcpy(table[i], state[i], TABLE);
     counted = 0;
     place_before = 0;
     atomic_signal_fence(memory_order_seq_cst);
     __writeeflags(__readeflags() | TRAP_FLAG);
-    for (unsigned k = 0; k < kind->times; k++)
-        kind->run(i);
+    for (unsigned k = 0; k < call_kind->times; k++)
+        call_kind->run(i);
     __writeeflags(__readeflags() & ~(unsigned long long)TRAP_FLAG);
     atomic_signal_fence(memory_order_seq_cst);
     return counted;
 }
 
-static double instructions_of(const struct kind *kind, unsigned i)
+static double instructions_of(const struct call_kind *call_kind, unsigned i)
 {
-    return (double)(counted_of(kind, i) - counted_of(kind, NOTHING)) / kind->times;
+    return (double)(counted_of(call_kind, i) - counted_of(call_kind, NOTHING)) / call_kind->times;
 }
 
 /* ---- stack */
@@ -401,16 +401,16 @@ static uint64_t written(unsigned i)
 static double peer_most = HUGE_VAL;
 
 /* Puts the tables into the kind's state; ends the program if a call does not do what it should. */
-static void prepare(const struct kind *kind)
+static void prepare(const struct call_kind *call_kind)
 {
     worst = 0;
     for (unsigned i = 0; i < COMPARED; i++) {
-        kind->prepare(i);
+        call_kind->prepare(i);
         memcpy(state[i], table[i], TABLE);
-        for (unsigned k = 0; k < kind->times; k++)
-            kind->run(i);
-        if (worst != 0 || written(i) != kind->written) {
-            printf("%s: library %u answered %llu and wrote %llu bytes\n", kind->name, i,
+        for (unsigned k = 0; k < call_kind->times; k++)
+            call_kind->run(i);
+        if (worst != 0 || written(i) != call_kind->written) {
+            printf("%s: library %u answered %llu and wrote %llu bytes\n", call_kind->name, i,
                    (unsigned long long)worst, (unsigned long long)written(i));
             exit(1);
         }
@@ -423,17 +423,17 @@ static void end_row(bool good)
     fflush(stdout);
 }
 
-static bool measure_time(const struct kind *kind, double nothing)
+static bool measure_time(const struct call_kind *call_kind, double nothing)
 {
     static double times[COMPARED][ROUNDS_MOST];
     static struct ratio independent, peer;
     unsigned rounds = 0;
     double quick[COMPARED];
-    prepare(kind);
-    one_round(kind, nothing, quick); /* warms up */
+    prepare(call_kind);
+    one_round(call_kind, nothing, quick); /* warms up */
     independent.spread = peer.spread = 100;
     while (rounds < ROUNDS_MOST && (rounds < ROUNDS_LEAST || independent.spread > STEADY || peer.spread > STEADY)) {
-        one_round(kind, nothing, quick);
+        one_round(call_kind, nothing, quick);
         for (unsigned i = 0; i < COMPARED; i++)
             times[i][rounds] = quick[i];
         add_round(&independent, rounds, quick[PRODUCT], quick[INDEPENDENT]);
@@ -441,32 +441,32 @@ static bool measure_time(const struct kind *kind, double nothing)
         rounds += 1;
     }
     bool good = independent.median <= RATIO_MOST && independent.spread <= STEADY && peer.median <= peer_most;
-    printf("%-40s %8.0f %8.0f %6.2f %5.1f %% %8.0f %6.2f %5.1f %% %6u", kind->name, at_part(times[PRODUCT], rounds, 0.5),
+    printf("%-40s %8.0f %8.0f %6.2f %5.1f %% %8.0f %6.2f %5.1f %% %6u", call_kind->name, at_part(times[PRODUCT], rounds, 0.5),
            at_part(times[INDEPENDENT], rounds, 0.5), independent.median, independent.spread, at_part(times[PEER], rounds, 0.5),
            peer.median, peer.spread, rounds);
     end_row(good);
     return good;
 }
 
-static bool measure_work(const struct kind *kind, long bare)
+static bool measure_work(const struct call_kind *call_kind, long bare)
 {
     double instructions[COMPARED];
     long deep[COMPARED];
-    prepare(kind);
+    prepare(call_kind);
     for (unsigned i = 0; i < COMPARED; i++) {
-        instructions[i] = instructions_of(kind, i);
+        instructions[i] = instructions_of(call_kind, i);
         memcpy(table[i], state[i], TABLE);
-        deep[i] = depth(kind->run, i) - bare;
+        deep[i] = depth(call_kind->run, i) - bare;
     }
     bool good = deep[PRODUCT] <= STACK_MOST && instructions[PRODUCT] <= peer_most * instructions[PEER];
-    printf("%-40s %8.0f %8.0f %6.2f %8.0f %6.2f %9ld %7ld %7ld", kind->name, instructions[PRODUCT], instructions[INDEPENDENT],
+    printf("%-40s %8.0f %8.0f %6.2f %8.0f %6.2f %9ld %7ld %7ld", call_kind->name, instructions[PRODUCT], instructions[INDEPENDENT],
            instructions[PRODUCT] / instructions[INDEPENDENT], instructions[PEER], instructions[PRODUCT] / instructions[PEER],
            deep[PRODUCT], deep[INDEPENDENT], deep[PEER]);
     end_row(good);
     return good;
 }
 
-static bool measure_times(const struct kind *kinds, unsigned count)
+static bool measure_times(const struct call_kind *call_kinds, unsigned count)
 {
     double nothing = overhead();
     bool good = true;
@@ -475,11 +475,11 @@ static bool measure_times(const struct kind *kinds, unsigned count)
     printf("%-40s %8s %8s %6s %7s %8s %6s %7s %6s\n", "call", "product", "indep.", "ratio", "spread", "peer", "ratio", "spread",
            "rounds");
     for (unsigned k = 0; k < count; k++)
-        good &= measure_time(&kinds[k], nothing);
+        good &= measure_time(&call_kinds[k], nothing);
     return good;
 }
 
-static bool measure_works(const struct kind *kinds, unsigned count)
+static bool measure_works(const struct call_kind *call_kinds, unsigned count)
 {
     long bare = depth(NULL, 0);
     bool good = true;
@@ -487,33 +487,33 @@ static bool measure_works(const struct kind *kinds, unsigned count)
     printf("%-40s %8s %8s %6s %8s %6s %9s %7s %7s\n", "call", "product", "indep.", "ratio", "peer", "ratio", "stack", "indep.",
            "peer");
     for (unsigned k = 0; k < count; k++)
-        good &= measure_work(&kinds[k], bare);
+        good &= measure_work(&call_kinds[k], bare);
     return good;
 }
 
-static const struct kind *kind_named(const char *name)
+static const struct call_kind *call_kind_named(const char *name)
 {
-    for (unsigned k = 0; k < KIND_COUNT; k++)
-        if (strcmp(KINDS[k].name, name) == 0)
-            return &KINDS[k];
+    for (unsigned k = 0; k < CALL_KIND_COUNT; k++)
+        if (strcmp(CALL_KINDS[k].name, name) == 0)
+            return &CALL_KINDS[k];
     fprintf(stderr, "bench: no call is named %s\n", name);
     exit(2);
 }
 
 int main(int argument_count, char **arguments)
 {
-    const struct kind *kinds = KINDS;
-    unsigned count = KIND_COUNT;
+    const struct call_kind *call_kinds = CALL_KINDS;
+    unsigned count = CALL_KIND_COUNT;
     if (argument_count == 3) {
-        kinds = kind_named(arguments[1]);
+        call_kinds = call_kind_named(arguments[1]);
         count = 1;
         peer_most = atof(arguments[2]);
         printf("the product's ratios to the peer are to be %.1f at most\n", peer_most);
     }
     make_inputs();
     take_traps();
-    bool good = measure_times(kinds, count);
-    good &= measure_works(kinds, count);
+    bool good = measure_times(call_kinds, count);
+    good &= measure_works(call_kinds, count);
     printf("bench: %s\n", good ? "all within what is asked" : "NOT all within what is asked");
     return good ? 0 : 1;
 }

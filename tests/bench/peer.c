@@ -185,9 +185,9 @@ static uint8_t digit(uint32_t value)
 
 /* ---- frames: each is put behind what was written, and the place behind it answered */
 
-static uint8_t *put_record(uint8_t *at, unsigned length, unsigned kind)
+static uint8_t *put_record(uint8_t *at, unsigned length, unsigned record_kind)
 {
-    put_four(at, length | kind << 16);
+    put_four(at, length | record_kind << 16);
     return at + RECORD_HEADER;
 }
 

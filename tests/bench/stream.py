@@ -26,7 +26,7 @@ SEEDS = 200
 def whole_records(seed):
     """A history without what would end the run."""
     records, _ = split(compare.generate.generate(seed, 500))
-    return b"".join(record(kind, payload) for kind, payload in records if len(payload) <= PAYLOAD_LONGEST)
+    return b"".join(record(record_kind, payload) for record_kind, payload in records if len(payload) <= PAYLOAD_LONGEST)
 
 
 def make_input(path, size):

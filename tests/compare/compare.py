@@ -120,7 +120,7 @@ def all_in_one(pair, seeds, records, progress):
 def pieces(data):
     """The records of a history as bytes, with what is left behind the last whole one."""
     records, tail = split(data)
-    parts = [record(kind, payload) for kind, payload in records]
+    parts = [record(record_kind, payload) for record_kind, payload in records]
     return parts + ([tail] if tail else [])
 
 

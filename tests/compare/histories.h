@@ -22,16 +22,16 @@ struct asked {
 
 static struct asked read_asked(const uint8_t *record, size_t length)
 {
-    unsigned kind = record[2] | (unsigned)record[3] << 8;
-    if (kind == 3)
+    unsigned record_kind = record[2] | (unsigned)record[3] << 8;
+    if (record_kind == 3)
         return (struct asked){ START, 0, record, length };
-    if (kind >= 16 && kind < 32)
-        return (struct asked){ OPEN, kind - 16, NULL, 0 };
-    if (kind >= 32 && kind < 48)
-        return (struct asked){ HANG_UP, kind - 32, NULL, 0 };
-    if (kind >= 48 && kind < 64)
-        return (struct asked){ BYTES, kind - 48, record + HEADER, length - HEADER };
-    if (kind == 64)
+    if (record_kind >= 16 && record_kind < 32)
+        return (struct asked){ OPEN, record_kind - 16, NULL, 0 };
+    if (record_kind >= 32 && record_kind < 48)
+        return (struct asked){ HANG_UP, record_kind - 32, NULL, 0 };
+    if (record_kind >= 48 && record_kind < 64)
+        return (struct asked){ BYTES, record_kind - 48, record + HEADER, length - HEADER };
+    if (record_kind == 64)
         return (struct asked){ TICK, 0, NULL, 0 };
     return (struct asked){ RECORD, 0, record, length };
 }

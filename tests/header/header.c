@@ -41,21 +41,21 @@ static void expect_answer(const char *what, uint64_t returned, uint64_t number, 
 }
 
 /* The record at the front of the output. */
-static void expect_record(const char *what, uint64_t kind, uint64_t payload)
+static void expect_record(const char *what, uint64_t record_kind, uint64_t payload)
 {
     expect(what, little(output, 2), payload);
-    expect(what, little(output + 2, 2), kind);
+    expect(what, little(output + 2, 2), record_kind);
 }
 
 #define TABLE table, SERIFLADDER_TABLE_SIZE
 #define OUTPUT output, SERIFLADDER_OUTPUT_SIZE
 #define ANSWER answer, SERIFLADDER_ANSWER_SIZE
 
-static void write_header(uint8_t *record, unsigned payload, unsigned kind)
+static void write_header(uint8_t *record, unsigned payload, unsigned record_kind)
 {
     memset(record, 0, SERIFLADDER_RECORD_HEADER + payload);
     record[0] = (uint8_t)payload;
-    record[2] = (uint8_t)kind;
+    record[2] = (uint8_t)record_kind;
 }
 
 static uint64_t start(unsigned cell, uint32_t last)

@@ -83,8 +83,8 @@ class History:
 
     # ---- records
 
-    def put(self, kind, payload=b""):
-        self.records.append(record(kind, payload))
+    def put(self, record_kind, payload=b""):
+        self.records.append(record(record_kind, payload))
 
     def tick(self):
         self.flush_all()
@@ -343,13 +343,13 @@ class History:
             text[where] = self.pick((0x2F, 0x3A, 0x2D, 0x30, 0x20, 0x39, 0x2C, 0x2E, self.between(0, 255)))
         return bytes(text)
 
-    def bad_payload(self, kind):
+    def bad_payload(self, record_kind):
         """With one of the fields bad, or of another size where that is the last number of the settings, which can't be bad."""
-        fields = self.settings_fields() if kind == SETTINGS else self.tightening_fields()
+        fields = self.settings_fields() if record_kind == SETTINGS else self.tightening_fields()
         name = self.pick(list(fields))
         if name == "last":
-            return self.wrong_size(PAYLOADS[kind].pack(fields))
-        return PAYLOADS[kind].pack({**fields, name: self.bad_value(PAYLOADS[kind].items[name], fields[name])})
+            return self.wrong_size(PAYLOADS[record_kind].pack(fields))
+        return PAYLOADS[record_kind].pack({**fields, name: self.bad_value(PAYLOADS[record_kind].items[name], fields[name])})
 
     def wrong_size(self, payload):
         """One byte too few or too many, or so many that only the upper byte of the length is another."""
@@ -370,8 +370,8 @@ class History:
             self.put(self.pick((TIGHTENING, SCANNED, SETTINGS)),
                      self.wrong_size(self.pick((payload, self.text(), self.settings()))))
         elif sort == 7:  # a kind that no call takes, with a good payload of another
-            kind = self.pick((0, 4, 5, 15, 65, 80, 255, 256, 257, 512, 769, 65535, 258, 259))
-            self.put(kind, self.pick((b"", self.text(), self.settings(), self.tightening_payload())))
+            record_kind = self.pick((0, 4, 5, 15, 65, 80, 255, 256, 257, 512, 769, 65535, 258, 259))
+            self.put(record_kind, self.pick((b"", self.text(), self.settings(), self.tightening_payload())))
         elif sort == 8:  # a good payload under another kind's number
             self.put(TIGHTENING, self.text())
             self.put(SCANNED, self.tightening_payload())

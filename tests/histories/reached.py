@@ -46,26 +46,27 @@ class Reached:
 
     def records(self, records):
         sent = collections.defaultdict(bytes)
-        for kind, payload in records:
-            if BYTES <= kind < BYTES + 4:
-                *runs, sent[kind] = (sent[kind] + payload).split(b"\0")
+        for record_kind, payload in records:
+            if BYTES <= record_kind < BYTES + 4:
+                *runs, sent[record_kind] = (sent[record_kind] + payload).split(b"\0")
                 for run in runs:
                     self.run(run)
-            elif OPEN <= kind < BYTES:
-                sent[BYTES + kind % 16] = b""
-            elif kind in PAYLOADS and len(payload) > PAYLOADS[kind].size and (len(payload) - PAYLOADS[kind].size) % 256 == 0:
+            elif OPEN <= record_kind < BYTES:
+                sent[BYTES + record_kind % 16] = b""
+            elif (record_kind in PAYLOADS and len(payload) > PAYLOADS[record_kind].size
+                  and (len(payload) - PAYLOADS[record_kind].size) % 256 == 0):
                 self.times["a record whose length is wrong in its upper byte only"] += 1
 
     def given_up(self, groups):
         """`groups`: a record's kind, and its lines. A notice that a tick sends for the first time comes behind one given up."""
         newest, in_a_row, whole = {}, collections.Counter(), False
-        for kind, lines in groups:
+        for record_kind, lines in groups:
             for line in lines:
                 found = re.match(r"(\d) S \d{4}(0052|0061)", line)
                 if not found:
                     continue
                 queue = found.groups()
-                if kind != TICK:
+                if record_kind != TICK:
                     in_a_row[queue] = 0
                 elif newest.get(queue) != line:
                     in_a_row[queue] += 1
@@ -78,11 +79,11 @@ class Reached:
 
 def groups_of(program, records):
     """Each record's kind with its lines. Records to sessions that there are not are left out: they print what the marker does."""
-    records = [(kind, payload) for kind, payload in records if not (16 <= kind < 64 and kind % 16 > 3)]
-    data = b"".join(record(kind, payload) + MARKER for kind, payload in records)
+    records = [(record_kind, payload) for record_kind, payload in records if not (16 <= record_kind < 64 and record_kind % 16 > 3)]
+    data = b"".join(record(record_kind, payload) + MARKER for record_kind, payload in records)
     done = subprocess.run([program], input=data, capture_output=True, timeout=60, check=True)
     texts = done.stdout.decode("latin-1").split("R 4\n")
-    return zip((kind for kind, _ in records), (text.split("\n") for text in texts))
+    return zip((record_kind for record_kind, _ in records), (text.split("\n") for text in texts))
 
 
 def main():

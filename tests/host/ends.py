@@ -22,5 +22,5 @@ def ended_by_a_signal(place):
             equal(server.until_closed(), [], "what is sent at the end")
         equal(tool.answer(), None, "what the tool is told at the end")
         equal(os.path.exists(place.tool_path), False, "the tool's socket file stands yet")
-        kinds = [kind for kind, _ in place.journaled()]
-        equal([kinds.count(HANG_UP + session) for session in range(4)], [run + 1, run + 1, run + 1, 0], "hang-ups of each session")
+        record_kinds = [record_kind for record_kind, _ in place.journaled()]
+        equal([record_kinds.count(HANG_UP + session) for session in range(4)], [run + 1, run + 1, run + 1, 0], "hang-ups of each session")

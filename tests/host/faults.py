@@ -30,7 +30,7 @@ NUMBER_KEPT = """\
         state_keep(++last);
 """
 RECORD_JOURNALED = """\
-    journal_record(journal_kind(kind), record + SERIFLADDER_RECORD_HEADER, length - SERIFLADDER_RECORD_HEADER);
+    journal_record(journal_record_kind(record_kind), record + SERIFLADDER_RECORD_HEADER, length - SERIFLADDER_RECORD_HEADER);
 """
 RESULT_SENT = """\
     if (numbered)
@@ -73,8 +73,8 @@ FAULTS = [
      NUMBER_KEPT + RECORD_JOURNALED + RESULT_SENT,
      NUMBER_KEPT.replace("state_keep(++last)", "++last") + RECORD_JOURNALED + RESULT_SENT + NUMBER_KEPT.replace("++last", "last")),
     ("journal written after sending", "no-room-for-the-journal", "calls.c",
-     "    journal_record(kind, payload, length);\n    carry_out(answer.written);",
-     "    carry_out(answer.written);\n    journal_record(kind, payload, length);"),
+     "    journal_record(record_kind, payload, length);\n    carry_out(answer.written);",
+     "    carry_out(answer.written);\n    journal_record(record_kind, payload, length);"),
     ("a fifth let in", "four-servers-and-a-fifth", "links.c",
      "    const char *why = why_refused(&address, s < SERIFLADDER_SESSIONS);",
      '    if (s == SERIFLADDER_SESSIONS)\n        hang_up(&links[--s], "room is made");\n'
@@ -82,7 +82,7 @@ FAULTS = [
     ("rest of a slice not passed on", "many-messages-in-one-segment", "links.c",
      "for (size_t at = 0; at < (size_t)length && link->socket >= 0;) {", "for (size_t at = 0; at == 0 && link->socket >= 0;) {"),
     ("output of one session to another", "four-servers-and-a-fifth", "calls.c",
-     "links_send(kind - SERIFLADDER_FRAME,", "links_send((kind - SERIFLADDER_FRAME) & 2,"),
+     "links_send(record_kind - SERIFLADDER_FRAME,", "links_send((record_kind - SERIFLADDER_FRAME) & 2,"),
     ("ticks not made up for", "ticks-are-made-up-for", "main.c", "timer->next += timer->period;", "timer->next = now() + timer->period;"),
     ("all missed ticks made up for", "a-stall-of-the-host", "main.c", "late / timer->period - MADE_UP_GREATEST;", "0;"),
     ("a flood heard to its end", "the-tools-answer-beside-flooders", "links.c", SHARES,
@@ -116,12 +116,12 @@ FAULTS = [
     ("stale output kept over a hang-up", "a-peer-that-stops-reading", "links.c", "    link->waiting.length = 0;\n", ""),
     ("a hang-up that the library is not told", "a-link-cut-with-a-notice-open", "links.c",
      "    call_hang_up((unsigned)(link - links));\n    close_link(link, why);", "    close_link(link, why);"),
-    ("a close record not carried out", "silence-until-the-time-out", "calls.c", "links_close(kind - SERIFLADDER_CLOSE);", ";"),
+    ("a close record not carried out", "silence-until-the-time-out", "calls.c", "links_close(record_kind - SERIFLADDER_CLOSE);", ";"),
     ("ticks not journaled", "the-journal-replays", "calls.c",
      'settle_done("a tick", serifladder_tick(LENT, ANSWER), JOURNAL_TICK, NULL, 0);',
      "serifladder_tick(LENT, ANSWER);\n    carry_out(read_answer(answer_bytes).written);"),
     ("a tool's record journaled as another call", "refused-tool-records", "calls.c",
-     "journal_record(journal_kind(kind),", "(void)journal_kind;\n    journal_record(kind,"),
+     "journal_record(journal_record_kind(record_kind),", "(void)journal_record_kind;\n    journal_record(record_kind,"),
     ("a peer that does not read is waited for", "a-peer-that-stops-reading", "links.c",
      'link->failed = "64 KiB wait for it, and it does not read";', "link->waiting.length = 0;"),
     ("sessions not hung up at the end", "ended-by-a-signal", "main.c", "    links_end();\n", ""),
@@ -144,7 +144,7 @@ FAULTS = [
     ("the table of a part kept too late", "parts-replayed-alone", "calls.c",
      "    journal_prepare(table);\n    uint64_t number = serifladder_bytes(LENT, session, bytes, length, ANSWER);",
      "    uint64_t number = serifladder_bytes(LENT, session, bytes, length, ANSWER);\n    journal_prepare(table);"),
-    ("what repeats is written to the log", "lines-that-repeat", "log.c", "kind->said < LINES_A_SECOND", "kind->said + 1 > 0"),
+    ("what repeats is written to the log", "lines-that-repeat", "log.c", "line_kind->said < LINES_A_SECOND", "line_kind->said + 1 > 0"),
     ("a refusal not printed", "generated-histories-replayed", "replay.c", "answer->number != SERIFLADDER_DONE", "answer->number > 8"),
     ("received bytes replayed to the first NUL only", "generated-histories-replayed", "replaying.c",
      "answer.number == SERIFLADDER_DONE && length > 0", "answer.number != SERIFLADDER_DONE && length > 0"),

@@ -501,17 +501,17 @@ class Place:
         return sum(map(os.path.getsize, self.journal_parts()))
 
     def journaled(self):
-        """The journal's whole records, as (kind, payload)."""
+        """The journal's whole records, as (record kind, payload)."""
         return split(self.journal_bytes())[0]
 
     def ticks(self):
-        return sum(kind == TICK for kind, _ in self.journaled())
+        return sum(record_kind == TICK for record_kind, _ in self.journaled())
 
     def wait_for_journal(self, condition, what):
         wait(lambda: condition(self.journaled()), "journal: " + what)
 
     def wait_for_hang_up(self, session, times=1):
-        self.wait_for_journal(lambda records: sum(kind == HANG_UP + session for kind, _ in records) >= times,
+        self.wait_for_journal(lambda records: sum(record_kind == HANG_UP + session for record_kind, _ in records) >= times,
                               "hang-up %d of session %d" % (times, session))
 
     def own_replayed(self, data, table=None):
@@ -524,9 +524,10 @@ class Place:
         records, rest = split(self.journal_bytes())
         equal(rest, b"", "bytes behind the journal's last whole record")
         # An open of a session that is none is refused with 4 and alters nothing: it marks each opening in what is printed.
-        marked = b"".join((MARK if OPEN <= kind < OPEN + SESSIONS else b"") + record(kind, payload) for kind, payload in records)
+        marked = b"".join((MARK if OPEN <= record_kind < OPEN + SESSIONS else b"") + record(record_kind, payload)
+                          for record_kind, payload in records)
         done = subprocess.run([self.replay], input=marked, stdout=subprocess.PIPE, timeout=SECONDS, check=True)
-        sessions = iter([kind - OPEN for kind, _ in records if OPEN <= kind < OPEN + SESSIONS])
+        sessions = iter([record_kind - OPEN for record_kind, _ in records if OPEN <= record_kind < OPEN + SESSIONS])
         openings, now, refusals = [], {}, []
         for line in done.stdout.split(b"\n")[:-1]:
             if line == b"R 4":

@@ -115,10 +115,10 @@ class Play:
     def taken(self):
         """The results that were taken, as (server, number)."""
         servers, answers, now = iter(self.servers), iter(self.answers), {}
-        for kind, payload in self.place.journaled():
-            if OPEN <= kind < HANG_UP:
-                now[kind - OPEN] = next(servers)
-            elif kind == TIGHTENING:
+        for record_kind, payload in self.place.journaled():
+            if OPEN <= record_kind < HANG_UP:
+                now[record_kind - OPEN] = next(servers)
+            elif record_kind == TIGHTENING:
                 sessions, number = re.fullmatch(r"0 done, taken by (none|[0-3 ]+), number (\d+)", next(answers)).groups()
                 yield from ((now[int(session)], int(number)) for session in sessions.split() if session != "none")
 
@@ -169,27 +169,27 @@ class Generated:
         self.now = {}  # by the history's session; which session the host gives is its own affair
         self.servers = []
         self.refusals = []
-        for kind, payload in split(generate.generate(seed, records))[0]:
-            self.happen(kind, payload.replace(b"\n", b" "))  # a line is a frame in what replay prints
+        for record_kind, payload in split(generate.generate(seed, records))[0]:
+            self.happen(record_kind, payload.replace(b"\n", b" "))  # a line is a frame in what replay prints
         self.tool.close()
         place.finish(self.host, self.servers, self.refusals)
         for server in self.servers:
             server.close()
 
-    def happen(self, kind, payload):
-        session = kind % 16
+    def happen(self, record_kind, payload):
+        session = record_kind % 16
         server = self.now.get(session)
-        if kind in (TIGHTENING, SCANNED):
-            answer = self.tool.give(record(kind, payload))
+        if record_kind in (TIGHTENING, SCANNED):
+            answer = self.tool.give(record(record_kind, payload))
             if not answer.startswith("0 "):
                 self.refusals.append(int(answer[:1]))
-        elif OPEN <= kind < HANG_UP:
+        elif OPEN <= record_kind < HANG_UP:
             if server is None and len(self.now) < 4:
                 self.open(session)
-        elif HANG_UP <= kind < BYTES:
+        elif HANG_UP <= record_kind < BYTES:
             if server is not None:
                 self.end(session)
-        elif BYTES <= kind < TICK and server is not None:
+        elif BYTES <= record_kind < TICK and server is not None:
             with contextlib.suppress(ConnectionError):
                 server.send(payload)
             in_time = InTime("what was sent is read")
@@ -203,7 +203,7 @@ class Generated:
         openings = len(self.servers) + 1
         server = self.now[session] = self.place.server(self.host)
         self.servers.append(server)
-        self.place.wait_for_journal(lambda records: sum(OPEN <= kind < HANG_UP for kind, _ in records) == openings,
+        self.place.wait_for_journal(lambda records: sum(OPEN <= record_kind < HANG_UP for record_kind, _ in records) == openings,
                                     "opening %d" % openings)
 
     def end(self, session):
@@ -239,7 +239,8 @@ def the_journal_in_parts(place):
         written = content(path)
         records, rest = split(written)
         equal(rest, b"", "bytes behind the last whole record of part %d" % i)
-        equal([k for k, (kind, _) in enumerate(records) if kind == SETTINGS], [0] if i == 0 else [], "start records of part %d" % i)
+        equal([k for k, (record_kind, _) in enumerate(records) if record_kind == SETTINGS], [0] if i == 0 else [],
+              "start records of part %d" % i)
         if path != place.journal:
             check(3000 <= len(written) < 3000 + 4 + 8192, "part %d has %d bytes", i, len(written))
     kept = place.journal_bytes()
@@ -305,7 +306,7 @@ def a_file_that_is_no_journal(place):
         if cut:
             equal(content(aside + ".cut"), other, "what was cut off")
             os.remove(aside)
-        equal([kind for kind, _ in split(content(place.journal))[0]], [SETTINGS], "kinds of records in the new journal")
+        equal([record_kind for record_kind, _ in split(content(place.journal))[0]], [SETTINGS], "kinds of records in the new journal")
         os.remove(place.journal)
     equal(place.host().end(), 0, "status of a further run")
     equal([os.path.basename(path) for path in place.journal_parts()], ["journal.1", "journal"], "files")

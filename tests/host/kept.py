@@ -18,10 +18,10 @@ from harness import (BYTES, GREATEST_NUMBER, SETTINGS, TIGHTENING, InTime, Skipp
 def runs_of_the_host(records):
     """The last number with which each run of the host began, and how many tightenings it journaled."""
     runs = []
-    for kind, payload in records:
-        if kind == SETTINGS:
+    for record_kind, payload in records:
+        if record_kind == SETTINGS:
             runs.append([fields_of(SETTINGS, payload)["last"], 0])
-        elif kind == TIGHTENING:
+        elif record_kind == TIGHTENING:
             runs[-1][1] += 1
     return runs
 
@@ -218,7 +218,7 @@ def no_room_for_the_journal(place):
             server.fence()
             mirrored += 1
     ends_without_a_word(place, host, server, None, place.journal)
-    journaled = sum(payload[4:8] == b"9999" for kind, payload in place.journaled() if kind == BYTES)
+    journaled = sum(payload[4:8] == b"9999" for record_kind, payload in place.journaled() if record_kind == BYTES)
     check(mirrored > 10, "only %d messages had room in the journal: this shows too little", mirrored)
     equal(mirrored, journaled, "messages that were answered, and not as many journaled")
 

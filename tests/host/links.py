@@ -25,10 +25,10 @@ REPLIES = [b"00570002001         010012020303LINE4" + b" " * 20, b"00240005001  
 def wait_for_bytes(place, opening, count):
     """Waits until the host has read so many bytes since the session's opening, which is given by its number."""
     def read(records):
-        places = [i for i, (kind, _) in enumerate(records) if kind == OPEN]
+        places = [i for i, (record_kind, _) in enumerate(records) if record_kind == OPEN]
         if len(places) < opening:
             return False
-        return sum(len(payload) for kind, payload in records[places[opening - 1]:] if kind == BYTES) >= count
+        return sum(len(payload) for record_kind, payload in records[places[opening - 1]:] if record_kind == BYTES) >= count
     place.wait_for_journal(read, "%d bytes" % count)
 
 
@@ -91,10 +91,10 @@ def four_servers_and_a_fifth(place):
     equal(place.server(host).until_closed(), [], "what a fifth is sent again")
 
 
-def ticks_since(records, kind):
+def ticks_since(records, record_kind):
     """The ticks behind the last record of that kind."""
-    kinds = [k for k, _ in records]
-    return kinds[len(kinds) - kinds[::-1].index(kind):].count(TICK)
+    record_kinds = [k for k, _ in records]
+    return record_kinds[len(record_kinds) - record_kinds[::-1].index(record_kind):].count(TICK)
 
 
 @test
@@ -134,7 +134,7 @@ def silence_until_the_time_out(place):
     speaking.start()
     silent.start()
     unstarted.tell(openprotocol.SUBSCRIBE_RESULTS)
-    place.wait_for_journal(lambda records: any(kind == BYTES + 2 for kind, _ in records), "the unstarted one's message")
+    place.wait_for_journal(lambda records: any(record_kind == BYTES + 2 for record_kind, _ in records), "the unstarted one's message")
     for quiet, session, spoken in ((silent, 1, BYTES + 1), (unstarted, 2, OPEN + 2)):
         # The other end speaks on while this one is waited for.
         quiet.link.settimeout(tick)
@@ -454,7 +454,7 @@ def runs_too_long_again_and_again(place):
         place.wait_for_hang_up(1, hung_up + 1)
         equal(host.log().count("too long again and again"), hung_up + 1, "lines that say so")
     equal(good.fence(), [], "something besides")
-    brought = sum(len(payload) for kind, payload in place.journaled() if kind == BYTES + 1)
+    brought = sum(len(payload) for record_kind, payload in place.journaled() if record_kind == BYTES + 1)
     check(brought < 200_000, "%d bytes of them were journaled", brought)
 
 

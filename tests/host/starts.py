@@ -212,7 +212,7 @@ def log_and_journal_opened_again(place):
     wait(lambda: "tool: tightening 1" in host.log(), "a line in the new log")
     check("listening on" in content(old).decode() and "listening on" not in host.log(), "the lines are in the wrong log")
     kept = split(content(place.journal + "-old"))[0]
-    equal([kind for kind, _ in kept if kind != TICK][0], SETTINGS, "the first record of the journal that was renamed")
+    equal([record_kind for record_kind, _ in kept if record_kind != TICK][0], SETTINGS, "the first record of the journal that was renamed")
     equal(host.end(), 0, "status")
 
 
@@ -249,7 +249,7 @@ def the_time_of_day_beside_the_journal(place):
         records = split(content(place.journal))[0]
         ends = [0, *itertools.accumulate(4 + len(payload) for _, payload in records)]
         told = [(int(line.split()[0]), line.split()[1]) for line in read()[len(lines):]]
-        ticks = [sum(kind == TICK for kind, _ in records[ends.index(told[0][0]):ends.index(at)]) for at, _ in told]
+        ticks = [sum(record_kind == TICK for record_kind, _ in records[ends.index(told[0][0]):ends.index(at)]) for at, _ in told]
         equal(ticks, [60 * i for i in range(len(told))], "ticks of run %d before each line" % run)
         times = [calendar.timegm(time.strptime(text, "%Y-%m-%dT%H:%M:%SZ")) for _, text in told]
         check(began <= times[0] and times == sorted(times) and times[-1] <= time.time(), "times: %s", told)

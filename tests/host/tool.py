@@ -260,8 +260,8 @@ def records_with_a_serial(place):
         equal(tool.give(with_serial(3, record(0))), done("0", 2), "answer to the last serial of an earlier run")
         equal(servers[-1].fence(), [], "something besides")
     place.finish(host, servers, [7] * (len(bad) + 2))
-    kinds = [kind for kind, _ in place.journaled() if kind in (TIGHTENING, SCANNED)]
-    equal(kinds, [TIGHTENING, SCANNED, TIGHTENING, TIGHTENING], "what was journaled of them")  # the third is the refused one
+    record_kinds = [record_kind for record_kind, _ in place.journaled() if record_kind in (TIGHTENING, SCANNED)]
+    equal(record_kinds, [TIGHTENING, SCANNED, TIGHTENING, TIGHTENING], "what was journaled of them")  # the third is the refused one
 
 
 @test
@@ -306,10 +306,10 @@ def told_again(place, serial, kill):
 def check_told_again(place, numbers, kills):
     """Each tightening stands in the journal once, under the number that was answered; a kill uses up one number at most."""
     journaled, last = {}, 0
-    for kind, payload in place.journaled():
-        if kind == SETTINGS:
+    for record_kind, payload in place.journaled():
+        if record_kind == SETTINGS:
             last = fields_of(SETTINGS, payload)["last"]
-        elif kind == TIGHTENING:
+        elif record_kind == TIGHTENING:
             last += 1
             journaled.setdefault(payload, []).append(last)
     lost = sum(tightening_record(tightening_fields(serial))[4:] not in journaled for serial in numbers)

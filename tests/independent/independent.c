@@ -274,19 +274,19 @@ static void put_number_in(uint8_t *source, enum field_name name, uint32_t value)
 
 enum {
     RECORD_HEADER_BYTES = 4,
-    KIND_TIGHTENING = 1,
-    KIND_SCANNED = 2,
-    KIND_SETTINGS = 3,
-    KIND_FRAME = 256,
-    KIND_CLOSE = 512
+    RECORD_KIND_TIGHTENING = 1,
+    RECORD_KIND_SCANNED = 2,
+    RECORD_KIND_SETTINGS = 3,
+    RECORD_KIND_FRAME = 256,
+    RECORD_KIND_CLOSE = 512
 };
 
 /* Is the slice exactly one record of this kind with a payload of this size? */
-static bool is_record(const uint8_t *slice, size_t length, uint32_t kind, size_t payload)
+static bool is_record(const uint8_t *slice, size_t length, uint32_t record_kind, size_t payload)
 {
     return length == RECORD_HEADER_BYTES + payload
         && little_endian(slice, 2) == payload
-        && little_endian(slice + 2, 2) == kind;
+        && little_endian(slice + 2, 2) == record_kind;
 }
 
 /* Are the fields of a payload good, from the first to the last? */
@@ -474,13 +474,13 @@ struct output {
 
 /* By the rules a call writes at most 4 x (133 + 236) bytes; what would not fit is
    left out rather than written past the end. */
-static void put_record(struct output *output, unsigned kind, const uint8_t *payload, size_t length)
+static void put_record(struct output *output, unsigned record_kind, const uint8_t *payload, size_t length)
 {
     if (RECORD_HEADER_BYTES + length > sizeof output->bytes - output->written)
         return;
     struct writer writer = { output->bytes + output->written };
     put_number(&writer, 2, (uint32_t)length);
-    put_number(&writer, 2, kind);
+    put_number(&writer, 2, record_kind);
     if (length > 0)
         put_bytes(&writer, payload, length);
     output->written += RECORD_HEADER_BYTES + length;
@@ -533,7 +533,7 @@ static void send_frame(struct output *output, unsigned s, struct frame *frame)
 {
     write_digits(frame->bytes, 4, (uint32_t)frame->length);
     add_filling(frame, 0, 1);
-    put_record(output, KIND_FRAME + s, frame->bytes, frame->length);
+    put_record(output, RECORD_KIND_FRAME + s, frame->bytes, frame->length);
 }
 
 static void send_accepted(struct output *output, unsigned s, unsigned mid)
@@ -618,7 +618,7 @@ static void send_mirrored(struct output *output, unsigned s, const uint8_t *mess
     struct frame frame = { .length = 0 };
     add_bytes(&frame, message, HEADER_BYTES);
     add_filling(&frame, 0, 1);
-    put_record(output, KIND_FRAME + s, frame.bytes, frame.length);
+    put_record(output, RECORD_KIND_FRAME + s, frame.bytes, frame.length);
 }
 
 /* ---------------------------------------------------------------- notices */
@@ -833,7 +833,7 @@ static void tick_session(struct state *state, unsigned s, struct output *output)
         for (unsigned kind = 0; kind < KINDS; kind++)
             tick_notice(state, s, (enum kind)kind, output);
     if (over) {
-        put_record(output, KIND_CLOSE + s, NULL, 0);
+        put_record(output, RECORD_KIND_CLOSE + s, NULL, 0);
         clear_session(session, CLOSED, KEPT_THROUGH_TIME_OUT);
     }
 }
@@ -1280,7 +1280,7 @@ uint64_t independent_start(uint8_t *table, size_t table_len,
         return ANSWER_SHORT;
     if (table_len < INDEPENDENT_TABLE_BYTES)
         return refuse(answer, TABLE_SHORT);
-    if (!is_record(settings, settings_len, KIND_SETTINGS, SETTINGS_BYTES)
+    if (!is_record(settings, settings_len, RECORD_KIND_SETTINGS, SETTINGS_BYTES)
         || !fields_good(settings + RECORD_HEADER_BYTES, CELL, LAST))
         return refuse(answer, SETTINGS_BAD);
     memcpy(state.settings, settings + RECORD_HEADER_BYTES, SETTINGS_BYTES);
@@ -1383,7 +1383,7 @@ uint64_t independent_tick(uint8_t *table, size_t table_len,
 static uint64_t judge_tightening(const struct state *state, const uint8_t *record, size_t length)
 {
     bool used_up = number_in(state->settings, LAST) == LAST_NUMBER_GREATEST;
-    if (!is_record(record, length, KIND_TIGHTENING, TIGHTENING_BYTES))
+    if (!is_record(record, length, RECORD_KIND_TIGHTENING, TIGHTENING_BYTES))
         return RECORD_BAD;
     if (FAULT == EIGHT_BEFORE_SEVEN && used_up)
         return NUMBERS_USED_UP;
@@ -1394,7 +1394,7 @@ static uint64_t judge_tightening(const struct state *state, const uint8_t *recor
 
 static bool is_scanned(const uint8_t *record, size_t length)
 {
-    return is_record(record, length, KIND_SCANNED, TEXT_BYTES)
+    return is_record(record, length, RECORD_KIND_SCANNED, TEXT_BYTES)
         && fields_good(record + RECORD_HEADER_BYTES, IDENTIFIER_TEXT, IDENTIFIER_TEXT);
 }
 

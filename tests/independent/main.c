@@ -9,13 +9,13 @@
 enum {
     HEADER = 4,
     PAYLOAD_GREATEST = 8192,
-    KIND_SETTINGS = 3,
-    KIND_OPEN = 16,
-    KIND_HANG_UP = 32,
-    KIND_BYTES = 48,
-    KIND_TICK = 64,
-    KIND_FRAME = 256,
-    KIND_CLOSE = 512,
+    RECORD_KIND_SETTINGS = 3,
+    RECORD_KIND_OPEN = 16,
+    RECORD_KIND_HANG_UP = 32,
+    RECORD_KIND_BYTES = 48,
+    RECORD_KIND_TICK = 64,
+    RECORD_KIND_FRAME = 256,
+    RECORD_KIND_CLOSE = 512,
     STREAM_BUFFER = 1 << 16
 };
 
@@ -63,11 +63,11 @@ static void print_output(size_t written)
     size_t at = 0;
     while (at + HEADER <= written) {
         size_t length = two_bytes(output + at);
-        unsigned kind = two_bytes(output + at + 2);
-        if (kind >= KIND_CLOSE)
-            printf("%u C\n", kind - KIND_CLOSE);
+        unsigned record_kind = two_bytes(output + at + 2);
+        if (record_kind >= RECORD_KIND_CLOSE)
+            printf("%u C\n", record_kind - RECORD_KIND_CLOSE);
         else
-            print_frame(kind - KIND_FRAME, output + at + HEADER, length);
+            print_frame(record_kind - RECORD_KIND_FRAME, output + at + HEADER, length);
         at += HEADER + length;
     }
 }
@@ -96,20 +96,20 @@ static void receive(unsigned session, const uint8_t *bytes, size_t length)
     } while (at < length);
 }
 
-static void serve(unsigned kind, size_t length)
+static void serve(unsigned record_kind, size_t length)
 {
-    unsigned session = kind % 16;
-    if (kind == KIND_SETTINGS)
+    unsigned session = record_kind % 16;
+    if (record_kind == RECORD_KIND_SETTINGS)
         report(independent_start(table, sizeof table, record, length, answer, sizeof answer));
-    else if (kind >= KIND_OPEN && kind < KIND_HANG_UP)
+    else if (record_kind >= RECORD_KIND_OPEN && record_kind < RECORD_KIND_HANG_UP)
         report(independent_open(table, sizeof table, output, sizeof output, session,
                                 answer, sizeof answer));
-    else if (kind >= KIND_HANG_UP && kind < KIND_BYTES)
+    else if (record_kind >= RECORD_KIND_HANG_UP && record_kind < RECORD_KIND_BYTES)
         report(independent_hang_up(table, sizeof table, output, sizeof output, session,
                                    answer, sizeof answer));
-    else if (kind >= KIND_BYTES && kind < KIND_TICK)
+    else if (record_kind >= RECORD_KIND_BYTES && record_kind < RECORD_KIND_TICK)
         receive(session, record + HEADER, length - HEADER);
-    else if (kind == KIND_TICK)
+    else if (record_kind == RECORD_KIND_TICK)
         report(independent_tick(table, sizeof table, output, sizeof output,
                                 answer, sizeof answer));
     else

@@ -171,7 +171,7 @@ def test_seconds():
                 silent = now - at - ticked
                 expect("%s: seconds folded before %d s, %s" % (name, now, label), fold, silent if silent > 1 else 0)
                 at, fold = now, 0
-        done = len([kind for kind, _ in split(data)[0] if kind == TICK])
+        done = len([record_kind for record_kind, _ in split(data)[0] if record_kind == TICK])
         refused = sum(1 for label in labels(draw(data)) if label.startswith("tick: refused"))
         expect("%s: ticks done" % name, at + fold, done - refused)
 
@@ -310,10 +310,10 @@ def held(story, number, session):
 
 def ends(story):
     """Each record that ends a session, and the session."""
-    for number, (kind, _) in enumerate(story.records, 1):
-        if HANG_UP <= kind < HANG_UP + 4 and not any(row.refused for row in story.rows[number]):
-            yield number, kind - HANG_UP
-        elif kind == TICK:
+    for number, (record_kind, _) in enumerate(story.records, 1):
+        if HANG_UP <= record_kind < HANG_UP + 4 and not any(row.refused for row in story.rows[number]):
+            yield number, record_kind - HANG_UP
+        elif record_kind == TICK:
             for row in story.rows[number]:
                 if row.word == "close":
                     yield number, row.session()

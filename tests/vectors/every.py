@@ -33,12 +33,12 @@ def is_time(text):
     return all(byte == marks[place] if place in marks else byte in DIGITS for place, byte in enumerate(text))
 
 
-def is_good(kind, fields):
+def is_good(record_kind, fields):
     """Whether a record of that kind may have these fields."""
     def good(item, value):
         return value <= item.greatest if item.sort == NUMBER else is_text(value) if item.sort == TEXT else is_time(value)
 
-    return all(good(item, fields[name]) for name, item in PAYLOADS[kind].items.items())
+    return all(good(item, fields[name]) for name, item in PAYLOADS[record_kind].items.items())
 
 
 def read_header(run):
@@ -76,12 +76,12 @@ class Case:
         self.records, self.lines, self.last, self.in_force, self.granted = [], [], LAST, SPACES, granted
         self.give(SETTINGS, {**GOOD_SETTINGS, "granted": granted})
 
-    def put(self, kind, payload=b""):
-        self.records.append(record(kind, payload))
+    def put(self, record_kind, payload=b""):
+        self.records.append(record(record_kind, payload))
 
-    def give(self, kind, fields):
+    def give(self, record_kind, fields):
         """A record with these fields."""
-        self.put(kind, PAYLOADS[kind].pack(fields))
+        self.put(record_kind, PAYLOADS[record_kind].pack(fields))
 
     def expect(self, frame, s=0):
         self.lines.append("%d S %s" % (s, frame.decode("latin-1").replace(" ", "_")))
@@ -330,7 +330,7 @@ def settings():
 
 
 def good_payloads():
-    return [(kind, items.pack(items.usual())) for kind, items in PAYLOADS.items()]
+    return [(record_kind, items.pack(items.usual())) for record_kind, items in PAYLOADS.items()]
 
 
 def record_lengths():
@@ -338,11 +338,11 @@ def record_lengths():
     case = Alone()
     case.begin(*FREE)
     case.flush()
-    for kind, good in good_payloads():
+    for record_kind, good in good_payloads():
         for size in [*range(700), *(len(good) + 256 * times for times in range(3, 32))]:
             if size != len(good):
-                case.put(kind, (good + b" " * size)[:size])
-                case.refused(9 if kind == SETTINGS else 7)
+                case.put(record_kind, (good + b" " * size)[:size])
+                case.refused(9 if record_kind == SETTINGS else 7)
     case.scan(filled("S"))
     case.tighten(tightening_fields(identifier=b"T"))
     return case.named("every length of a record")
@@ -351,8 +351,8 @@ def record_lengths():
 def record_kinds():
     """Kinds that no call takes, with payloads of those that are taken and with none."""
     case = Case()
-    for kind, payload in [*good_payloads(), (0, b"")]:
-        for other in [*range(16), *range(65, 1100), *(kind + 256 * times for times in range(5, 256)), 65535]:
+    for record_kind, payload in [*good_payloads(), (0, b"")]:
+        for other in [*range(16), *range(65, 1100), *(record_kind + 256 * times for times in range(5, 256)), 65535]:
             if other not in PAYLOADS:
                 case.put(other, payload)
                 case.refused(7)

@@ -8,7 +8,7 @@ use mathlib.Core.Option.{Option, none, Option·map as option-map}
 use lib.ListN.{length}
 use Rattle.model.specs.Limits.{identifier-length}
 use Rattle.model.specs.Records.{payload, good-record, identifier-in, tightening-of, tightening-items, scanned-items, Tool, tightening}
-use Rattle.model.specs.Records.{tightening-kind, tightening-length, scanned-kind, read-tool}
+use Rattle.model.specs.Records.{tightening-record-kind, tightening-length, scanned-record-kind, read-tool}
 use Rattle.model.specs.Kinds.{identifiers, tightenings, event-most, call-most}
 use Rattle.model.proofs.Bounds.{event-within}
 use Rattle.model.specs.Events.{Event, identified, tightened}
@@ -42,22 +42,24 @@ module _ (record-kind : RecordKind) (slice : List ℕ) (e : tool-in record-kind 
   pub tightening-size : {p : List ℕ} → p ≡ payload slice → record-kind ≡ Tightening → length p ≡ tightening-length
   unfolding read-tool
   tightening-size q k =
-      ap length q ∙ go (good-record tightening-kind tightening-items slice) (good-record scanned-kind scanned-items slice) refl (read k)
+      ap length q
+      ∙ go (good-record tightening-record-kind tightening-items slice) (good-record scanned-record-kind scanned-items slice) refl (read k)
     where
-      go : (a b : Bool) → good-record tightening-kind tightening-items slice ≡ a → tool-in Tightening slice ≡ by-tests a b
+      go : (a b : Bool) → good-record tightening-record-kind tightening-items slice ≡ a → tool-in Tightening slice ≡ by-tests a b
           → length (payload slice) ≡ tightening-length
-      go true b p q = good-length tightening-kind tightening-items slice p
+      go true b p q = good-length tightening-record-kind tightening-items slice p
       go false true p q = let z : _≡_ {A = ℕ} 0 1 = cc in absurd (omega arith)
       go false false p q = let z : _≡_ {A = ℕ} 0 1 = cc in absurd (omega arith)
 
   pub scan-size : {p : List ℕ} → p ≡ payload slice → record-kind ≡ Scanned → length p ≡ identifier-length
   unfolding read-tool
   scan-size q k =
-      ap length q ∙ go (good-record tightening-kind tightening-items slice) (good-record scanned-kind scanned-items slice) refl (read k)
+      ap length q
+      ∙ go (good-record tightening-record-kind tightening-items slice) (good-record scanned-record-kind scanned-items slice) refl (read k)
     where
-      go : (a b : Bool) → good-record scanned-kind scanned-items slice ≡ b → tool-in Scanned slice ≡ by-tests a b
+      go : (a b : Bool) → good-record scanned-record-kind scanned-items slice ≡ b → tool-in Scanned slice ≡ by-tests a b
           → length (payload slice) ≡ identifier-length
-      go false true p q = good-length scanned-kind scanned-items slice p
+      go false true p q = good-length scanned-record-kind scanned-items slice p
       go true b p q = let z : _≡_ {A = ℕ} 0 1 = cc in absurd (omega arith)
       go false false p q = let z : _≡_ {A = ℕ} 0 1 = cc in absurd (omega arith)
 

@@ -172,7 +172,7 @@ pub fn tool_record(table: &mut [u8], output: &mut [u8], slice: &[u8]) -> Answer
     ensures { λ r. ⌜ Outcome (tool (now (slice .entry))) (now (table .entry)) (now (output .entry)) r (now (table .exit))
         (now (output .exit)) ⌝ }
 {
-    let record_kind = record::tool_kind(slice);
+    let record_kind = record::tool_record_kind(slice);
     let n = refusal::tool_record(table, output.len(), record_kind);
     if n != 0 {
         return refused(n);

@@ -112,7 +112,7 @@ pub record Writable (out : List ℕ) (to : To) (size : ℕ) : Type 0 where
   pub numbered : to .session < 256
 
 -- a payload that stands there up to `end` can become a record, of a kind to which the session's number is added
-pub record Closable (out : List ℕ) (to : To) (kind end : ℕ) : Type 0 where
+pub record Recordable (out : List ℕ) (to : To) (kind end : ℕ) : Type 0 where
   pub output : Writable out to record-head
   pub ends : to .at + record-head ≤ end
   pub few : kind ≤ 512

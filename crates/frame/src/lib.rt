@@ -38,7 +38,7 @@ ghost use Rattle.frame.specs.Output.{
   frame-length,
   heading-of,
   frame-of,
-  Closable,
+  Recordable,
   head-bytes,
   length-0004,
   length-0005,
@@ -555,16 +555,16 @@ pub struct To {
 }
 
 // The kinds of the records to session 0: the session's number is added.
-const FRAME_KIND: u64 = 256;
+const FRAME_RECORD_KIND: u64 = 256;
 
-const CLOSE_KIND: u64 = 512;
+const CLOSE_RECORD_KIND: u64 = 512;
 
 // Where the kind stands, behind the length.
-const KIND_AT: usize = 2;
+const RECORD_KIND_AT: usize = 2;
 
 // Makes an output record of the payload that stands behind the place of its head, up to `end`.
 fn put_record(out: &mut [u8], to: To, kind: u64, end: usize) -> usize
-    requires { ⌜ Closable (now out) to kind end ⌝ }
+    requires { ⌜ Recordable (now out) to kind end ⌝ }
     ensures { λ r. ⌜ (r ≡ end) × Written (now (out .entry)) (to .at) record-head (head-bytes to kind end) (to .at + record-head)
         (now (out .exit)) ⌝ }
 {
@@ -580,7 +580,7 @@ pub fn put_close(out: &mut [u8], to: To) -> usize
     ensures { λ r. ⌜ (r ≡ to .at + record-head)
         × Put (now (out .entry)) (to .at) (close-record (to .session)) r (now (out .exit)) ⌝ }
 {
-    put_record(out, to, CLOSE_KIND, to.at + model::RECORD_HEAD)
+    put_record(out, to, CLOSE_RECORD_KIND, to.at + model::RECORD_HEAD)
 }
 
 // Any frame by its rows, with its NUL.
@@ -593,7 +593,7 @@ fn put_frame(out: &mut [u8], to: To, content: Content, settings: &[u8], told: &[
     let data = put_header(out, to.at + model::RECORD_HEAD, content);
     let nul = put_fields(out, data, content, settings, told);
     let end = text::fill(out, nul, 1, 0);
-    put_record(out, to, FRAME_KIND, end)
+    put_record(out, to, FRAME_RECORD_KIND, end)
 }
 
 // ---- replies
@@ -634,7 +634,7 @@ pub fn put_9999(out: &mut [u8], to: To, run: &[u8]) -> usize
 {
     let at = text::copy(&run[0..HEADER_LENGTH], out, to.at + model::RECORD_HEAD);
     let end = text::fill(out, at, 1, 0);
-    put_record(out, to, FRAME_KIND, end)
+    put_record(out, to, FRAME_RECORD_KIND, end)
 }
 
 // ---- copies of notices
@@ -657,6 +657,6 @@ pub fn put_again(out: &mut [u8], to: To, from: usize) -> usize
         → Put (now (out .entry)) (to .at) (frame-record (to .session) bs) r (now (out .exit))) ⌝ }
 {
     let end = text::repeat(out, from, to.at);
-    text::put_little(out, to.at + KIND_AT, 2, FRAME_KIND + to.session);
+    text::put_little(out, to.at + RECORD_KIND_AT, 2, FRAME_RECORD_KIND + to.session);
     end
 }

@@ -14,7 +14,7 @@ use Rattle.model.specs.Limits.{session-count, table-least, output-least}
 use Rattle.model.specs.Bytes.{space, within, places, little, digits}
 use Rattle.model.specs.Records.{Settings, payload, settings-of, read-settings}
 use Rattle.model.specs.Tests.{_gives_, first}
-use Rattle.model.specs.Frames.{frame-kind, close-kind}
+use Rattle.model.specs.Frames.{frame-record-kind, close-record-kind}
 use Rattle.model.specs.World.{World, begins, begun, after, emitted}
 use Rattle.model.specs.Calls.{Call, start, Lent, is-none, output, Answer, refusal, at-most-one, answered, step, run}
 use Rattle.model.specs.Row.{Tagged}
@@ -56,9 +56,10 @@ played cs = observed (run (zeros .world) (map (λ c. (long-enough, c)) cs))
 -- the line of a record that was read
 abbrev line-read : RecordRead → List ℕ
 line-read r =
-    cond (within (frame-kind 0) (frame-kind (session-count - 1)) (r .record-kind))
-    (digits 1 (r .record-kind - frame-kind 0) ++ (space ∷ 0x53 ∷ space ∷ []) ++ underlined (take (length (r .payload) - 1) (r .payload)))
-    (digits 1 (r .record-kind - close-kind 0) ++ (space ∷ 0x43 ∷ []))
+    cond (within (frame-record-kind 0) (frame-record-kind (session-count - 1)) (r .record-kind))
+    (digits 1 (r .record-kind - frame-record-kind 0) ++ (space ∷ 0x53 ∷ space ∷ [])
+    ++ underlined (take (length (r .payload) - 1) (r .payload)))
+    (digits 1 (r .record-kind - close-record-kind 0) ++ (space ∷ 0x43 ∷ []))
 
 -- bytes that are cut are a line that no row has
 abbrev lines-read : Option (List RecordRead) → List (List ℕ)

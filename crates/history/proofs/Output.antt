@@ -13,7 +13,7 @@ use borrow.Author.Tests.{eqb-true, eqb-false, eq-eqb, ne-eqb, le-leb}
 use Rattle.model.specs.Limits.{session-count, output-least}
 use Rattle.model.specs.Bytes.{NUL, in-bytes}
 use Rattle.model.specs.Records.{record-head, house-record}
-use Rattle.model.specs.Frames.{frame-kind, close-kind, frame-record, close-record}
+use Rattle.model.specs.Frames.{frame-record-kind, close-record-kind, frame-record, close-record}
 use Rattle.model.specs.Row.{Tagged, pick}
 use Rattle.model.specs.Session.{Emission, reply, copy, close}
 use Rattle.model.specs.Calls.{output-record, output}
@@ -132,9 +132,9 @@ module _ (s : ℕ) (h : s < session-count) where
   module _ (rs : List RecordRead) (picked : List Emission) where
     a-frame : (t : ℕ) (frame : List ℕ) (e : Emission) → frames-in (e ∷ picked) ≡ frame ∷ frames-in picked
         → frames-read s rs ≡ frames-in picked
-        → frames-read s (record { record-kind = frame-kind t; payload = frame ++ NUL ∷ [] } ∷ rs)
+        → frames-read s (record { record-kind = frame-record-kind t; payload = frame ++ NUL ∷ [] } ∷ rs)
         ≡ frames-in (cond (eqb t s) (e ∷ picked) picked)
-    a-frame t frame e q ih = rw (same-test t s (frame-kind 0), without-NUL frame) (go (eqb t s))
+    a-frame t frame e q ih = rw (same-test t s (frame-record-kind 0), without-NUL frame) (go (eqb t s))
       where
         go : (b : Bool) → cond b (frame ∷ frames-read s rs) (frames-read s rs) ≡ frames-in (cond b (e ∷ picked) picked)
         go true = ap (frame ∷_) ih ∙ sym q
@@ -144,7 +144,7 @@ module _ (s : ℕ) (h : s < session-count) where
         → frames-read s (as-read t e ∷ rs) ≡ frames-in (cond (eqb t s) (e ∷ picked) picked)
     frames-more t (reply frame) u ih = a-frame t frame (reply frame) refl ih
     frames-more t (copy c) u ih = a-frame t (c .what .frame) (copy c) refl ih
-    frames-more t close u ih = rw (ne-eqb (close-kind t) (frame-kind s) (λ z. omega arith)) (go (eqb t s))
+    frames-more t close u ih = rw (ne-eqb (close-record-kind t) (frame-record-kind s) (λ z. omega arith)) (go (eqb t s))
       where
         go : (b : Bool) → frames-read s rs ≡ frames-in (cond b (close ∷ picked) picked)
         go true = ih
@@ -152,8 +152,8 @@ module _ (s : ℕ) (h : s < session-count) where
 
     no-close : (t : ℕ) (e : Emission) → t < session-count → orders-close (e ∷ picked) ≡ orders-close picked
         → close-read s rs ≡ orders-close picked → (bs : List ℕ)
-        → close-read s (record { record-kind = frame-kind t; payload = bs } ∷ rs) ≡ orders-close (cond (eqb t s) (e ∷ picked) picked)
-    no-close t e u q ih bs = rw (ne-eqb (frame-kind t) (close-kind s) (λ z. omega arith)) (go (eqb t s))
+        → close-read s (record { record-kind = frame-record-kind t; payload = bs } ∷ rs) ≡ orders-close (cond (eqb t s) (e ∷ picked) picked)
+    no-close t e u q ih bs = rw (ne-eqb (frame-record-kind t) (close-record-kind s) (λ z. omega arith)) (go (eqb t s))
       where
         go : (b : Bool) → close-read s rs ≡ orders-close (cond b (e ∷ picked) picked)
         go true = ih ∙ sym q
@@ -163,7 +163,7 @@ module _ (s : ℕ) (h : s < session-count) where
         → close-read s (as-read t e ∷ rs) ≡ orders-close (cond (eqb t s) (e ∷ picked) picked)
     closes-more t (reply frame) u ih = no-close t (reply frame) u refl ih (frame ++ NUL ∷ [])
     closes-more t (copy c) u ih = no-close t (copy c) u refl ih (c .what .frame ++ NUL ∷ [])
-    closes-more t close u ih = rw (same-test t s (close-kind 0)) (go (eqb t s))
+    closes-more t close u ih = rw (same-test t s (close-record-kind 0)) (go (eqb t s))
       where
         go : (b : Bool) → cond b true (close-read s rs) ≡ orders-close (cond b (close ∷ picked) picked)
         go true = refl

@@ -14,7 +14,7 @@ use Rattle.model.specs.Limits.{session-count}
 use Rattle.model.specs.Bytes.{NUL, decimal, digits}
 use Rattle.model.specs.Runs.{empty-run, longer, cut, Message, read-run}
 use Rattle.model.specs.Layouts.{characters, data-from}
-use Rattle.model.specs.Frames.{header, frame, frame-0005, frame-kind, close-kind}
+use Rattle.model.specs.Frames.{header, frame, frame-0005, frame-record-kind, close-record-kind}
 use Rattle.model.specs.Calls.{Call, open-session, bytes}
 use Rattle.model.specs.Wire.{Every, NoNUL, Framed}
 use Rattle.model.proofs.Text.{frame-text}
@@ -98,13 +98,13 @@ module _ (s : ℕ) (low : s < session-count) where
   holds-one : (r : RecordRead) (rs : List RecordRead) → Whole r → Holds (payloads-to s rs) (frames-read s rs)
       → Holds (payloads-to s (r ∷ rs)) (frames-read s (r ∷ rs))
   holds-one r rs (a-frame t frame u f) ih =
-      rw (without-NUL frame) (go (eqb (frame-kind t) (frame-kind s)))
+      rw (without-NUL frame) (go (eqb (frame-record-kind t) (frame-record-kind s)))
     where
       go : (b : Bool) → let bs = payloads-to s rs in let fs = frames-read s rs in
           Holds (cond b ((frame ++ NUL ∷ []) ++ bs) bs) (cond b (frame ∷ fs) fs)
       go true = (ap ((frame ++ NUL ∷ []) ++_) (ih .0), (f, ih .1))
       go false = ih
-  holds-one r rs (an-order t u) ih = rw (ne-eqb (close-kind t) (frame-kind s) (λ e. omega arith)) ih
+  holds-one r rs (an-order t u) ih = rw (ne-eqb (close-record-kind t) (frame-record-kind s) (λ e. omega arith)) ih
 
   holds-records : (rs : List RecordRead) → Every Whole rs → Holds (payloads-to s rs) (frames-read s rs)
   holds-records [] h = (refl, tt)

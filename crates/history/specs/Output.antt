@@ -7,7 +7,7 @@ use lib.Dec.{leb, eqb}
 use lib.ListN.{length, take, drop}
 use Rattle.model.specs.Bytes.{NUL, places, little}
 use Rattle.model.specs.Records.{record-head}
-use Rattle.model.specs.Frames.{frame-kind, close-kind}
+use Rattle.model.specs.Frames.{frame-record-kind, close-record-kind}
 use Rattle.model.specs.Session.{Emission, reply, copy, close}
 use Rattle.model.specs.Row.{Tagged}
 
@@ -49,17 +49,17 @@ abbrev pub frames-read : ℕ → List RecordRead → List (List ℕ)
 frames-read s [] = []
 frames-read s (r ∷ rs) =
     let more = frames-read s rs in
-    cond (eqb (r .record-kind) (frame-kind s)) (take (length (r .payload) - 1) (r .payload) ∷ more) more
+    cond (eqb (r .record-kind) (frame-record-kind s)) (take (length (r .payload) - 1) (r .payload) ∷ more) more
 
 abbrev pub close-read : ℕ → List RecordRead → Bool
 close-read s [] = false
-close-read s (r ∷ rs) = let more = close-read s rs in cond (eqb (r .record-kind) (close-kind s)) true more
+close-read s (r ∷ rs) = let more = close-read s rs in cond (eqb (r .record-kind) (close-record-kind s)) true more
 
 -- the record of an emission
 abbrev pub as-read : ℕ → Emission → RecordRead
-as-read s (reply frame) = record { record-kind = frame-kind s; payload = frame ++ NUL ∷ [] }
-as-read s (copy c) = record { record-kind = frame-kind s; payload = c .what .frame ++ NUL ∷ [] }
-as-read s close = record { record-kind = close-kind s; payload = [] }
+as-read s (reply frame) = record { record-kind = frame-record-kind s; payload = frame ++ NUL ∷ [] }
+as-read s (copy c) = record { record-kind = frame-record-kind s; payload = c .what .frame ++ NUL ∷ [] }
+as-read s close = record { record-kind = close-record-kind s; payload = [] }
 
 abbrev pub record-of : Tagged Emission → RecordRead
 record-of x = as-read (x .who) (x .what)

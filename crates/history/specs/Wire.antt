@@ -10,7 +10,7 @@ use lib.ListN.{length, take, drop}
 use Rattle.model.specs.Limits.{session-count}
 use Rattle.model.specs.Bytes.{NUL, places, decimal}
 use Rattle.model.specs.Runs.{empty-run, longer, Message, read-run}
-use Rattle.model.specs.Frames.{frame-kind, close-kind}
+use Rattle.model.specs.Frames.{frame-record-kind, close-record-kind}
 use Rattle.model.specs.Calls.{bytes}
 use Rattle.model.specs.Wire.{Every, NoNUL, Framed, Answers, is-notice}
 use Rattle.controller.specs.Contract.{model-answer}
@@ -23,10 +23,10 @@ use Rattle.history.specs.Output.{RecordRead, read-output, frames-read}
 
 -- a frame to session s, with its NUL, and the order to close it
 abbrev pub frame-read : ℕ → List ℕ → RecordRead
-frame-read s frame = record { record-kind = frame-kind s; payload = frame ++ NUL ∷ [] }
+frame-read s frame = record { record-kind = frame-record-kind s; payload = frame ++ NUL ∷ [] }
 
 abbrev pub order-read : ℕ → RecordRead
-order-read s = record { record-kind = close-kind s; payload = [] }
+order-read s = record { record-kind = close-record-kind s; payload = [] }
 
 -- ==== 01, "Frames we write": each frame is read alike by its NUL and by its length
 
@@ -109,7 +109,7 @@ records-of m = records-read (read-output (take (m .answer .written) (m .output-l
 -- the bytes that a history sends to session s, and its frames
 abbrev pub payloads-to : ℕ → List RecordRead → List ℕ
 payloads-to s [] = []
-payloads-to s (r ∷ rs) = let more = payloads-to s rs in cond (eqb (r .record-kind) (frame-kind s)) (r .payload ++ more) more
+payloads-to s (r ∷ rs) = let more = payloads-to s rs in cond (eqb (r .record-kind) (frame-record-kind s)) (r .payload ++ more) more
 
 abbrev pub bytes-to : ℕ → List Made → List ℕ
 bytes-to s [] = []

@@ -15,7 +15,8 @@ use Rattle.model.specs.Tests.{first}
 use Rattle.model.specs.Records.{is-record, payload, Item, number, text, time, item-length, payload-length, parts-from, parts}
 use Rattle.model.specs.Records.{good-in-time, is-time-from, good-item, good-parts, good-payload, good-record}
 use Rattle.model.specs.Records.{value-of, values-of, values}
-use Rattle.model.specs.Records.{settings-kind, tightening-kind, scanned-kind, Settings, settings-items, settings-of, read-settings}
+use Rattle.model.specs.Records.{settings-record-kind, tightening-record-kind, scanned-record-kind}
+use Rattle.model.specs.Records.{Settings, settings-items, settings-of, read-settings}
 use Rattle.model.specs.Records.{tightening-items, tightening-of, identifier-in, scanned-items, Tool, scanned, tightening, read-tool}
 use Rattle.model.specs.Runs.{Run, longer, Piece, cut, Message, is-flag, is-message, message-of, read-run}
 use Rattle.model.specs.Messages.{Effect, starts, stops, identifies, subscribes, unsubscribes, acknowledges, mirrors, Entry, table}
@@ -68,9 +69,10 @@ fit-payload : (es : List Item) (bs : List ℕ) → all slim-item es ≡ true →
 unfolding good-payload
 fit-payload es bs s h = fit-parts es 0 bs s (both (eqb (length bs) (payload-length es)) (good-parts es (parts es bs)) h .1)
 
-good-of : (kind : ℕ) (es : List Item) (slice : List ℕ) → good-record kind es slice ≡ true → good-payload es (payload slice) ≡ true
+good-of : (record-kind : ℕ) (es : List Item) (slice : List ℕ) → good-record record-kind es slice ≡ true
+    → good-payload es (payload slice) ≡ true
 unfolding good-record
-good-of kind es slice h = both (is-record kind slice) (good-payload es (payload slice)) h .1
+good-of record-kind es slice h = both (is-record record-kind slice) (good-payload es (payload slice)) h .1
 
 abbrev pub CleanStart : Option Settings → Type 0
 CleanStart none = Unit {0}
@@ -79,10 +81,11 @@ CleanStart (some st) = CleanSettings st
 -- a start takes good settings only
 pub clean-start : (slice : List ℕ) → CleanStart (read-settings slice)
 unfolding read-settings settings-of
-clean-start slice = go (good-record settings-kind settings-items slice) refl
+clean-start slice = go (good-record settings-record-kind settings-items slice) refl
   where
-    go : (b : Bool) → good-record settings-kind settings-items slice ≡ b → CleanStart (cond b (some (settings-of (payload slice))) none)
-    go true e = fit-payload settings-items (payload slice) refl (good-of settings-kind settings-items slice e)
+    go : (b : Bool) → good-record settings-record-kind settings-items slice ≡ b
+        → CleanStart (cond b (some (settings-of (payload slice))) none)
+    go true e = fit-payload settings-items (payload slice) refl (good-of settings-record-kind settings-items slice e)
     go false e = tt
 
 abbrev pub CleanTool : Option Tool → Type 0
@@ -93,16 +96,18 @@ CleanTool (some (tightening x t)) = Text x × Every Fit t
 -- and a tool record is good
 pub clean-tool : (slice : List ℕ) → CleanTool (read-tool slice)
 unfolding read-tool tightening-of good-payload
-clean-tool slice = go (good-record tightening-kind tightening-items slice) (good-record scanned-kind scanned-items slice) refl refl
+clean-tool slice =
+    go (good-record tightening-record-kind tightening-items slice) (good-record scanned-record-kind scanned-items slice) refl refl
   where
-    go : (a b : Bool) → good-record tightening-kind tightening-items slice ≡ a → good-record scanned-kind scanned-items slice ≡ b
+    go : (a b : Bool) → good-record tightening-record-kind tightening-items slice ≡ a
+        → good-record scanned-record-kind scanned-items slice ≡ b
         → CleanTool
         (cond a (some (tightening (identifier-in (payload slice)) (tightening-of (payload slice))))
         (cond b (some (scanned (payload slice))) none))
     go true b e f =
-        fit-payload tightening-items (payload slice) refl (good-of tightening-kind tightening-items slice e)
+        fit-payload tightening-items (payload slice) refl (good-of tightening-record-kind tightening-items slice e)
     go false true e f =
-        let g = good-of scanned-kind scanned-items slice f in
+        let g = good-of scanned-record-kind scanned-items slice f in
         let good = good-parts scanned-items (parts scanned-items (payload slice)) in
         let n = eqb-true (length (payload slice)) identifier-length (both (eqb (length (payload slice)) identifier-length) good g .0) in
         subst Text (take-all identifier-length (payload slice) (omega arith))

@@ -15,16 +15,16 @@ use Rattle.record.specs.Items.{item-of, items, readable}
 
 -- ==== a record's head
 
-module _ (kind : ℕ) (slice : List ℕ) where
-  pub too-short : length slice < record-head → false ≡ is-record kind slice
+module _ (record-kind : ℕ) (slice : List ℕ) where
+  pub too-short : length slice < record-head → false ≡ is-record record-kind slice
   too-short h = rw (ne-eqb (record-head + little (places 1 2 slice)) (length slice) (λ e. omega arith))
 
-  pub other-size : (record-head + little (places 1 2 slice) ≡ length slice → ⊥) → false ≡ is-record kind slice
+  pub other-size : (record-head + little (places 1 2 slice) ≡ length slice → ⊥) → false ≡ is-record record-kind slice
   other-size h = rw (ne-eqb (record-head + little (places 1 2 slice)) (length slice) h)
 
-  pub by-kind : {n : ℕ} → record-head + little (places 1 2 slice) ≡ length slice → n ≡ little (places 3 4 slice)
-      → eqb n kind ≡ is-record kind slice
-  by-kind e p = rw (eq-eqb (record-head + little (places 1 2 slice)) (length slice) e, p)
+  pub by-record-kind : {n : ℕ} → record-head + little (places 1 2 slice) ≡ length slice → n ≡ little (places 3 4 slice)
+      → eqb n record-kind ≡ is-record record-kind slice
+  by-record-kind e p = rw (eq-eqb (record-head + little (places 1 2 slice)) (length slice) e, p)
 
 -- ==== rows
 
@@ -78,17 +78,17 @@ module _ (rows : List (List ℕ)) (s : List ℕ) (k : ℕ) where
 
 -- ==== a record, by its head, its payload's length and its items
 
-module _ (kind : ℕ) (es : List Item) (slice : List ℕ) where
-  pub no-record : is-record kind slice ≡ false → false ≡ good-record kind es slice
+module _ (record-kind : ℕ) (es : List Item) (slice : List ℕ) where
+  pub no-record : is-record record-kind slice ≡ false → false ≡ good-record record-kind es slice
   unfolding good-record
   no-record e = rw e
 
-  module _ (e : is-record kind slice ≡ true) where
-    pub other-length : (length (drop record-head slice) ≡ payload-length es → ⊥) → false ≡ good-record kind es slice
+  module _ (e : is-record record-kind slice ≡ true) where
+    pub other-length : (length (drop record-head slice) ≡ payload-length es → ⊥) → false ≡ good-record record-kind es slice
     unfolding good-record good-payload
     other-length h = rw (e, ne-eqb (length (drop record-head slice)) (payload-length es) h)
 
     pub by-items : {b : Bool} → length (drop record-head slice) ≡ payload-length es → b ≡ good-parts es (parts es (drop record-head slice))
-        → b ≡ good-record kind es slice
+        → b ≡ good-record record-kind es slice
     unfolding good-record good-payload
     by-items h p = rw (e, eq-eqb (length (drop record-head slice)) (payload-length es) h) p

@@ -23,10 +23,10 @@ use model::IDENTIFIER_LENGTH;
 use model::NUMBER_GREATEST;
 use model::NUMBER_LENGTH;
 use model::RECORD_HEAD;
-use model::SCANNED_KIND;
-use model::SETTINGS_KIND;
+use model::SCANNED_RECORD_KIND;
+use model::SETTINGS_RECORD_KIND;
 use model::SETTINGS_LENGTH;
-use model::TIGHTENING_KIND;
+use model::TIGHTENING_RECORD_KIND;
 use model::TIGHTENING_LENGTH;
 use model::TIME_LENGTH;
 
@@ -141,8 +141,8 @@ fn good_items(rows: &[[usize; 3]], s: &[u8]) -> bool
 // ---- records
 
 // Whether a slice is one record of that kind, and nothing more.
-fn is_record(slice: &[u8], kind: u64) -> bool
-    ensures { λ r. ⌜ r ≡ is-record-of kind (now (slice .entry)) ⌝ }
+fn is_record(slice: &[u8], record_kind: u64) -> bool
+    ensures { λ r. ⌜ r ≡ is-record-of «record_kind» (now (slice .entry)) ⌝ }
 {
     if slice.len() < RECORD_HEAD {
         return false;
@@ -150,15 +150,15 @@ fn is_record(slice: &[u8], kind: u64) -> bool
     if RECORD_HEAD as u64 + text::little(slice, 0, 2) != slice.len() as u64 {
         return false;
     }
-    text::little(slice, 2, 2) == kind
+    text::little(slice, 2, 2) == record_kind
 }
 
 // Whether it is a good record of that kind, whose payload has size bytes and these items.
-fn good_record(slice: &[u8], kind: u64, size: usize, rows: &[[usize; 3]]) -> bool
+fn good_record(slice: &[u8], record_kind: u64, size: usize, rows: &[[usize; 3]]) -> bool
     requires { ⌜ (all readable (now rows) ≡ true) × (size ≡ payload-length (items (now rows))) ⌝ }
-    ensures { λ r. ⌜ r ≡ good-record-of kind (items (now (rows .entry))) (now (slice .entry)) ⌝ }
+    ensures { λ r. ⌜ r ≡ good-record-of «record_kind» (items (now (rows .entry))) (now (slice .entry)) ⌝ }
 {
-    if !is_record(slice, kind) {
+    if !is_record(slice, record_kind) {
         return false;
     }
     let bytes = payload(slice);
@@ -179,7 +179,7 @@ pub fn payload(slice: &[u8]) -> &[u8]
 pub fn is_settings(slice: &[u8]) -> bool
     ensures { λ r. ⌜ settings-in r (now (slice .entry)) ≡ read-settings (now (slice .entry)) ⌝ }
 {
-    good_record(slice, SETTINGS_KIND, SETTINGS_LENGTH, &SETTINGS)
+    good_record(slice, SETTINGS_RECORD_KIND, SETTINGS_LENGTH, &SETTINGS)
 }
 
 // What a slice is to the call that takes tool records.
@@ -189,13 +189,13 @@ pub enum RecordKind {
     Scanned,
 }
 
-pub fn tool_kind(slice: &[u8]) -> RecordKind
+pub fn tool_record_kind(slice: &[u8]) -> RecordKind
     ensures { λ r. ⌜ tool-in r (now (slice .entry)) ≡ read-tool (now (slice .entry)) ⌝ }
 {
-    if good_record(slice, TIGHTENING_KIND, TIGHTENING_LENGTH, &TIGHTENING) {
+    if good_record(slice, TIGHTENING_RECORD_KIND, TIGHTENING_LENGTH, &TIGHTENING) {
         return RecordKind::Tightening;
     }
-    if good_record(slice, SCANNED_KIND, IDENTIFIER_LENGTH, &SCANNED) {
+    if good_record(slice, SCANNED_RECORD_KIND, IDENTIFIER_LENGTH, &SCANNED) {
         return RecordKind::Scanned;
     }
     RecordKind::Bad

@@ -12,7 +12,7 @@ use borrow.Author.Tests.{ltb-false, leb-false, eqb-true, not-false, eq-eqb, ne-e
 use Rattle.model.specs.Limits.{session-count, table-least, output-least, number-greatest}
 use Rattle.model.specs.Tests.{Test, _gives_, first}
 use Rattle.model.specs.Records.{payload, Item, is-record, payload-length, parts, good-parts, good-payload, good-record, settings-of}
-use Rattle.model.specs.Records.{settings-kind, settings-items, settings-length, read-settings, read-tool}
+use Rattle.model.specs.Records.{settings-record-kind, settings-items, settings-length, read-settings, read-tool}
 use Rattle.model.specs.Session.{is-closed}
 use Rattle.model.specs.World.{session-at}
 use Rattle.model.specs.Calls.{start, open-session, hang-up-session, bytes, one-tick, tool, asks-both, refusal, is-none, tool-tests}
@@ -174,12 +174,12 @@ pub start-passes : (t slice : List ℕ) → number t 0 (start slice) ≡ 0
     → (table-least ≤ length t) × (read-settings slice ≡ some (settings-of (payload slice))) × (length (payload slice) ≡ settings-length)
 unfolding refusal read-settings
 start-passes t slice e =
-    let p = go (ltb (length t) table-least) (good-record settings-kind settings-items slice) refl refl e in
-    (p .0, rw (p .1), good-length settings-kind settings-items slice (p .1))
+    let p = go (ltb (length t) table-least) (good-record settings-record-kind settings-items slice) refl refl e in
+    (p .0, rw (p .1), good-length settings-record-kind settings-items slice (p .1))
   where
-    go : (a b : Bool) → ltb (length t) table-least ≡ a → good-record settings-kind settings-items slice ≡ b
+    go : (a b : Bool) → ltb (length t) table-least ≡ a → good-record settings-record-kind settings-items slice ≡ b
         → _≡_ {A = ℕ} (first 0 (a gives 1 ∷ is-none (cond b (some (settings-of (payload slice))) none) gives 9 ∷ [])) 0
-        → (table-least ≤ length t) × (good-record settings-kind settings-items slice ≡ true)
+        → (table-least ≤ length t) × (good-record settings-record-kind settings-items slice ≡ true)
     go true b p q z = absurd (omega arith)
     go false false p q z = absurd (omega arith)
     go false true p q z = (ltb-false _ _ p, q)

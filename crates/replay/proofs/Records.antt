@@ -7,7 +7,7 @@ use mathlib.Core.List.{List, _++_, flatten}
 use lib.ListN.{length, take, drop, length-append}
 use lib.Seq.{length-take-le, drop-drop}
 use Rattle.model.specs.Bytes.{little, places}
-use Rattle.model.specs.Program.{State, called, fed, call-of, given, all-given, bytes-kind, is-of}
+use Rattle.model.specs.Program.{State, called, fed, call-of, given, all-given, bytes-record-kind, is-of}
 use Rattle.model.specs.Records.{record-head}
 use Rattle.replay.specs.Whole.{whole-size, records, waits}
 use Rattle.replay.specs.States.{Follows}
@@ -16,23 +16,23 @@ use Rattle.replay.proofs.Follows.{follows-nothing, follows-then, follow
 
 -- ==== one record
 
-module _ (x : State) (slice : List ℕ) (kind : ℕ) (k : kind ≡ little (places 3 4 slice)) where
+module _ (x : State) (slice : List ℕ) (record-kind : ℕ) (k : record-kind ≡ little (places 3 4 slice)) where
   -- a record of that kind: received bytes, or another call
-  abbrev by-kind : Bool → ℕ → State
-  by-kind b n =
+  abbrev by-record-kind : Bool → ℕ → State
+  by-record-kind b n =
       elim b [
-        | true ↦ fed (suc (length (drop record-head slice))) x (n - bytes-kind) (drop record-head slice)
+        | true ↦ fed (suc (length (drop record-head slice))) x (n - bytes-record-kind) (drop record-head slice)
         | false ↦ called x (call-of n slice)
       ]
 
-  as-given : (b : Bool) → is-of bytes-kind kind ≡ b → by-kind b kind ≡ given x slice
-  as-given b e = ap (λ (c : Bool). by-kind c kind) (sym e) ∙ ap (λ (n : ℕ). by-kind (is-of bytes-kind n) n) k
+  as-given : (b : Bool) → is-of bytes-record-kind record-kind ≡ b → by-record-kind b record-kind ≡ given x slice
+  as-given b e = ap (λ (c : Bool). by-record-kind c record-kind) (sym e) ∙ ap (λ (n : ℕ). by-record-kind (is-of bytes-record-kind n) n) k
 
-  pub given-bytes : (bs : List ℕ) → is-of bytes-kind kind ≡ true → bs ≡ drop record-head slice
-      → fed (suc (length bs)) x (kind - bytes-kind) bs ≡ given x slice
-  given-bytes bs e d = ap (λ (l : List ℕ). fed (suc (length l)) x (kind - bytes-kind) l) d ∙ as-given true e
+  pub given-bytes : (bs : List ℕ) → is-of bytes-record-kind record-kind ≡ true → bs ≡ drop record-head slice
+      → fed (suc (length bs)) x (record-kind - bytes-record-kind) bs ≡ given x slice
+  given-bytes bs e d = ap (λ (l : List ℕ). fed (suc (length l)) x (record-kind - bytes-record-kind) l) d ∙ as-given true e
 
-  pub given-call : is-of bytes-kind kind ≡ false → called x (call-of kind slice) ≡ given x slice
+  pub given-call : is-of bytes-record-kind record-kind ≡ false → called x (call-of record-kind slice) ≡ given x slice
   given-call e = as-given false e
 
 -- ==== the records of an input

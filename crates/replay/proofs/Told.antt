@@ -30,28 +30,29 @@ use Rattle.replay.proofs.Sizes.{size-whole, slices-first}
 
 -- ==== a record, and more behind it
 
-record-length : (kind : ℕ) (payload : List ℕ) → length (house-record kind payload) ≡ record-head + length payload
+record-length : (record-kind : ℕ) (payload : List ℕ) → length (house-record record-kind payload) ≡ record-head + length payload
 unfolding in-bytes
-record-length kind payload = omega arith
+record-length record-kind payload = omega arith
 
-announced : (kind : ℕ) (payload more : List ℕ) → length payload ≤ output-least
-    → little (places 1 2 (house-record kind payload ++ more)) ≡ length payload
+announced : (record-kind : ℕ) (payload more : List ℕ) → length payload ≤ output-least
+    → little (places 1 2 (house-record record-kind payload ++ more)) ≡ length payload
 unfolding in-bytes
-announced kind payload more few = omega arith
+announced record-kind payload more few = omega arith
 
-record-size : (kind : ℕ) (payload more : List ℕ) → length (house-record kind payload) ≤ output-least
-    → length (house-record kind payload) ≡ whole-size (house-record kind payload ++ more)
-record-size kind payload more few =
-    let b = record-length kind payload in
-    let n = announced kind payload more (omega arith) in
-    let a = length-append (house-record kind payload) more in
-    b ∙ ap (λ (k : ℕ). record-head + k) (sym n) ∙ size-whole (house-record kind payload ++ more) (omega arith) (omega arith)
+record-size : (record-kind : ℕ) (payload more : List ℕ) → length (house-record record-kind payload) ≤ output-least
+    → length (house-record record-kind payload) ≡ whole-size (house-record record-kind payload ++ more)
+record-size record-kind payload more few =
+    let b = record-length record-kind payload in
+    let n = announced record-kind payload more (omega arith) in
+    let a = length-append (house-record record-kind payload) more in
+    b ∙ ap (λ (k : ℕ). record-head + k) (sym n) ∙ size-whole (house-record record-kind payload ++ more) (omega arith) (omega arith)
 
 -- ==== its line
 
-session-in : (s kind : ℕ) (payload : List ℕ) → kind % 256 ≡ s → digits 1 (little (places 3 3 (house-record kind payload))) ≡ digits 1 s
+session-in : (s record-kind : ℕ) (payload : List ℕ) → record-kind % 256 ≡ s
+    → digits 1 (little (places 3 3 (house-record record-kind payload))) ≡ digits 1 s
 unfolding in-bytes
-session-in s kind payload e = ap (digits 1) (omega arith)
+session-in s record-kind payload e = ap (digits 1) (omega arith)
 
 frame-length : (s : ℕ) (frame : List ℕ) → length (frame-record s frame) ≡ suc record-head + length frame
 unfolding frame-record

@@ -13,8 +13,9 @@ use Rattle.model.specs.Bytes.{within}
 use Rattle.model.specs.Runs.{cut, consumed-by}
 use Rattle.model.specs.World.{World}
 use Rattle.model.specs.Calls.{Call, start, open-session, hang-up-session, bytes, one-tick, tool, does, answered, output, refusal, step}
-use Rattle.model.specs.Program.{call-of, open-kind, hang-up-kind, bytes-kind, tick-kind, session-greatest, is-of}
-use Rattle.model.specs.Records.{settings-kind}
+use Rattle.model.specs.Program.{open-record-kind, hang-up-record-kind, bytes-record-kind, tick-record-kind, session-greatest}
+use Rattle.model.specs.Program.{call-of, is-of}
+use Rattle.model.specs.Records.{settings-record-kind}
 use Rattle.model.proofs.Cuts.{consumes}
 use Rattle.table.specs.Table.{decode}
 use Rattle.refusal.specs.Numbers.{number}
@@ -27,26 +28,30 @@ use Rattle.controller.proofs.Outputs.{so-long, stands}
 pub at-least : (least n : ℕ) → is-of least n ≡ true → least ≤ n
 at-least least n e = leb-true least n (and-eq-true-iff (leb least n) (leb n (least + session-greatest)) .0 e .0)
 
-module _ (kind : ℕ) (slice : List ℕ) where
-  start-call : kind ≡ settings-kind → start slice ≡ call-of kind slice
-  start-call e = rw (eq-eqb kind settings-kind e)
+module _ (record-kind : ℕ) (slice : List ℕ) where
+  start-call : record-kind ≡ settings-record-kind → start slice ≡ call-of record-kind slice
+  start-call e = rw (eq-eqb record-kind settings-record-kind e)
 
-  pub open-call : (kind ≡ settings-kind → ⊥) → is-of open-kind kind ≡ true → open-session (kind - open-kind) ≡ call-of kind slice
-  open-call h e = rw (ne-eqb kind settings-kind h, e)
+  pub open-call : (record-kind ≡ settings-record-kind → ⊥) → is-of open-record-kind record-kind ≡ true
+      → open-session (record-kind - open-record-kind) ≡ call-of record-kind slice
+  open-call h e = rw (ne-eqb record-kind settings-record-kind h, e)
 
-  pub hang-up-call : (kind ≡ settings-kind → ⊥) → is-of open-kind kind ≡ false → is-of hang-up-kind kind ≡ true
-      → hang-up-session (kind - hang-up-kind) ≡ call-of kind slice
-  hang-up-call h e f = rw (ne-eqb kind settings-kind h, e, f)
+  pub hang-up-call : (record-kind ≡ settings-record-kind → ⊥) → is-of open-record-kind record-kind ≡ false
+      → is-of hang-up-record-kind record-kind ≡ true
+      → hang-up-session (record-kind - hang-up-record-kind) ≡ call-of record-kind slice
+  hang-up-call h e f = rw (ne-eqb record-kind settings-record-kind h, e, f)
 
-  pub tick-call : (kind ≡ settings-kind → ⊥) → is-of open-kind kind ≡ false → is-of hang-up-kind kind ≡ false
-      → is-of bytes-kind kind ≡ false → kind ≡ tick-kind
-      → one-tick ≡ call-of kind slice
-  tick-call h e f g k = rw (ne-eqb kind settings-kind h, e, f, g, eq-eqb kind tick-kind k)
+  pub tick-call : (record-kind ≡ settings-record-kind → ⊥) → is-of open-record-kind record-kind ≡ false
+      → is-of hang-up-record-kind record-kind ≡ false
+      → is-of bytes-record-kind record-kind ≡ false → record-kind ≡ tick-record-kind
+      → one-tick ≡ call-of record-kind slice
+  tick-call h e f g k = rw (ne-eqb record-kind settings-record-kind h, e, f, g, eq-eqb record-kind tick-record-kind k)
 
-  pub tool-call : (kind ≡ settings-kind → ⊥) → is-of open-kind kind ≡ false → is-of hang-up-kind kind ≡ false
-      → is-of bytes-kind kind ≡ false → (kind ≡ tick-kind → ⊥)
-      → tool slice ≡ call-of kind slice
-  tool-call h e f g k = rw (ne-eqb kind settings-kind h, e, f, g, ne-eqb kind tick-kind k)
+  pub tool-call : (record-kind ≡ settings-record-kind → ⊥) → is-of open-record-kind record-kind ≡ false
+      → is-of hang-up-record-kind record-kind ≡ false
+      → is-of bytes-record-kind record-kind ≡ false → (record-kind ≡ tick-record-kind → ⊥)
+      → tool slice ≡ call-of record-kind slice
+  tool-call h e f g k = rw (ne-eqb record-kind settings-record-kind h, e, f, g, ne-eqb record-kind tick-record-kind k)
 
 pub as-call : {c d : Call} {t o : List ℕ} {r : Answer} {t′ o′ : List ℕ} → c ≡ d → Outcome c t o r t′ o′ → Outcome d t o r t′ o′
 as-call {t = t} {o = o} {r = r} {t′ = t′} {o′ = o′} e out = subst (λ (x : Call). Outcome x t o r t′ o′) e out
@@ -56,15 +61,15 @@ nothing : (l : List ℕ) → length l ≡ 0 → [] ≡ l
 nothing [] e = refl
 nothing (x ∷ l) e = absurd (omega arith)
 
-pub started : {t o : List ℕ} {r : Answer} {t′ : List ℕ} (kind : ℕ) (slice : List ℕ) → kind ≡ settings-kind
+pub started : {t o : List ℕ} {r : Answer} {t′ : List ℕ} (record-kind : ℕ) (slice : List ℕ) → record-kind ≡ settings-record-kind
     → Outcome (start slice) t [] r t′ []
-    → Outcome (call-of kind slice) t o r t′ o
+    → Outcome (call-of record-kind slice) t o r t′ o
 unfolding step refusal
-started {t = t} {o = o} {r = r} kind slice e out =
+started {t = t} {o = o} {r = r} record-kind slice e out =
     let n = so-long out in
     let h = stands out .within in
     let z : length (output ((said (start slice) t []) .2)) ≡ 0 = omega arith in
-    as-call (start-call kind slice e) (record {
+    as-call (start-call record-kind slice e) (record {
       answer = out .answer;
       meaning = out .meaning;
       output = ap (sets o 0) (nothing (output ((said (start slice) t []) .2)) z);

@@ -8,7 +8,8 @@ ghost use lib.ListN.{length, take};
 ghost use Rattle.model.specs.Limits.{output-least};
 ghost use Rattle.model.specs.Bytes.{space, within};
 ghost use Rattle.model.specs.Records.{record-head};
-ghost use Rattle.model.specs.Program.{shown as shown-bytes, bytes-kind, is-of, call-of, printed, fed, given as given-state, all-given};
+ghost use Rattle.model.specs.Program.{shown as shown-bytes, bytes-record-kind, is-of, call-of, printed};
+ghost use Rattle.model.specs.Program.{fed, given as given-state, all-given};
 ghost use Rattle.text.specs.Put.{Put};
 ghost use Rattle.controller.specs.Contract.{Outcome};
 ghost use Rattle.replay.specs.Lines.{line-in, lines-in, text-of};
@@ -17,7 +18,7 @@ ghost use Rattle.replay.specs.States.{Lends, free-from, Behind, Follows,
 use controller::Answer;
 use model::OUTPUT_LEAST;
 use model::RECORD_HEAD;
-use model::SETTINGS_KIND;
+use model::SETTINGS_RECORD_KIND;
 use model::TABLE_LEAST;
 
 const PAYLOAD_LONGEST: u64 = 8192;
@@ -25,19 +26,19 @@ const PAYLOAD_LONGEST: u64 = 8192;
 // The kinds of record that stand for the calls of a session, of session 0 and of the last one; and the kind of a tick.
 const SESSION_GREATEST: u64 = 15;
 
-const OPEN_KIND: u64 = 16;
+const OPEN_RECORD_KIND: u64 = 16;
 
-const OPEN_LAST: u64 = OPEN_KIND + SESSION_GREATEST;
+const OPEN_LAST: u64 = OPEN_RECORD_KIND + SESSION_GREATEST;
 
-const HANG_UP_KIND: u64 = 32;
+const HANG_UP_RECORD_KIND: u64 = 32;
 
-const HANG_UP_LAST: u64 = HANG_UP_KIND + SESSION_GREATEST;
+const HANG_UP_LAST: u64 = HANG_UP_RECORD_KIND + SESSION_GREATEST;
 
-const BYTES_KIND: u64 = 48;
+const BYTES_RECORD_KIND: u64 = 48;
 
-const BYTES_LAST: u64 = BYTES_KIND + SESSION_GREATEST;
+const BYTES_LAST: u64 = BYTES_RECORD_KIND + SESSION_GREATEST;
 
-const TICK_KIND: u64 = 64;
+const TICK_RECORD_KIND: u64 = 64;
 
 // ---- what it prints
 
@@ -199,21 +200,21 @@ fn feed(
 }
 
 // The call that a record of any other kind stands for.
-fn call(table: &mut [u8], output: &mut [u8], kind: u64, slice: &[u8]) -> Answer
-    requires { ⌜ is-of bytes-kind kind ≡ false ⌝ }
-    ensures { λ r. ⌜ Outcome (call-of kind (now (slice .entry))) (now (table .entry)) (now (output .entry)) r (now (table .exit))
+fn call(table: &mut [u8], output: &mut [u8], record_kind: u64, slice: &[u8]) -> Answer
+    requires { ⌜ is-of bytes-record-kind «record_kind» ≡ false ⌝ }
+    ensures { λ r. ⌜ Outcome (call-of «record_kind» (now (slice .entry))) (now (table .entry)) (now (output .entry)) r (now (table .exit))
         (now (output .exit)) ⌝ }
 {
-    if kind == SETTINGS_KIND {
+    if record_kind == SETTINGS_RECORD_KIND {
         return controller::start(table, slice);
     }
-    if is_within(OPEN_KIND, OPEN_LAST, kind) {
-        return controller::open(table, output, kind - OPEN_KIND);
+    if is_within(OPEN_RECORD_KIND, OPEN_LAST, record_kind) {
+        return controller::open(table, output, record_kind - OPEN_RECORD_KIND);
     }
-    if is_within(HANG_UP_KIND, HANG_UP_LAST, kind) {
-        return controller::hang_up(table, output, kind - HANG_UP_KIND);
+    if is_within(HANG_UP_RECORD_KIND, HANG_UP_LAST, record_kind) {
+        return controller::hang_up(table, output, record_kind - HANG_UP_RECORD_KIND);
     }
-    if kind == TICK_KIND {
+    if record_kind == TICK_RECORD_KIND {
         return controller::tick(table, output);
     }
     controller::tool_record(table, output, slice)
@@ -226,18 +227,18 @@ fn given(table: &mut [u8], output: &mut [u8], lines: &mut [u8], at: usize, slice
         (now (table .entry)) (take at (now (lines .entry))) (now (table .exit)) (take r (now (lines .exit))) ⌝ }
     ensures within { λ r. ⌜ r ≤ length (now (lines .entry)) ⌝ }
 {
-    let kind = text::little(slice, 2, 2);
-    if is_within(BYTES_KIND, BYTES_LAST, kind) {
+    let record_kind = text::little(slice, 2, 2);
+    if is_within(BYTES_RECORD_KIND, BYTES_LAST, record_kind) {
         return feed(
             table,
             output,
             lines,
             at,
-            kind - BYTES_KIND,
+            record_kind - BYTES_RECORD_KIND,
             &slice[RECORD_HEAD..],
         );
     }
-    let answer = call(table, output, kind, slice);
+    let answer = call(table, output, record_kind, slice);
     print(answer, output, lines, at)
 }
 

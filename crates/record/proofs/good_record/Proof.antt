@@ -11,14 +11,14 @@ use Rattle.record.proofs.good_record.Tie as tie
 returns : tie.Need-returns
 returns c =
     let a = c .before .before .before .args in
-    no-record (a .kind) (items (a .rows .now)) (a .slice .now) (sym (c .before .is-record .ensures) ∙ not-true _ (c .if1 .taken))
+    no-record (a .record-kind) (items (a .rows .now)) (a .slice .now) (sym (c .before .is-record .ensures) ∙ not-true _ (c .if1 .taken))
 
 returns-2 : tie.Need-returns-2
 returns-2 c =
     let i = c .before .before in
     let s = i .before .before .before in
     let a = s .args in
-    other-length (a .kind) (items (a .rows .now)) (a .slice .now) (sym (i .before .is-record .ensures) ∙ not-false _ (i .if1 .left))
+    other-length (a .record-kind) (items (a .rows .now)) (a .slice .now) (sym (i .before .is-record .ensures) ∙ not-false _ (i .if1 .left))
     (λ e. c .if2 .taken (ap length (c .before .payload .ensures) ∙ e ∙ sym (s .pre .1)))
 
 returns-3 : tie.Need-returns-3
@@ -27,7 +27,7 @@ returns-3 c =
     let i = p .before in
     let s = i .before .before .before in
     let a = s .args in
-    by-items (a .kind) (items (a .rows .now)) (a .slice .now) (sym (i .before .is-record .ensures) ∙ not-false _ (i .if1 .left))
+    by-items (a .record-kind) (items (a .rows .now)) (a .slice .now) (sym (i .before .is-record .ensures) ∙ not-false _ (i .if1 .left))
     (sym (ap length (p .payload .ensures)) ∙ c .before .if2 .left ∙ s .pre .1) (rw (p .payload .ensures) at (c .good-items .ensures))
 
 pub good-record-spec : {M : Type 1} → statement M

@@ -1,7 +1,7 @@
 -- `replay::call` meets its contract.
 use borrow.Author.Needs.{needs}
 use mathlib.Core.Path.{sym, _∙_}
-use Rattle.model.specs.Program.{open-kind, hang-up-kind}
+use Rattle.model.specs.Program.{open-record-kind, hang-up-record-kind}
 use Rattle.replay.proofs.Turns.{at-least, started, as-call, open-call, hang-up-call, tick-call, tool-call}
 use Rattle.replay.proofs.call.Statement.{statement}
 use Rattle.replay.proofs.call.Tie as tie
@@ -45,13 +45,13 @@ call-spec =
     (λ c. search needs)
     (λ c. started _ _ (c .before .before .before .before .if1 .taken) (c .before .before .start .ensures))
     (λ c κs. search needs)
-    (λ c. at-least open-kind _ (sym (c .before .before .before .is-within .ensures) ∙ c .before .before .if2 .taken))
+    (λ c. at-least open-record-kind _ (sym (c .before .before .before .is-within .ensures) ∙ c .before .before .if2 .taken))
     (λ c κs. search needs)
     (λ c. search needs)
     (λ c. search needs)
     returns-2
     (λ c κs. search needs)
-    (λ c. at-least hang-up-kind _ (sym (c .before .before .before .is-within2 .ensures) ∙ c .before .before .if3 .taken))
+    (λ c. at-least hang-up-record-kind _ (sym (c .before .before .before .is-within2 .ensures) ∙ c .before .before .if3 .taken))
     (λ c κs. search needs)
     (λ c. search needs)
     (λ c. search needs)

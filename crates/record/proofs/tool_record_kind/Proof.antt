@@ -1,9 +1,9 @@
--- `record::tool_kind` meets its contract: the tables have the model's items.
+-- `record::tool_record_kind` meets its contract: the tables have the model's items.
 use borrow.Author.Needs.{needs}
 use mathlib.Core.Path.{sym, _∙_}
 use Rattle.model.specs.Records.{read-tool}
-use Rattle.record.proofs.tool_kind.Statement.{statement}
-use Rattle.record.proofs.tool_kind.Tie as tie
+use Rattle.record.proofs.tool_record_kind.Statement.{statement}
+use Rattle.record.proofs.tool_record_kind.Tie as tie
 
 returns : tie.Need-returns
 unfolding read-tool
@@ -25,6 +25,6 @@ returns-3 c =
       sym (c .before .good-record2 .ensures) ∙ c .if2 .left,
     )
 
-pub tool-kind-spec : {M : Type 1} → statement M
-tool-kind-spec =
+pub tool-record-kind-spec : {M : Type 1} → statement M
+tool-record-kind-spec =
     tie.close (tie.spec (λ c. search needs) (λ c κs. search needs) returns (λ c. search needs) (λ c κs. search needs) returns-2 returns-3)
