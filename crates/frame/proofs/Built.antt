@@ -6,19 +6,19 @@ use mathlib.Core.Bool.{Bool, true}
 use mathlib.Core.List.{List, [], _∷_, _++_, map}
 use lib.Dec.{leb, ltb}
 use borrow.Author.Tests.{leb-true, ltb-true}
-use lib.ListN.{length, length-append, replicate}
+use lib.ListN.{length, take, drop, length-append, replicate}
 use lib.Seq.{take-all}
 use Rattle.model.specs.Limits.{header-length, identifier-length}
 use Rattle.model.specs.Bytes.{NUL, all, in-bytes}
 use Rattle.model.specs.Records.{record-head, house-record, said, settings-length, settings-items, values, settings-of, tightening-of}
 use Rattle.model.specs.Layouts.{Layout, data-from, data-of, characters, data-length, layout-at, layouts-0052, layouts-0061}
 use Rattle.model.specs.Kinds.{Kind, kinds, kind-at}
-use Rattle.model.specs.Frames.{header, frame, frame-0002, frame-0004, frame-0005, event-frame}
+use Rattle.model.specs.Frames.{header, frame, frame-0002, frame-0004, frame-0005, event-frame, frame-record}
 use Rattle.model.proofs.Framed.{at-every}
 use Rattle.model.proofs.KindLaws.{every-layout}
 use Rattle.text.specs.Put.{Put}
 use Rattle.text.proofs.Numbers.{digits-length}
-use Rattle.text.proofs.Puts.{put-then, put-before, put-as}
+use Rattle.text.proofs.Puts.{put-then, put-before, put-over, put-as}
 use Rattle.frame.specs.declared.Content.{Content}
 use Rattle.frame.specs.declared.Content.the-variants.{Started, Refused, Accepted, Notice}
 use Rattle.frame.specs.declared.Asked.{Asked}
@@ -27,7 +27,7 @@ use Rattle.frame.specs.declared.To.{To}
 use Rattle.frame.specs.Places.{place-items, place-size, result-of, event-in}
 use Rattle.frame.specs.Layout.{layout-of, placed, Payloads, data-in, served, all-served}
 use Rattle.frame.specs.Output.{Written, frame-length, mid-of, revision-of, notice-byte-12, byte-12-of, heading-of, heading-bytes}
-use Rattle.frame.specs.Output.{frame-of, head-bytes}
+use Rattle.frame.specs.Output.{frame-of, head-bytes, Recorded}
 
 -- ==== output records
 
@@ -40,6 +40,15 @@ recorded {o} {o₁} {o₂} {bs} {end} {r} to record-kind p h =
     subst (λ (k : ℕ). Put o (to .at) (house-record (record-kind + to .session) bs) k o₂) (sym (h .0))
     (put-as (ap (λ (k : ℕ). (in-bytes 2 k ++ in-bytes 2 (record-kind + to .session)) ++ bs) n)
     (put-before p (h .1 .put) refl))
+
+-- a record that stands before the place, written once more there, and then the kind of another session into its head
+pub repeated : {o o₁ o₂ bs : List ℕ} {at from r r′ : ℕ} (s : ℕ) → Recorded o from at bs → Put o at (take (at - from) (drop from o)) r o₁
+    → Put o₁ (at + 2) (in-bytes 2 (256 + s)) r′ o₂ → Put o at (frame-record s bs) r o₂
+unfolding frame-record in-bytes
+repeated {bs = bs} {at = at} s w p q =
+    let n = length (bs ++ NUL ∷ []) in
+    put-over (in-bytes 2 n) (in-bytes 2 (256 + w .session)) (in-bytes 2 (256 + s)) (bs ++ NUL ∷ []) refl refl
+    (put-as (w .stands .bytes) p) q
 
 -- ==== frames
 

@@ -10,8 +10,8 @@ use Rattle.model.specs.Bytes.{space, digit-0, digit-1, in-bytes}
 use Rattle.model.specs.Records.{record-head, settings-length}
 use Rattle.model.specs.Layouts.{data-length}
 use Rattle.model.specs.Kinds.{kinds, kind-at, copy-most}
-use Rattle.model.specs.Frames.{header, frame}
-use Rattle.text.specs.Put.{Put}
+use Rattle.model.specs.Frames.{header, frame, frame-record}
+use Rattle.text.specs.Put.{Put, Stands}
 use Rattle.frame.specs.Places.{place-size}
 use Rattle.frame.specs.Layout.{layout-of, Payloads, bytes-of, placed-width, data-in, served, all-served}
 use Rattle.frame.specs.declared.Placed.{Placed}
@@ -134,3 +134,13 @@ pub record Lent (out : List ℕ) (to : To) (asked : Asked) (st p : List ℕ) : T
   pub kind : asked .kind < length kinds
   pub settings : length st ≡ settings-length
   pub place : length p ≡ place-size (asked .kind)
+
+-- the record of the frame bs stands there, to one session or another
+pub record Recorded (out : List ℕ) (from at : ℕ) (bs : List ℕ) : Type 0 where
+  pub session : ℕ
+  pub stands : Stands out from at (frame-record session bs)
+
+-- a record that stands from `from` up to the place can go there once more
+pub record Repeatable (out : List ℕ) (to : To) (from : ℕ) : Type 0 where
+  pub output : Writable out to (to .at - from)
+  pub whole : from + record-head ≤ to .at

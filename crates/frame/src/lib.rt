@@ -1,8 +1,8 @@
 // Frames: the header of a received one is read, and those that we send are written by their rows.
 ghost use mathlib.Core.Path.{_≡_};
 ghost use mathlib.Core.Bool.{true, _||_};
-ghost use mathlib.Core.List.{[]};
-ghost use Prim.Native.Nat.{_+_, _≤_, _<_};
+ghost use mathlib.Core.List.{List, []};
+ghost use Prim.Native.Nat.{ℕ, _+_, _-_, _≤_, _<_};
 ghost use lib.ListN.{length, take, drop};
 ghost use Rattle.model.specs.Limits.{header-length};
 ghost use Rattle.model.specs.Bytes.{space, is-digit, is-space, all, little};
@@ -45,6 +45,8 @@ ghost use Rattle.frame.specs.Output.{
   record-length,
   Writable,
   Lent,
+  Recorded,
+  Repeatable,
 };
 ghost use Rattle.frame.specs.declared.Content.the-variants.{Notice};
 
@@ -557,6 +559,9 @@ const FRAME_RECORD_KIND: u64 = 256;
 
 const CLOSE_RECORD_KIND: u64 = 512;
 
+// Where the kind stands, behind the length.
+const RECORD_KIND_AT: usize = 2;
+
 // Makes an output record of the payload that stands behind the place of its head, up to `end`.
 fn put_record(out: &mut [u8], to: To, record_kind: u64, end: usize) -> usize
     requires { ⌜ Recordable (now out) to «record_kind» end ⌝ }
@@ -643,4 +648,16 @@ pub fn put_copy(out: &mut [u8], to: To, asked: Asked, settings: &[u8], place: &[
         (event-in (asked .kind) (now (place .entry))))) r (now (out .exit)) ⌝ }
 {
     put_frame(out, to, Content::Notice(asked), settings, place)
+}
+
+// The record of a frame that stands from `from` up to the place, whichever session it went to: once more, to this one.
+pub fn put_again(out: &mut [u8], to: To, from: usize) -> usize
+    requires { ⌜ Repeatable (now out) to from ⌝ }
+    ensures { λ r. ⌜ (r ≡ to .at + (to .at - from)) × ((bs : List ℕ) → Recorded (now (out .entry)) from (to .at) bs
+        → Put (now (out .entry)) (to .at) (frame-record (to .session) bs) r (now (out .exit))) ⌝ }
+{
+    let end = text::repeat(out, from, to.at);
+    let at = to.at + RECORD_KIND_AT;
+    text::put_little(out, at, 2, FRAME_RECORD_KIND + to.session);
+    end
 }

@@ -4,7 +4,7 @@ use Prim.Native.Nat.{ℕ, _+_, _*_, _≤_, _<_, zero-le}
 use native.Mathlib.Nat.{mul-le-mul-right, suc-mul}
 use native.Mathlib.Numerals.{add-one}
 use native.Mathlib.Omega.{arith}
-use mathlib.Core.Bool.{Bool, true, false, cond}
+use mathlib.Core.Bool.{Bool, true, false, cond, true≢false}
 use mathlib.Core.List.{List, [], _∷_, _++_}
 use lib.Dec.{eqb, leb}
 use lib.ListN.{length, take, drop, length-append, length-drop}
@@ -27,52 +27,68 @@ use Rattle.session.specs.declared.Take.{Take}
 use Rattle.session.specs.declared.Take.the-variants as take
 use Rattle.session.specs.declared.Taken.{Taken}
 use Rattle.session.specs.declared.Subscription.{Subscription}
-use Rattle.lane.specs.Kinds.{control-size}
-use Rattle.lane.specs.Lane.{control-of, notices-in, lane-by, Storable, Stored, any, is-told, Pushing, Pushes}
+use Rattle.lane.specs.Kinds.{control-size, lane-size}
+use Rattle.lane.specs.Lane.{control-of, notices-in, lane-by, Storable, Stored, any, is-told, is-held, Pushing, Pushes}
 use Rattle.lane.specs.Lane.{Keeping, Keeps, Taking, Takes}
 use Rattle.lane.proofs.KindLaws.{kind-fits}
 use Rattle.lane.proofs.Lanes.{held-length, prefix, same-places, holds}
 
 -- ==== a notice goes to a place
 
-module _ (kind i : ℕ) (p l : List ℕ) (k : Pushing kind i p l) (size : ℕ) (z : size ≡ place-size kind) where
+module _ (kind i : ℕ) (p : List ℕ) (x : Subscription) (l : List ℕ) (k : Pushing kind i p x l) (size : ℕ) (z : size ≡ place-size kind) where
   pub place-fits : control-size + i * size + size ≤ length l
   place-fits =
       rw (z, k .size) (let m = mul-le-mul-right (place-size kind) (k .few) in let q = suc-mul i (place-size kind) in omega arith)
 
-  pub pushes : Pushes kind i p l (sets l (control-size + i * size) p)
+  pub still-long : length (sets l (control-size + i * size) p) ≡ lane-size kind
+  still-long = length-sets l (control-size + i * size) p ∙ k .size
+
+  pub pushes : {l′ : List ℕ} → Stored kind x (sets l (control-size + i * size) p) l′ → Pushes kind i p x l l′
   unfolding notices-in
-  pushes =
+  pushes {l′} w =
       let f = rw z at place-fits in
       let d = length-drop control-size l in
       record {
-        size = length-sets l (control-size + i * size) p ∙ k .size;
+        control = w .control;
+        lane = w .lane;
         notices = λ read.
-            rw (z, add-one, drop-sets p l control-size (i * place-size kind))
+            same-places read kind (i + 1) (sets l (control-size + i * size) p) l′ (w .places)
+            ∙ rw (z, add-one, drop-sets p l control-size (i * place-size kind))
             (cells-push read (place-size kind) (drop control-size l) i p (k .place) (omega arith));
       }
 
 -- ==== where it is held
 
-module _ (read : List ℕ → Notice) (kind : ℕ) (t : Take) (held : ℕ) (p l : List ℕ) (k : Keeping kind t held p l) where
-  pub keeps-not : t ≡ take.Not → Keeps read kind t held p l l
-  keeps-not e = rw e record { size = k .push .size; notices = ap (λ (n : ℕ). notices-in read kind n l) (held-length read kind held l) }
+module _ (read : List ℕ → Notice) (kind : ℕ) (t : Take) (p : List ℕ) (x : Subscription) (l : List ℕ) (k : Keeping kind t p x l) where
+  abbrev held : ℕ
+  held = control-of l .held
 
-  pub keeps-once : t ≡ take.Once → Keeps read kind t held p l l
-  keeps-once e = rw e record { size = k .push .size; notices = ap (λ (n : ℕ). notices-in read kind n l) (held-length read kind held l) }
+  pub keeps-not : t ≡ take.Not → Keeps read kind t p x l l
+  keeps-not e = rw e record {
+    control = k .same (ap is-held e);
+    lane = k .lane;
+    notices = ap (λ (n : ℕ). notices-in read kind n l) (held-length read kind held l);
+  }
+
+  pub keeps-once : t ≡ take.Once → Keeps read kind t p x l l
+  keeps-once e = rw e record {
+    control = k .same (ap is-held e);
+    lane = k .lane;
+    notices = ap (λ (n : ℕ). notices-in read kind n l) (held-length read kind held l);
+  }
 
   module _ (l′ : List ℕ) where
-    pub keeps-opens : t ≡ take.Opens → Pushes kind 0 p l l′ → Keeps read kind t held p l l′
+    pub keeps-opens : t ≡ take.Opens → Pushes kind 0 p x l l′ → Keeps read kind t p x l l′
     unfolding notices-in cells
-    keeps-opens e q = rw e record { size = q .size; notices = q .notices read }
+    keeps-opens e q = rw e record { control = q .control; lane = q .lane; notices = q .notices read }
 
-    pub keeps-waits : (i : ℕ) → t ≡ take.Waits i → Pushes kind i p l l′ → Keeps read kind t held p l l′
+    pub keeps-waits : (i : ℕ) → t ≡ take.Waits i → Pushes kind i p x l l′ → Keeps read kind t p x l l′
     keeps-waits i e q =
         let few : i ≤ held = subst (λ (z : Take). place-of z ≤ held) e (k .there) in
         let pre : take i (notices-in read kind held l) ≡ notices-in read kind i l = prefix read kind i held l few in
         let n : length (notices-in read kind i l ++ (read p ∷ [])) ≡ i + 1 =
         length-append (notices-in read kind i l) (read p ∷ []) ∙ ap (λ (m : ℕ). m + 1) (held-length read kind i l) in
-        rw e record { size = q .size; notices = rw (pre, n) (q .notices read) }
+        rw e record { control = q .control; lane = q .lane; notices = rw (pre, n) (q .notices read) }
 
 -- the place is one of those held, or the one behind them
 busy-place : (r : Room) (x : Subscription) → 0 < x .held → place-of ((taken-busy r x) .take) ≤ x .held
@@ -99,6 +115,32 @@ place-held r x = by-form (x .form)
     by-form Plain = zero-le
     by-form Acknowledged = go (eqb (x .held) 0) refl
 
+-- what is not held leaves the subscription as it was
+abbrev Same : Subscription → Taken → Type 0
+Same x t = is-held (t .take) ≡ false → x ≡ t .next
+
+busy-same : (r : Room) (x : Subscription) → Same x (taken-busy r x)
+busy-same the-newest x e = absurd (true≢false e)
+busy-same (up-to m) x e = go (leb m (x .held)) e
+  where
+    go : (b : Bool) → Same x (cond {A = Taken} b (record { take = take.Not; next = x })
+        (record { take = take.Waits (x .held); next = holding x (x .clock) (x .held + 1) }))
+    go true e = refl
+    go false e = absurd (true≢false e)
+
+pub same-unheld : (r : Room) (x : Subscription) → Same x (taken r x)
+unfolding taken
+same-unheld r x = by-form (x .form)
+  where
+    go : (b : Bool) → Same x (cond {A = Taken} b (record { take = take.Opens; next = holding x 0 1 }) (taken-busy r x))
+    go true e = absurd (true≢false e)
+    go false e = busy-same r x e
+
+    by-form : (f : Form) → Same x (take-from f x (taken-busy r x))
+    by-form Not e = refl
+    by-form Plain e = refl
+    by-form Acknowledged e = go (eqb (x .held) 0) e
+
 -- ==== the whole event
 
 any-told : (t : Take) (n : Notice) → is-told t ≡ any (told t n)
@@ -123,30 +165,37 @@ module _ (read : List ℕ → Notice) (kind : ℕ) (l p : List ℕ) (given : Tak
   took : Took (room-of kind) (act (room-of kind) (news n) (subscription-in x ns)) (takes (room-of kind) (subscription-in x ns)) n ns t
   took = take-right n (room-of kind) (kind-fits kind (given .known) .some) x ns (holds read kind l (given .lane))
 
-  pub takes-place : Keeping kind (t .take) (x .held) p l
-  takes-place = record {
-    there = place-held (room-of kind) x;
-    push = record { known = given .known; size = given .lane .size; few = took .place; place = given .place };
-  }
-
-  pub takes-storable : Storable kind (t .next)
+  takes-storable : Storable kind (t .next)
   takes-storable =
       let c = took .holds .clock in
       let h = took .holds .held in
       let f = took .holds .fits in
       record { clock = omega arith; held = omega arith }
 
-  pub takes-so : (l₁ l′ : List ℕ) → Keeps read kind (t .take) (x .held) p l l₁ → Stored kind (t .next) l₁ l′
+  pub takes-place : Keeping kind (t .take) p (t .next) l
+  takes-place = record {
+    lane = given .lane;
+    there = place-held (room-of kind) x;
+    push = record {
+      known = given .known;
+      size = given .lane .size;
+      few = took .place;
+      place = given .place;
+      control = takes-storable;
+    };
+    same = same-unheld (room-of kind) x;
+  }
+
+  pub takes-so : (l′ : List ℕ) → Keeps read kind (t .take) p (t .next) l l′
       → Takes read kind p l (is-taken (t .take)) (is-told (t .take)) l′
   unfolding lane-by
-  takes-so l₁ l′ k w =
+  takes-so l′ k =
       let now-held : notices-in read kind (t .next .held) l′ ≡ kept (t .take) n ns =
-      same-places read kind (t .next .held) l₁ l′ (w .places) ∙ ap (λ (i : ℕ). notices-in read kind i l₁) (took .holds .held)
-      ∙ k .notices in
+      ap (λ (i : ℕ). notices-in read kind i l′) (took .holds .held) ∙ k .notices in
       record {
         deals = record {
-          lane = w .lane;
-          becomes = rw (w .control, now-held) (sym (ap (λ (z : model.Subscription × List Notice). z .0) (took .acts)));
+          lane = k .lane;
+          becomes = rw (k .control, now-held) (sym (ap (λ (z : model.Subscription × List Notice). z .0) (took .acts)));
           sends = any-told (t .take) n ∙ ap (λ (z : model.Subscription × List Notice). any (z .1)) (sym (took .acts));
         };
         takes = sym (took .takes);

@@ -130,28 +130,40 @@ is-told take.Once = true
 is-told take.Opens = true
 is-told (take.Waits place) = false
 
--- the place p goes behind the first i
-pub record Pushing (kind i : ℕ) (p l : List ℕ) : Type 0 where
+-- whether its notice is held
+abbrev pub is-held : Take → Bool
+is-held take.Not = false
+is-held take.Once = false
+is-held take.Opens = true
+is-held (take.Waits place) = true
+
+-- the place p goes behind the first i, and x to the control
+pub record Pushing (kind i : ℕ) (p : List ℕ) (x : Subscription) (l : List ℕ) : Type 0 where
   pub known : kind < length kinds
   pub size : length l ≡ lane-size kind
   pub few : i < most kind
   pub place : length p ≡ place-size kind
+  pub control : Storable kind x
 
 -- its notice stands there
-pub record Pushes (kind i : ℕ) (p l l′ : List ℕ) : Type 0 where
-  pub size : length l′ ≡ lane-size kind
+pub record Pushes (kind i : ℕ) (p : List ℕ) (x : Subscription) (l l′ : List ℕ) : Type 0 where
+  pub control : control-of l′ ≡ x
+  pub lane : Lane kind l′
   pub notices : (read : List ℕ → Notice) → notices-in read kind (i + 1) l′ ≡ notices-in read kind i l ++ (read p ∷ [])
 
--- the place p is to be held as `t` says, where so many are held
-pub record Keeping (kind : ℕ) (t : Take) (held : ℕ) (p l : List ℕ) : Type 0 where
-  pub there : place-of t ≤ held
-  pub push : Pushing kind (place-of t) p l
+-- the place p is to be held as `t` says, and x to be the subscription that holds it; where it is not held, x is what it was
+pub record Keeping (kind : ℕ) (t : Take) (p : List ℕ) (x : Subscription) (l : List ℕ) : Type 0 where
+  pub lane : Lane kind l
+  pub there : place-of t ≤ control-of l .held
+  pub push : Pushing kind (place-of t) p x l
+  pub same : is-held t ≡ false → control-of l ≡ x
 
 -- its notice is held so
-pub record Keeps (read : List ℕ → Notice) (kind : ℕ) (t : Take) (held : ℕ) (p l l′ : List ℕ) : Type 0 where
-  pub size : length l′ ≡ lane-size kind
+pub record Keeps (read : List ℕ → Notice) (kind : ℕ) (t : Take) (p : List ℕ) (x : Subscription) (l l′ : List ℕ) : Type 0 where
+  pub control : control-of l′ ≡ x
+  pub lane : Lane kind l′
   pub notices :
-      let ns = kept t (read p) (notices-in read kind held l) in
+      let ns = kept t (read p) (notices-in read kind (control-of l .held) l) in
       notices-in read kind (length ns) l′ ≡ ns
 
 -- an event of a kind in the place p, to a lane of that kind

@@ -314,25 +314,26 @@ fn is_told(t: Take) -> bool
     }
 }
 
-// A notice goes to place i, as the last of those held.
-fn put(lane: &mut [u8], kind: usize, i: u64, place: &[u8])
-    requires { ⌜ Pushing kind i (now place) (now lane) ⌝ }
-    ensures { λ _. ⌜ Pushes kind i (now (place .entry)) (now (lane .entry)) (now (lane .exit)) ⌝ }
+// A notice goes to place i, as the last of those held, and the subscription that holds it to the control.
+fn put(lane: &mut [u8], kind: usize, i: u64, place: &[u8], next: Subscription)
+    requires { ⌜ Pushing kind i (now place) next (now lane) ⌝ }
+    ensures { λ _. ⌜ Pushes kind i (now (place .entry)) next (now (lane .entry)) (now (lane .exit)) ⌝ }
 {
     let at = CONTROL_SIZE + i as usize * place_size(kind);
     text::copy(place, lane, at);
+    store(lane, kind, next);
 }
 
-// It goes to its place, where it has one.
-fn hold(lane: &mut [u8], kind: usize, held: u64, take: Take, place: &[u8])
-    requires { ⌜ Keeping kind take held (now place) (now lane) ⌝ }
-    ensures { λ _. ⌜ ((read : List ℕ → Notice) → Keeps read kind take held (now (place .entry)) (now (lane .entry)) (now (lane .exit))) ⌝ }
+// It goes to its place, where it has one; where it has none, the lane is as it was.
+fn hold(lane: &mut [u8], kind: usize, take: Take, place: &[u8], next: Subscription)
+    requires { ⌜ Keeping kind take (now place) next (now lane) ⌝ }
+    ensures { λ _. ⌜ ((read : List ℕ → Notice) → Keeps read kind take (now (place .entry)) next (now (lane .entry)) (now (lane .exit))) ⌝ }
 {
     match take {
         Take::Not => {}
         Take::Once => {}
-        Take::Opens => put(lane, kind, 0, place),
-        Take::Waits(i) => put(lane, kind, i, place),
+        Take::Opens => put(lane, kind, 0, place, next),
+        Take::Waits(i) => put(lane, kind, i, place, next),
     }
 }
 
@@ -351,9 +352,8 @@ pub fn take(lane: &mut [u8], kind: usize, place: &[u8]) -> Told
     let x = load(lane);
     let t = taking(x, kind);
     let take = t.take;
-    hold(lane, kind, x.held, take, place);
     let next = t.next;
-    store(lane, kind, next);
+    hold(lane, kind, take, place, next);
     Told {
         taken: is_taken(take),
         tell: is_told(take),

@@ -1,16 +1,13 @@
--- The rule of the table of messages, that a row says what the model's entry at its place says, and the search for a number in it.
+-- The rule of the table of messages, that a row says what the model's entry at its place says.
 use mathlib.Core.Path.{_≡_, refl, sym, ap, _∙_}
 use mathlib.Core.Bool.{Bool, true, false, _&&_, So, and-eq-true-iff, false≢true}
 use mathlib.Core.List.{List, []}
-use mathlib.Core.Option.{some}
-use Prim.Native.Nat.{ℕ, _+_, _<_}
-use native.Mathlib.Numerals.{add-one}
-use native.Mathlib.Omega.{arith}
+use mathlib.Core.Option.{Option, none, some}
+use Prim.Native.Nat.{ℕ, _<_}
 use lib.Dec.{eqb}
-use lib.ListN.{getD, drop}
-use lib.Seq.{drop-cons}
-use borrow.Author.Tests.{eqb-true, eqb-false, eq-eqb, ne-eqb}
-use Rattle.model.specs.Messages.{Entry, entry, Revisions, not-read, revisions, mirrors, table, listed, entry-of}
+use lib.ListN.{getD}
+use borrow.Author.Tests.{eqb-true}
+use Rattle.model.specs.Messages.{Entry, entry, Revisions, not-read, revisions, mirrors, table, entry-of}
 use Rattle.message.specs.Inner.{any, messages, Spans, read, is-listed, Lists}
 use Rattle.message.proofs.AtEach.{at-each}
 
@@ -60,29 +57,13 @@ row-at k = getD messages k []
 rule : (k : ℕ) → k < 10 → Says (row-at k) (entry-at k)
 rule k h = says-tells (row-at k) (entry-at k) (at-each says messages table [] beyond refl k h)
 
--- ==== the search for a number, row after row
+-- ==== a number and its row
 
-module _ (mid k : ℕ) (h : k < 10) (q : entry-of mid ≡ listed (drop k table) mid) where
-  -- the row at k has another number: the entry is further on
-  pub passed : (getD (row-at k) 0 0 ≡ mid → ⊥) → entry-of mid ≡ listed (drop (k + 1) table) mid
-  passed ne = q ∙ rw (add-one, drop-cons table k beyond h, ne-eqb _ mid (λ e. ne (rule k h .0 ∙ e)))
+-- the entry of the number that a row has
+pub found : (mid k : ℕ) → k < 10 → entry-of mid ≡ some (entry-at k) → getD (row-at k) 0 0 ≡ mid
+    → Lists mid (read (row-at k)) (entry-of mid)
+found mid k h z e = let s = rule k h in rw z (sym e ∙ s .0, s .1, s .2, s .3)
 
-  -- it has the number: its entry is the one
-  pub found : getD (row-at k) 0 0 ≡ mid → Lists mid (read (row-at k)) (entry-of mid)
-  found e =
-      let s = rule k h in
-      let z : entry-of mid ≡ some (entry-at k) = q ∙ rw (drop-cons table k beyond h, eq-eqb _ mid (sym (s .0) ∙ e)) in
-      rw z (sym e ∙ s .0, s .1, s .2, s .3)
-
--- a number that is listed and in no row before the last is in the last
-pub the-last : (mid k : ℕ) → is-listed (entry-of mid) ≡ true → entry-of mid ≡ listed (drop k table) mid → k ≡ 9
-    → Lists mid (read (row-at 9)) (entry-of mid)
-the-last mid k s q e = by-test (eqb (getD (row-at 9) 0 0) mid) refl
-  where
-    here : entry-of mid ≡ listed (drop 9 table) mid
-    here = rw e at q
-
-    by-test : (b : Bool) → eqb (getD (row-at 9) 0 0) mid ≡ b → Lists mid (read (row-at 9)) (entry-of mid)
-    by-test true z = found mid 9 (omega arith) here (eqb-true (getD (row-at 9) 0 0) mid z)
-    by-test false z =
-        absurd (false≢true (sym (ap is-listed (passed mid 9 (omega arith) here (eqb-false (getD (row-at 9) 0 0) mid z))) ∙ s))
+-- of a number that has none nothing is asked
+pub unlisted : {A : Type 0} (o : Option Entry) → o ≡ none → is-listed o ≡ true → A
+unlisted o e h = absurd (false≢true (sym (ap is-listed e) ∙ h))

@@ -7,7 +7,9 @@ use mathlib.Core.Option.{Option, none, some}
 use lib.ListN.{getD}
 use Rattle.model.specs.Tests.{first}
 use Rattle.model.specs.Messages.{Entry, Revisions, not-read, revisions, Effect, Error, unknown-message, Standing, own-test}
+use Rattle.message.specs.Meaning.{effect-in, effect-listed}
 use Rattle.message.specs.declared.Row.{Row}
+use Rattle.message.specs.declared.Listed.{Listed}
 
 -- ==== 01, "What a message does", the table's columns of lengths and revisions
 
@@ -50,6 +52,10 @@ read r = record { least = getD r 1 0; greatest = getD r 2 0; oldest = getD r 3 0
 abbrev pub Lists : ℕ → Row → Option Entry → Type 0
 Lists mid r none = ⊥
 Lists mid r (some e) = (mid ≡ e .mid) × (r .least ≡ e .least) × (r .greatest ≡ e .greatest) × Spans (e .revision) (r .oldest) (r .newest)
+
+-- what the code has for any number: the entry's effect, and its row where there is an entry
+abbrev pub ListsAll : ℕ → Listed → Option Entry → Type 0
+ListsAll mid l o = (effect-in (l .effect) ≡ effect-listed o) × (is-listed o ≡ true → Lists mid (l .row) o)
 
 -- ==== 01, "What a message does", the last of the tests: the message's own
 

@@ -6,7 +6,7 @@ ghost use lib.Dec.{eqb};
 ghost use Rattle.model.specs.Bytes.{within as is-within};
 ghost use Rattle.model.specs.Messages.{entry-of, own, error-of};
 ghost use Rattle.message.specs.Meaning.{effect-in, effect-listed, answered, standing-of, error-in, error-number};
-ghost use Rattle.message.specs.Inner.{read, is-listed, Lists, own-error};
+ghost use Rattle.message.specs.Inner.{read, ListsAll, own-error};
 use model::IDENTIFIERS;
 use model::KIND_COUNT;
 use model::TIGHTENINGS;
@@ -23,37 +23,6 @@ pub enum Effect {
     Unsubscribes { kind: usize, error: u64 },
     Acknowledges { kind: usize },
     Mirrors,
-}
-
-// The decision over message numbers.
-pub fn effect_of(mid: u64) -> Effect
-    ensures { λ r. ⌜ effect-in r ≡ effect-listed (entry-of mid) ⌝ }
-{
-    match mid {
-        1 => Effect::Starts,
-        3 => Effect::Stops,
-        50 => Effect::Identifies { error: 8 },
-        51 => Effect::Subscribes {
-            kind: IDENTIFIERS,
-            error: 6,
-        },
-        53 => Effect::Acknowledges { kind: IDENTIFIERS },
-        54 => Effect::Unsubscribes {
-            kind: IDENTIFIERS,
-            error: 7,
-        },
-        60 => Effect::Subscribes {
-            kind: TIGHTENINGS,
-            error: 9,
-        },
-        62 => Effect::Acknowledges { kind: TIGHTENINGS },
-        63 => Effect::Unsubscribes {
-            kind: TIGHTENINGS,
-            error: 10,
-        },
-        9999 => Effect::Mirrors,
-        _ => Effect::Unknown,
-    }
 }
 
 // Whether a message is ever answered: an acknowledge is not, and an unknown one is.
@@ -110,20 +79,68 @@ fn read_row(row: [u64; 5]) -> Row
     }
 }
 
-// The row of a number that is listed: the last one, where no other has the number.
-fn row_of(mid: u64) -> Row
-    requires { ⌜ is-listed (entry-of mid) ≡ true ⌝ }
-    ensures { λ r. ⌜ Lists mid r (entry-of mid) ⌝ }
+// What is listed for a message number: what the message does, and its row.
+struct Listed {
+    effect: Effect,
+    row: Row,
+}
+
+fn with_row(effect: Effect, row: [u64; 5]) -> Listed
+    ensures { λ r. ⌜ r ≡ record { effect = effect; row = read row } ⌝ }
 {
-    let mut k = 0;
-    while k < 9 {
-        let row = MESSAGES[k];
-        if row[0] == mid {
-            return read_row(row);
-        }
-        k += 1;
+    let row = read_row(row);
+    Listed { effect, row }
+}
+
+// The decision over message numbers. A number of the closing arm has no row that anything reads.
+fn listed_of(mid: u64) -> Listed
+    ensures { λ r. ⌜ ListsAll mid r (entry-of mid) ⌝ }
+{
+    match mid {
+        1 => with_row(Effect::Starts, MESSAGES[0]),
+        3 => with_row(Effect::Stops, MESSAGES[1]),
+        50 => with_row(Effect::Identifies { error: 8 }, MESSAGES[2]),
+        51 => with_row(
+            Effect::Subscribes {
+                kind: IDENTIFIERS,
+                error: 6,
+            },
+            MESSAGES[3],
+        ),
+        53 => with_row(Effect::Acknowledges { kind: IDENTIFIERS }, MESSAGES[4]),
+        54 => with_row(
+            Effect::Unsubscribes {
+                kind: IDENTIFIERS,
+                error: 7,
+            },
+            MESSAGES[5],
+        ),
+        60 => with_row(
+            Effect::Subscribes {
+                kind: TIGHTENINGS,
+                error: 9,
+            },
+            MESSAGES[6],
+        ),
+        62 => with_row(Effect::Acknowledges { kind: TIGHTENINGS }, MESSAGES[7]),
+        63 => with_row(
+            Effect::Unsubscribes {
+                kind: TIGHTENINGS,
+                error: 10,
+            },
+            MESSAGES[8],
+        ),
+        9999 => with_row(Effect::Mirrors, MESSAGES[9]),
+        _ => with_row(Effect::Unknown, [0; 5]),
     }
-    read_row(MESSAGES[9])
+}
+
+// What a message of that number does.
+pub fn effect_of(mid: u64) -> Effect
+    ensures { λ r. ⌜ effect-in r ≡ effect-listed (entry-of mid) ⌝ }
+{
+    let l = listed_of(mid);
+    l.effect
 }
 
 // ---- the tests
@@ -216,11 +233,12 @@ fn own_error(x: Standing, e: Effect) -> Verdict
 pub fn judge(x: Standing, mid: u64, size: usize, revision: u64, data_field: &[u8]) -> Verdict
     ensures { λ r. ⌜ error-in r ≡ error-of (standing-of x) mid size revision (now (data_field .entry)) ⌝ }
 {
-    let e = effect_of(mid);
+    let l = listed_of(mid);
+    let e = l.effect;
     if let Effect::Unknown = e {
         return Verdict::Unknown;
     }
-    let row = row_of(mid);
+    let row = l.row;
     if starts_again(x.started, mid) {
         return Verdict::AlreadyStarted;
     }

@@ -5,5 +5,6 @@ pub mod Turns
 pub mod Starts
 pub mod Events
 pub mod Says
+pub mod Again
 pub mod Passes
 pub mod Receives

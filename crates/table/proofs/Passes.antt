@@ -1,27 +1,33 @@
 -- A tick and an event to one session: first its region changes, and then what it has to say is written.
 use mathlib.Core.Path.{_≡_, sym, ap, ap₂, _∙_}
 use Prim.Native.Nat.{ℕ, _+_, _≤_}
-use mathlib.Core.Bool.{true}
+use native.Mathlib.Omega.{arith}
+use mathlib.Core.Bool.{true, false}
 use mathlib.Core.List.{List, [], _∷_}
 use Rattle.model.specs.Records.{Settings}
 use Rattle.model.specs.Kinds.{kinds, kind-at, copy-most, copies-most}
+use Rattle.model.specs.Notices.{is-subscribed}
 use Rattle.model.specs.Session.{Emission}
 use Rattle.model.specs.Local.{Local, tick, event, step, takes}
 use Rattle.model.specs.World.{to as to-one}
 use Rattle.text.specs.Put.{Put}
-use Rattle.text.proofs.Puts.{put-as}
+use Rattle.text.proofs.Puts.{put-nothing, put-as}
 use Rattle.frame.specs.Places.{event-in}
 use Rattle.frame.specs.declared.To.{To}
+use Rattle.frame.specs.declared.Asked.{Asked}
 use Rattle.session.specs.Effects.{out-bytes}
 use Rattle.lane.specs.declared.Told as lane
-use Rattle.region.specs.Region.{session-of, Good}
+use Rattle.region.specs.Region.{session-of, subscription-in, Good}
 use Rattle.region.specs.Said.{Ticks, tick-said, Takes, event-said}
 use Rattle.region.specs.declared.Ticked.{Ticked}
 use Rattle.table.specs.Table.{region-in, decode, settings-in, Went}
-use Rattle.table.specs.Says.{Lent, CopyLent, DueLent}
-use Rattle.table.specs.Passes.{EventLent, TellsOne}
+use Rattle.table.specs.Says.{Lent, DueLent, asked-in}
+use Rattle.table.specs.Passes.{Last, AskedLent, Copies, EventLent, TellsOne}
+use Rattle.table.specs.declared.Copied.{Copied}
 use Rattle.table.proofs.Regions.{part, put, part-is, put-in, put-table, put-settings}
 use Rattle.table.proofs.Alone.{went-alone, by-settings}
+use Rattle.table.proofs.Says.{copy-said}
+use Rattle.table.proofs.Again.{copied-so, last-now}
 
 -- ==== the region of a session has become r, and what that leaves to say was written
 
@@ -58,23 +64,60 @@ module _ {t o : List ℕ} {to : To} (l : Lent t o to (copies-most kinds)) {ticke
 
 -- ==== an event
 
-module _ {t o : List ℕ} {to : To} {kind : ℕ} {p : List ℕ} (e : EventLent t o to kind p) {told : lane.Told} {r : List ℕ}
+module _ {t o : List ℕ} {to : To} {kind : ℕ} {p : List ℕ} {c : Copied} (e : EventLent t o to kind p c) {told : lane.Told} {r : List ℕ}
     (w : Takes kind p (part t (to .session)) told r) where
-  pub copy-lent : told .tell ≡ true → CopyLent (put t (to .session) r) o to kind p
-  copy-lent b = record {
-    known = e .known;
-    lent = still-lent (e .lent) (w .good);
-    place = e .place;
-    subscribed = rw (there (e .lent) (w .good)) (w .ready b);
-  }
+  abbrev t₁ : List ℕ
+  t₁ = put t (to .session) r
 
-  pub told-one : {next : ℕ} {o′ : List ℕ} → next ≤ to .at + copy-most (kind-at kind)
-      → Put o (to .at) (out-bytes (to .session) (event-said (settings-in (put t (to .session) r)) kind p told
-      (region-in (to .session) (put t (to .session) r)))) next o′
-      → TellsOne t o to kind p (record { at = next; taken = told .taken }) (put t (to .session) r) o′
-  told-one within v = record {
+  -- what was written last is so by the settings, which are as they were
+  last-still : Last (settings-in t₁) kind p c (to .at) o
+  last-still = rw (put-settings t (to .session) r (e .lent .table .size) (e .lent .session) (w .good .size)) (e .last)
+
+  pub asked-lent : {asked : Asked} → asked ≡ asked-in kind (region-in (to .session) t₁) → AskedLent t₁ o to asked p c
+  asked-lent q = rw q (record { known = e .known; lent = still-lent (e .lent) (w .good); place = e .place; last = last-still })
+
+  told-one : {next : ℕ} {o′ : List ℕ} (c′ : Copied) → next ≤ to .at + copy-most (kind-at kind)
+      → Put o (to .at) (out-bytes (to .session) (event-said (settings-in t₁) kind p told (region-in (to .session) t₁))) next o′
+      → Last (settings-in t₁) kind p c′ next o′
+      → TellsOne t o to kind p (record {
+        at = next;
+        taken = told .taken;
+        from = c′ .from;
+        revision = c′ .revision;
+        «no_acknowledge» = c′ .«no_acknowledge»;
+      }) t₁ o′
+  told-one c′ within v last = record {
     within = within;
     takes = w .takes ∙ ap (takes kind) (sym (part-is t (to .session) (e .lent .session)));
     went = passed (e .lent) (w .good) (event (event-in kind p)) (λ st z. event-said st kind p told z)
         (by-settings t (event (event-in kind p)) (session-of (part t (to .session))) ∙ w .steps (settings-in t)) v;
+    last = last;
   }
+
+  -- nothing went out: what was written last still is
+  pub told-nothing : told .tell ≡ false → TellsOne t o to kind p (record {
+    at = to .at;
+    taken = told .taken;
+    from = c .from;
+    revision = c .revision;
+    «no_acknowledge» = c .«no_acknowledge»;
+  }) t₁ o
+  told-nothing b = told-one c (omega arith) (rw b (put-nothing o (to .at))) last-still
+
+  -- a copy went out: it is the last
+  pub told-copy : {next : ℕ} {o′ : List ℕ} {asked : Asked} → told .tell ≡ true → asked ≡ asked-in kind (region-in (to .session) t₁)
+      → Copies (settings-in t₁) asked p to o next o′ → TellsOne t o to kind p (record {
+        at = next;
+        taken = told .taken;
+        from = to .at;
+        revision = asked .revision;
+        «no_acknowledge» = asked .«no_acknowledge»;
+      }) t₁ o′
+  told-copy {next} {o′} {asked} b q v =
+      let a = asked-in kind (region-in (to .session) t₁) in
+      let u : Copies (settings-in t₁) a p to o next o′ = rw q at v in
+      let subscribed : is-subscribed (subscription-in kind (region-in (to .session) t₁)) ≡ true =
+      rw (there (e .lent) (w .good)) (w .ready b) in
+      rw q (told-one (copied-so (to .at) a) (u .within)
+      (rw b (put-as (copy-said (settings-in t₁) (to .session) kind (region-in (to .session) t₁) p subscribed) (u .bytes)))
+      (last-now (e .lent .room) u))

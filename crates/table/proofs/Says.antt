@@ -7,6 +7,7 @@ use mathlib.Core.Bool.{Bool, true, false}
 use mathlib.Core.List.{List, [], _∷_, _++_, map, append-nil}
 use lib.ListN.{length, getD, drop, length-drop, drop-of-length-le}
 use lib.Seq.{length-take-le}
+use Rattle.model.specs.Limits.{session-count}
 use Rattle.model.specs.Records.{Settings}
 use Rattle.model.specs.Kinds.{Kind, kinds, kind-at, copy-most, copies-most}
 use Rattle.model.specs.Frames.{event-frame, frame-record}
@@ -17,33 +18,29 @@ use Rattle.text.proofs.Lists.{drop-next}
 use Rattle.text.proofs.Puts.{Left, left-all, left-put, left-none, left-as}
 use Rattle.frame.specs.Places.{place-size, event-in, notice-in}
 use Rattle.session.specs.Effects.{out-bytes}
-use Rattle.session.specs.declared.Subscription as control
 use Rattle.session.proofs.Replies.{out-append}
 use Rattle.lane.specs.Kinds.{control-size, lane-size}
-use Rattle.lane.specs.Lane.{is-plain, control-of, first-in, lane-of}
+use Rattle.lane.specs.Lane.{first-in}
 use Rattle.lane.proofs.KindLaws.{kind-fits}
 use Rattle.lane.proofs.Lanes.{first-fits}
 use Rattle.lane.proofs.Sayings.{tell-said, open-there, open-first}
-use Rattle.region.specs.Region.{region-size, lane-in, subscriptions-in}
+use Rattle.region.specs.Region.{region-size, lane-in, subscriptions-in, subscription-in}
 use Rattle.region.specs.Said.{copies-out, due-copy, due-copies, Ready}
 use Rattle.region.proofs.Areas.{lane-length, length-subscriptions, subscription-at, there}
 use Rattle.frame.specs.declared.To.{To}
-use Rattle.table.specs.Table.{region-in, settings-in}
-use Rattle.table.specs.Says.{Lent, Wrote, CopyLent, OpenLent, DueLent, subscription-to, subscriptions-to}
+use Rattle.table.specs.Table.{region-in, settings-in, Table}
+use Rattle.table.specs.Says.{Lent, Wrote, CopyLent, OpenLent, DueLent, subscription-to, subscriptions-to, asked-in}
 use Rattle.table.proofs.Regions.{length-in}
 
 -- ==== a lane, as it is read in the table
 
-module _ {t o : List ℕ} {to : To} {most : ℕ} (p : Lent t o to most) {g : List ℕ} (eg : g ≡ region-in (to .session) t) where
+module _ {t : List ℕ} {s : ℕ} (table : Table t) (few : s < session-count) {g : List ℕ} (eg : g ≡ region-in s t) where
   pub region-long : length g ≡ region-size
-  region-long = ap length eg ∙ length-in t (to .session) (p .table .size) (p .session)
+  region-long = ap length eg ∙ length-in t s (table .size) few
 
   module _ (kind : ℕ) {l : List ℕ} (el : l ≡ lane-in kind g) where
-    pub lane-is : l ≡ lane-in kind (region-in (to .session) t)
-    lane-is = el ∙ ap (lane-in kind) eg
-
-    pub first-is : {f : List ℕ} → f ≡ first-in kind l → f ≡ first-in kind (lane-in kind (region-in (to .session) t))
-    first-is e = e ∙ ap (first-in kind) lane-is
+    pub first-is : {f : List ℕ} → f ≡ first-in kind l → f ≡ first-in kind (lane-in kind (region-in s t))
+    first-is e = e ∙ ap (first-in kind) (el ∙ ap (lane-in kind) eg)
 
     pub lane-long : kind < length kinds → length l ≡ lane-size kind
     lane-long known = ap length el ∙ lane-length g kind known region-long
@@ -51,13 +48,13 @@ module _ {t o : List ℕ} {to : To} {most : ℕ} (p : Lent t o to most) {g : Lis
 -- ==== a copy
 
 -- of the notice in the place p, to one that is subscribed
-pub copy-said : {st st′ : Settings} (s kind : ℕ) (l p : List ℕ) {x : control.Subscription} {b : Bool} → st ≡ st′
-    → x ≡ control-of l → b ≡ is-plain (x .form) → is-subscribed (lane-of kind l) ≡ true
-    → frame-record s (event-frame st (x .revision) b (event-in kind p))
-    ≡ out-bytes s (copies-out st′ kind (lane-of kind l) (notice-in kind p ∷ []))
-copy-said {st′ = st′} s kind l p es ex eb h =
-    rw (eb, ex, es) (sym (append-nil _)
-    ∙ ap (λ (cs : List Copy). out-bytes s (map copy (tag kind cs))) (sym (tell-said (notice-in kind) kind l st′ (notice-in kind p) h)))
+pub copy-said : (st : Settings) (s kind : ℕ) (r p : List ℕ) → is-subscribed (subscription-in kind r) ≡ true
+    → frame-record s (event-frame st (asked-in kind r .revision) (asked-in kind r .«no_acknowledge») (event-in kind p))
+    ≡ out-bytes s (copies-out st kind (subscription-in kind r) (notice-in kind p ∷ []))
+copy-said st s kind r p h =
+    sym (append-nil _)
+    ∙ ap (λ (cs : List Copy). out-bytes s (map copy (tag kind cs)))
+    (sym (tell-said (notice-in kind) kind (lane-in kind r) st (notice-in kind p) h))
 
 -- of the open notice, which is in the first place
 module _ {t o : List ℕ} {to : To} {kind : ℕ} {due : Bool} (p : OpenLent t o to kind due) (h : due ≡ true) {f : List ℕ}
@@ -68,7 +65,7 @@ module _ {t o : List ℕ} {to : To} {kind : ℕ} {due : Bool} (p : OpenLent t o 
   pub first-lent : CopyLent t o to kind f
   first-lent =
       let fits = first-fits kind (kind-fits kind (p .known) .some) in
-      let size : length l ≡ lane-size kind = lane-long (p .lent) refl kind refl (p .known) in
+      let size : length l ≡ lane-size kind = lane-long (p .lent .table) (p .lent .session) refl kind refl (p .known) in
       record {
         known = p .known;
         lent = p .lent;

@@ -7,6 +7,8 @@ use mathlib.Core.Option.{Option·map as option-map}
 use lib.ListN.{length}
 use Rattle.model.specs.Limits.{session-count}
 use Rattle.model.specs.Runs.{Piece}
+use Rattle.model.specs.Records.{Settings}
+use Rattle.model.specs.Frames.{event-frame, frame-record}
 use Rattle.model.specs.Kinds.{kinds, kind-at, copy-most, session-most, event-most, receive-most}
 use Rattle.model.specs.Events.{identified}
 use Rattle.model.specs.Local.{event, takes, announces}
@@ -14,10 +16,13 @@ use Rattle.model.specs.World.{World, session-at, Moment, to as to-one, to-all, 
 use Rattle.model.specs.Calls.{output, takers, happening}
 use Rattle.text.specs.Put.{Put}
 use Rattle.frame.specs.Places.{place-size, event-in}
+use Rattle.frame.specs.Output.{Recorded}
 use Rattle.frame.specs.declared.To.{To}
+use Rattle.frame.specs.declared.Asked.{Asked}
 use Rattle.region.specs.Said.{ending, Knows}
-use Rattle.table.specs.Table.{Table, decode, Becomes, Went}
+use Rattle.table.specs.Table.{Table, decode, settings-in, Becomes, Went}
 use Rattle.table.specs.Says.{Lent}
+use Rattle.table.specs.declared.Copied.{Copied}
 use Rattle.table.specs.declared.Took.{Took}
 use Rattle.table.specs.declared.Told.{Told}
 use Rattle.table.specs.declared.Heard.{Heard}
@@ -29,17 +34,47 @@ pub record EventTo (t : List ℕ) (kind : ℕ) (p : List ℕ) : Type 0 where
   pub known : kind < length kinds
   pub place : length p ≡ place-size kind
 
--- and to one session, with an output
-pub record EventLent (t o : List ℕ) (to : To) (kind : ℕ) (p : List ℕ) : Type 0 where
+-- what was written last, up to `at`: nothing, or the record of the notice's frame as it was asked for, to one session or another
+pub record Last (st : Settings) (kind : ℕ) (p : List ℕ) (c : Copied) (at : ℕ) (o : List ℕ) : Type 0 where
+  pub few : at ≤ c .from + copy-most (kind-at kind)
+  pub shown : c .from < at → Recorded o (c .from) at (event-frame st (c .revision) (c .«no_acknowledge») (event-in kind p))
+
+-- there is one, and it was asked for alike
+pub record Repeats (c : Copied) (at : ℕ) (asked : Asked) : Type 0 where
+  pub some : c .from < at
+  pub revision : c .revision ≡ asked .revision
+  pub flag : c .«no_acknowledge» ≡ asked .«no_acknowledge»
+
+-- for a copy, as it is asked for
+pub record AskedLent (t o : List ℕ) (to : To) (asked : Asked) (p : List ℕ) (c : Copied) : Type 0 where
+  pub known : asked .kind < length kinds
+  pub lent : Lent t o to (copy-most (kind-at (asked .kind)))
+  pub place : length p ≡ place-size (asked .kind)
+  pub last : Last (settings-in t) (asked .kind) p c (to .at) o
+
+-- it was written
+pub record Copies (st : Settings) (asked : Asked) (p : List ℕ) (to : To) (o : List ℕ) (next : ℕ) (o′ : List ℕ) : Type 0 where
+  pub within : next ≤ to .at + copy-most (kind-at (asked .kind))
+  pub bytes : Put o (to .at) (frame-record (to .session)
+      (event-frame st (asked .revision) (asked .«no_acknowledge») (event-in (asked .kind) p))) next o′
+
+-- for the event, to one session, with an output
+pub record EventLent (t o : List ℕ) (to : To) (kind : ℕ) (p : List ℕ) (c : Copied) : Type 0 where
   pub known : kind < length kinds
   pub lent : Lent t o to (copy-most (kind-at kind))
   pub place : length p ≡ place-size kind
+  pub last : Last (settings-in t) kind p c (to .at) o
+
+-- the copy that is then the last
+abbrev pub copied-by : Took → Copied
+copied-by r = record { from = r .from; revision = r .revision; «no_acknowledge» = r .«no_acknowledge» }
 
 -- to one session
 pub record TellsOne (t o : List ℕ) (to : To) (kind : ℕ) (p : List ℕ) (r : Took) (t′ o′ : List ℕ) : Type 0 where
   pub within : r .at ≤ to .at + copy-most (kind-at kind)
   pub takes : r .taken ≡ takes kind (session-at (decode t) (to .session))
   pub went : Went t o (to .at) (to-one (to .session) (event (event-in kind p)) ∷ []) (r .at) t′ o′
+  pub last : Last (settings-in t′) kind p (copied-by r) (r .at) o′
 
 -- to every session
 pub record Tells (t o : List ℕ) (at kind : ℕ) (p : List ℕ) (r : Told) (t′ o′ : List ℕ) : Type 0 where

@@ -12,9 +12,11 @@ use Rattle.model.specs.Session.{Emission}
 use Rattle.text.specs.Put.{Put}
 use Rattle.frame.specs.Places.{place-size}
 use Rattle.frame.specs.declared.To.{To}
+use Rattle.frame.specs.declared.Asked.{Asked}
+use Rattle.lane.specs.Lane.{is-plain, control-of}
 use Rattle.session.specs.Effects.{out-bytes}
 use Rattle.session.specs.declared.Reply.the-variants.{Mirrored}
-use Rattle.region.specs.Region.{subscriptions-in, subscription-in}
+use Rattle.region.specs.Region.{lane-in, subscriptions-in, subscription-in}
 use Rattle.region.specs.Said.{Ready, AllReady, ended-in}
 use Rattle.region.specs.declared.Ended.{Ended}
 use Rattle.table.specs.Table.{region-in, Table}
@@ -25,6 +27,18 @@ subscription-to to kind t = subscription-in kind (region-in (to .session) t)
 
 abbrev pub subscriptions-to : To → List ℕ → List Subscription
 subscriptions-to to t = subscriptions-in (region-in (to .session) t)
+
+-- how a session asked for notices of a kind, by its region
+abbrev pub asked-in : ℕ → List ℕ → Asked
+asked-in kind r =
+    let x = control-of (lane-in kind r) in
+    record { kind = kind; revision = x .revision; «no_acknowledge» = is-plain (x .form) }
+
+-- a table, one of its sessions, and a kind of notice
+pub record Asking (t : List ℕ) (s kind : ℕ) : Type 0 where
+  pub table : Table t
+  pub session : s < session-count
+  pub known : kind < length kinds
 
 -- a table, one of its sessions, and room for so many bytes
 pub record Lent (t o : List ℕ) (to : To) (most : ℕ) : Type 0 where

@@ -18,7 +18,9 @@ ghost use Rattle.region.specs.Said.{copies-out, due-copy, due-copies, ending, e
 ghost use Rattle.shared.specs.Shared.{settings-part};
 ghost use Rattle.table.specs.Table.{shared-area, region-in, decode, settings-in, table-formed, Table, Openable, Becomes, noted, Went};
 ghost use Rattle.table.specs.Says.{Lent, Wrote, CopyLent, OpenLent, DueLent, EndLent, subscription-to, subscriptions-to};
-ghost use Rattle.table.specs.Passes.{EventTo, EventLent, TellsOne, Tells, Happens, Hears, unended, Received};
+ghost use Rattle.table.specs.Says.{Asking, asked-in};
+ghost use Rattle.table.specs.Passes.{EventTo, Repeats, AskedLent, Copies, EventLent, TellsOne, Tells, Happens, Hears, unended};
+ghost use Rattle.table.specs.Passes.{Received};
 use frame::Asked;
 use frame::To;
 use model::IDENTIFIER_LENGTH;
@@ -144,6 +146,20 @@ fn is_plain(form: Form) -> bool
     }
 }
 
+// How a session asked for notices of that kind.
+fn asked_by(table: &[u8], s: u64, kind: usize) -> Asked
+    requires { ⌜ Asking (now table) s kind ⌝ }
+    ensures { λ r. ⌜ r ≡ asked-in kind (region-in s (now (table .entry))) ⌝ }
+{
+    let x = lane::load(region::lane(region_of(table, s), kind));
+    let form = x.form;
+    Asked {
+        kind,
+        revision: x.revision,
+        no_acknowledge: is_plain(form),
+    }
+}
+
 // A copy of the notice in a place, to a session that is subscribed to its kind.
 fn put_copy(table: &[u8], out: &mut [u8], to: To, kind: usize, place: &[u8]) -> usize
     requires { ⌜ CopyLent (now table) (now out) to kind (now place) ⌝ }
@@ -151,13 +167,7 @@ fn put_copy(table: &[u8], out: &mut [u8], to: To, kind: usize, place: &[u8]) -> 
         (subscription-to to kind (now (table .entry))) (notice-in kind (now (place .entry)) ∷ [])) to (now (out .entry)) r
         (now (out .exit)) ⌝ }
 {
-    let x = lane::load(region::lane(region_of(table, to.session), kind));
-    let form = x.form;
-    let asked = Asked {
-        kind,
-        revision: x.revision,
-        no_acknowledge: is_plain(form),
-    };
+    let asked = asked_by(table, to.session, kind);
     frame::put_copy(out, to, asked, settings(table), place)
 }
 
@@ -230,30 +240,83 @@ pub struct Told {
     pub taken: u64,
 }
 
-// What it did to one session: the place behind what went out, and whether it was taken.
+// The copy that was written last: where its record begins, which ends at the place where the next one goes, and how it was asked for.
+// Where none was written, it is empty.
+struct Copied {
+    from: usize,
+    revision: u64,
+    no_acknowledge: bool,
+}
+
+// Where the next one goes, and the one that was written last.
+struct Next {
+    to: To,
+    copied: Copied,
+}
+
+// Whether there is one, and it was asked for alike.
+fn repeats(copied: Copied, at: usize, asked: Asked) -> bool
+    ensures { λ r. ⌜ (r ≡ true → Repeats copied at asked) ⌝ }
+{
+    if copied.from >= at {
+        return false;
+    }
+    if copied.revision != asked.revision {
+        return false;
+    }
+    copied.no_acknowledge == asked.no_acknowledge
+}
+
+// A copy of an event, to a session that asked for it so: the one that was written last, once more, where it was asked for alike.
+fn put_event(table: &[u8], out: &mut [u8], next: Next, asked: Asked, place: &[u8]) -> usize
+    requires { ⌜ AskedLent (now table) (now out) (next .to) asked (now place) (next .copied) ⌝ }
+    ensures { λ r. ⌜ Copies (settings-in (now (table .entry))) asked (now (place .entry)) (next .to) (now (out .entry)) r
+        (now (out .exit)) ⌝ }
+{
+    let to = next.to;
+    let copied = next.copied;
+    if repeats(copied, to.at, asked) {
+        return frame::put_again(out, to, copied.from);
+    }
+    frame::put_copy(out, to, asked, settings(table), place)
+}
+
+// What an event did to one session: the place behind what went out, whether it was taken, and the copy that was written last.
 struct Took {
     at: usize,
     taken: bool,
+    from: usize,
+    revision: u64,
+    no_acknowledge: bool,
 }
 
 // An event of that kind, whose notice is in `place`, to one session.
-fn tell_session(table: &mut [u8], out: &mut [u8], to: To, kind: usize, place: &[u8]) -> Took
-    requires { ⌜ EventLent (now table) (now out) to kind (now place) ⌝ }
-    ensures { λ r. ⌜ TellsOne (now (table .entry)) (now (out .entry)) to kind (now (place .entry)) r (now (table .exit))
+fn tell_session(table: &mut [u8], out: &mut [u8], next: Next, kind: usize, place: &[u8]) -> Took
+    requires { ⌜ EventLent (now table) (now out) (next .to) kind (now place) (next .copied) ⌝ }
+    ensures { λ r. ⌜ TellsOne (now (table .entry)) (now (out .entry)) (next .to) kind (now (place .entry)) r (now (table .exit))
         (now (out .exit)) ⌝ }
 {
+    let to = next.to;
+    let copied = next.copied;
     let a = SHARED + to.session as usize * SIZE;
     let told = region::take(&mut table[a..a + SIZE], kind, place);
-    if told.tell {
-        let at = put_copy(table, out, to, kind, place);
+    if !told.tell {
         return Took {
-            at,
+            at: to.at,
             taken: told.taken,
+            from: copied.from,
+            revision: copied.revision,
+            no_acknowledge: copied.no_acknowledge,
         };
     }
+    let asked = asked_by(table, to.session, kind);
+    let at = put_event(table, out, next, asked, place);
     Took {
-        at: to.at,
+        at,
         taken: told.taken,
+        from: to.at,
+        revision: asked.revision,
+        no_acknowledge: asked.no_acknowledge,
     }
 }
 
@@ -270,12 +333,24 @@ fn tell(table: &mut [u8], out: &mut [u8], at: usize, kind: usize, place: &[u8]) 
     ensures { λ r. ⌜ Tells (now (table .entry)) (now (out .entry)) at kind (now (place .entry)) r (now (table .exit)) (now (out .exit)) ⌝ }
 {
     let mut at = at;
+    let mut from = at;
+    let mut revision: u64 = 0;
+    let mut no_acknowledge = false;
     let mut taken: u64 = 0;
     let mut bit: u64 = 1;
     let mut session: u64 = 0;
     while session < SESSION_COUNT {
-        let took = tell_session(table, out, To { session, at }, kind, place);
+        let copied = Copied {
+            from,
+            revision,
+            no_acknowledge,
+        };
+        let to = To { session, at };
+        let took = tell_session(table, out, Next { to, copied }, kind, place);
         at = took.at;
+        from = took.from;
+        revision = took.revision;
+        no_acknowledge = took.no_acknowledge;
         taken += share(took.taken, bit);
         bit *= 2;
         session += 1;

@@ -7,8 +7,8 @@ use native.Mathlib.Omega.{arith}
 use mathlib.Core.Bool.{Bool, true, false, _&&_, and-eq-true-iff}
 use mathlib.Core.List.{List, [], _∷_, _++_, append-assoc}
 use lib.ListN.{length, getD, set, take, drop, replicate, length-append, length-set, drop-of-length-le}
-use lib.Seq.{sets, sets-eq, set-comm, drop-cons, drop-drop, drop-set-add, drop-set-lt, take-set-le, take-at, take-nil, length-take-le}
-use lib.Seq.{take-append-add, getD-drop}
+use lib.Seq.{sets, sets-eq, set-set, set-comm, drop-cons, drop-drop, drop-set-add, drop-set-lt, take-set-le, take-at, take-nil}
+use lib.Seq.{length-take-le, take-append-add, getD-drop}
 use borrow.Rule.Slice.PartMut.{putMid, drop-put}
 use Rattle.model.specs.Bytes.{all}
 
@@ -64,6 +64,16 @@ pub sets-swap : (a b o : List ℕ) (i j : ℕ) → i + length a ≤ j → sets (
 sets-swap a [] o i j h = refl
 sets-swap a (x ∷ b) o i j h =
     sets-swap a b (set o j x) i (suc j) (omega arith) ∙ ap (λ (l : List ℕ). sets l (suc j) b) (sets-set a o i j x h)
+
+-- a run of stores over another that is as long
+pub sets-over : (a b o : List ℕ) (i : ℕ) → length a ≡ length b → sets (sets o i a) i b ≡ sets o i b
+sets-over [] [] o i h = refl
+sets-over [] (y ∷ b) o i h = absurd (omega arith)
+sets-over (x ∷ a) [] o i h = absurd (omega arith)
+sets-over (x ∷ a) (y ∷ b) o i h =
+    ap (λ (l : List ℕ). sets l (suc i) b) (sets-swap (y ∷ []) a (set o i x) i (suc i) (omega arith)
+    ∙ ap (λ (l : List ℕ). sets l (suc i) a) (set-set o i x y))
+    ∙ sets-over a b (set o i y) (suc i) (omega arith)
 
 -- the last element first
 pub sets-last : (a o : List ℕ) (i x : ℕ) → sets o i (a ++ x ∷ []) ≡ sets (set o (i + length a) x) i a

@@ -1,7 +1,7 @@
 // Bytes, and the numbers and texts in them.
 ghost use mathlib.Core.Path.{_≡_};
 ghost use mathlib.Core.Bool.{true};
-ghost use Prim.Native.Nat.{_+_, _^_, _≤_, _<_};
+ghost use Prim.Native.Nat.{_+_, _-_, _^_, _≤_, _<_};
 ghost use lib.ListN.{length, take, drop, replicate};
 ghost use lib.Seq.{sets};
 ghost use Rattle.model.specs.Bytes.{within, is-digit, is-text, is-space, all, decimal as decimal-of, digits, little as little-of, in-bytes};
@@ -192,4 +192,18 @@ pub fn shift(b: &mut [u8], to: usize, from: usize, n: usize)
         b[to + i] = b[from + i];
         i += 1;
     }
+}
+
+// The bytes from `from` up to `at`, once more behind them.
+pub fn repeat(out: &mut [u8], from: usize, at: usize) -> usize
+    requires { ⌜ (from ≤ at) × (at + (at - from) ≤ length (now out)) ⌝ }
+    ensures { λ r. ⌜ Put (now (out .entry)) at (take (at - from) (drop from (now (out .entry)))) r (now (out .exit)) ⌝ }
+{
+    let n = at - from;
+    let mut i = 0;
+    while i < n {
+        out[at + i] = out[from + i];
+        i += 1;
+    }
+    at + n
 }

@@ -1,9 +1,10 @@
--- `lane::put` meets its contract.
+-- `lane::put` meets its contract: the notice first, and then the control before it.
 use borrow.Author.Needs.{needs}
 use Prim.Native.Nat.{_+_, _*_, _≤_}
+use mathlib.Core.Path.{ap, _∙_}
 use lib.ListN.{length}
 use Rattle.lane.specs.Kinds.{control-size}
-use Rattle.lane.proofs.Events.{place-fits, pushes}
+use Rattle.lane.proofs.Events.{place-fits, still-long, pushes}
 use Rattle.lane.proofs.put.Statement.{statement}
 use Rattle.lane.proofs.put.Tie as tie
 
@@ -11,7 +12,7 @@ module _ (c : tie.After-place-size) where
   fits : let s = c .before .before .before in
       control-size + s .args .i * c .place-size .result + c .place-size .result ≤ length (s .args .lane .now)
   fits =
-      place-fits _ _ _ _ (c .before .before .before .pre) _ (c .place-size .ensures)
+      place-fits _ _ _ _ _ (c .before .before .before .pre) _ (c .place-size .ensures)
 
 copy-requires : tie.Need-copy-requires
 copy-requires c κs =
@@ -20,11 +21,23 @@ copy-requires c κs =
     let h = fits z in
     rw (s .pre .place, ← z .place-size .ensures) (search needs)
 
+store-requires : tie.Need-store-requires
+store-requires c κs =
+    let y = c .before .before .before in
+    let z = y .before .before in
+    let s = z .before .before .before in
+    record {
+      known = s .pre .known;
+      size = ap length (y .copy .ensures .output) ∙ still-long _ _ _ _ _ (s .pre) _ (z .place-size .ensures);
+      control = s .pre .control;
+    }
+
 returns : tie.Need-returns
 returns c =
-    let y = c .before .before in
+    let w = c .before .before in
+    let y = w .before .before .before .before in
     let z = y .before .before in
-    rw (y .copy .ensures .output) (pushes _ _ _ _ (z .before .before .before .pre) _ (z .place-size .ensures))
+    pushes _ _ _ _ _ (z .before .before .before .pre) _ (z .place-size .ensures) (rw (y .copy .ensures .output) at (w .store .ensures))
 
 pub put-spec : {M : Type 1} → statement M
 put-spec =
@@ -34,5 +47,6 @@ put-spec =
     (λ c. let h = fits c in search needs)
     (λ c. let h = fits c in search needs)
     copy-requires
+    store-requires
     (λ c. search needs)
     returns)

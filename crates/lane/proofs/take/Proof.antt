@@ -5,7 +5,7 @@ use Rattle.model.specs.Kinds.{room-of}
 use Rattle.frame.specs.Places.{notice-in}
 use Rattle.session.specs.Control.{taken}
 use Rattle.lane.specs.Lane.{control-of}
-use Rattle.lane.proofs.Events.{takes-place, takes-storable, takes-so}
+use Rattle.lane.proofs.Events.{takes-place, takes-so}
 use Rattle.lane.proofs.take.Statement.{statement}
 use Rattle.lane.proofs.take.Tie as tie
 
@@ -18,26 +18,17 @@ module _ (c : tie.After-taking) where
 
 hold-requires : tie.Need-hold-requires
 hold-requires c κs =
-    let t = c .before in
+    let t = c .before .before in
     let s = t .before .before .before .before .before in
-    rw (the-taking t, t .before .load .ensures) (takes-place (notice-in (s .args .kind)) _ _ _ (s .pre))
-
-store-requires : tie.Need-store-requires
-store-requires c κs =
-    let h = c .before .before .before .before in
-    let t = h .before .before in
-    let s = t .before .before .before .before .before in
-    let read = notice-in (s .args .kind) in
-    record { known = s .pre .known; size = h .hold .ensures read .size; control = rw (the-taking t) (takes-storable read _ _ _ (s .pre)) }
+    rw (the-taking t) (takes-place (notice-in (s .args .kind)) _ _ _ (s .pre))
 
 returns : tie.Need-returns
 returns c =
-    let w = c .before .before .before .before in
-    let h = w .before .before .before .before .before in
-    let t = h .before .before in
+    let h = c .before .before .before .before in
+    let t = h .before .before .before in
     let e = the-taking t in λ read.
-    rw (c .is-told .ensures, c .before .is-taken .ensures, e) (takes-so read _ _ _ (t .before .before .before .before .before .pre) _ _
-    (rw (e, t .before .load .ensures) at (h .hold .ensures read)) (rw e at (w .store .ensures)))
+    rw (c .is-told .ensures, c .before .is-taken .ensures, e) (takes-so read _ _ _ (t .before .before .before .before .before .pre) _
+    (rw e at (h .hold .ensures read)))
 
 pub take-spec : {M : Type 1} → statement M
 take-spec =
@@ -46,7 +37,6 @@ take-spec =
     (λ c κs. search needs)
     (λ c κs. search needs)
     hold-requires
-    store-requires
     (λ c κs. search needs)
     (λ c κs. search needs)
     (λ c. search needs)

@@ -11,7 +11,7 @@ first-requires : tie.Need-first-requires
 first-requires c κs =
     let g = c .before .before in
     let p = g .before .before .before .before .pre in
-    (p .known, lane-long (p .lent) (g .region-of .ensures) _ (c .before .lane .ensures) (p .known))
+    (p .known, lane-long (p .lent .table) (p .lent .session) (g .region-of .ensures) _ (c .before .lane .ensures) (p .known))
 
 put-copy-requires : tie.Need-put-copy-requires
 put-copy-requires c κs =
@@ -19,7 +19,7 @@ put-copy-requires c κs =
     let g = l .before in
     let s = g .before .before .before .before in
     first-lent (s .pre) (not-false _ (g .before .if1 .left))
-    (first-is (s .pre .lent) (g .region-of .ensures) (s .args .kind) (l .lane .ensures) (c .first .ensures))
+    (first-is (s .pre .lent .table) (s .pre .lent .session) (g .region-of .ensures) (s .args .kind) (l .lane .ensures) (c .first .ensures))
 
 returns-2 : tie.Need-returns-2
 returns-2 c =
@@ -29,7 +29,8 @@ returns-2 c =
     let g = l .before in
     let s = g .before .before .before .before in
     first-said (s .pre) (not-false _ (g .before .if1 .left))
-    (first-is (s .pre .lent) (g .region-of .ensures) (s .args .kind) (l .lane .ensures) (f .first .ensures)) (y .put-copy .ensures)
+    (first-is (s .pre .lent .table) (s .pre .lent .session) (g .region-of .ensures) (s .args .kind) (l .lane .ensures) (f .first .ensures))
+    (y .put-copy .ensures)
 
 pub say-one-spec : {M : Type 1} → statement M
 say-one-spec =
@@ -37,7 +38,8 @@ say-one-spec =
     (tie.spec
     (λ c. record { within = omega arith; bytes = rw (not-true (c .before .before .before .args .due) (c .if1 .taken)) (put-nothing _ _) })
     (λ c κs. search needs)
-    (λ c κs. let p = c .before .before .before .before .pre in (region-long (p .lent) (c .region-of .ensures), p .known))
+    (λ c κs. let p = c .before .before .before .before .pre in
+    (region-long (p .lent .table) (p .lent .session) (c .region-of .ensures), p .known))
     first-requires
     put-copy-requires
     (λ c. search needs)

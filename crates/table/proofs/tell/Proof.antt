@@ -1,5 +1,5 @@
 -- `table::tell` meets its contract. The invariant: what the sessions come to that are left is what all come to, and what is left to add
--- up of those that take the event.
+-- up of those that take the event; and the copy that was written last stands before the place.
 use borrow.Author.Needs.{needs}
 use mathlib.Core.Path.{refl}
 use Prim.Native.Nat.{_-_}
@@ -8,25 +8,38 @@ use Rattle.model.specs.Limits.{session-count}
 use Rattle.model.specs.Kinds.{kind-at, copy-most}
 use Rattle.model.specs.Local.{event}
 use Rattle.frame.specs.Places.{event-in}
-use Rattle.table.specs.Table.{decode}
+use Rattle.table.specs.Table.{decode, settings-in}
+use Rattle.table.specs.Passes.{Last}
 use Rattle.table.proofs.Turns.{Turns, turns-none, turn-lent, turns-next, turns-all}
 use Rattle.table.proofs.Events.{Summing, bit-small, adds, sums-next, sums-all}
+use Rattle.table.proofs.Again.{last-none}
 use Rattle.table.proofs.tell.Statement.{statement}
 use Rattle.table.proofs.tell.Tie as tie
 
 abbrev Inv-loop : tie.InvT-loop
-Inv-loop table₀ out₀ at kind place at₀ taken₀ bit₀ session₀ table out at′ taken bit session =
+Inv-loop table₀ out₀ at kind place at₀ from₀ revision₀ flag₀ taken₀ bit₀ session₀ table out at′ from revision flag taken bit session =
     Turns (copy-most (kind-at kind)) (event (event-in kind place)) table₀ out₀ at table out at′ session
     × Summing kind table₀ table session bit taken
+    × Last (settings-in table) kind place (record { from = from; revision = revision; «no_acknowledge» = flag }) at′ out
 
 abbrev μ-loop : tie.MeasureT-loop
-μ-loop table₀ out₀ at kind place at₀ taken₀ bit₀ session₀ table out at′ taken bit session = session-count - session
+μ-loop table₀ out₀ at kind place at₀ from₀ revision₀ flag₀ taken₀ bit₀ session₀ table out at′ from revision flag taken bit session =
+    session-count - session
+
+loop-holds : tie.Need-loop-holds Inv-loop μ-loop
+loop-holds c =
+    (turns-none _ _ _ _ _ (c .before .before .before .pre .0 .table), record { power = refl; sum = omega arith }, last-none _ _ _ _ _ _ _)
 
 tell-session-requires : tie.Need-tell-session-requires Inv-loop μ-loop
 tell-session-requires c κs =
     let p = c .before .before .before .before .before .before .before .pre in
     let l = c .before .before .before .loop in
-    record { known = p .0 .known; lent = turn-lent (l .inv .0) (p .1) (c .before .before .loop-test .taken); place = p .0 .place }
+    record {
+      known = p .0 .known;
+      lent = turn-lent (l .inv .0) (p .1) (c .before .before .loop-test .taken);
+      place = p .0 .place;
+      last = l .inv .2;
+    }
 
 loop-again : tie.Need-loop-again Inv-loop μ-loop
 loop-again c =
@@ -35,7 +48,7 @@ loop-again c =
     let i = t .before .loop .inv in
     let few = t .loop-test .taken in
     let w = k .tell-session .ensures in
-    (turns-next (i .0) few (w .within) (w .went), sums-next (i .1) _ (c .share .ensures) few _ (w .went) (w .takes))
+    (turns-next (i .0) few (w .within) (w .went), sums-next (i .1) _ (c .share .ensures) few _ (w .went) (w .takes), w .last)
 
 returns : tie.Need-returns Inv-loop μ-loop
 unfolding decode
@@ -50,7 +63,7 @@ tell-spec =
     (tie.spec
     Inv-loop
     μ-loop
-    (λ c. (turns-none _ _ _ _ _ (c .before .before .before .pre .0 .table), record { power = refl; sum = omega arith }))
+    loop-holds
     tell-session-requires
     (λ c κs. search needs)
     (λ c. let k = c .before .before .before .before .before in let t = k .before .before .before in

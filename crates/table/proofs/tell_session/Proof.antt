@@ -1,35 +1,59 @@
 -- `table::tell_session` meets its contract, by whether it is sent.
 use borrow.Author.Needs.{needs}
-use native.Mathlib.Omega.{arith}
-use Rattle.text.proofs.Puts.{put-nothing}
-use Rattle.table.proofs.Passes.{told-one, copy-lent}
+use borrow.Author.Tests.{not-true, not-false}
+use Rattle.table.proofs.Passes.{still-lent, asked-lent, told-nothing, told-copy}
 use Rattle.table.proofs.Regions.{part-good}
 use Rattle.table.proofs.tell_session.Statement.{statement}
 use Rattle.table.proofs.tell_session.Tie as tie
 
 take-requires : tie.Need-take-requires
 take-requires c κs =
-    let p = c .before .before .before .before .pre in
+    let p = c .before .before .before .before .before .before .pre in
     record { good = part-good _ _ (p .lent .table) (p .lent .session); known = p .known; place = p .place }
-
-put-copy-requires : tie.Need-put-copy-requires
-put-copy-requires c κs =
-    let k = c .before .before .before .before .before in
-    copy-lent (k .before .before .before .before .before .pre) (k .take .ensures) (c .before .before .if1 .taken)
 
 returns : tie.Need-returns
 returns c =
-    let y = c .before .before in
-    let k = y .before .before .before .before .before .before in
-    told-one (k .before .before .before .before .before .pre) (k .take .ensures) (y .put-copy .ensures .within)
-    (rw (y .before .before .before .if1 .taken) (y .put-copy .ensures .bytes))
+    let k = c .before .before .before .before in
+    told-nothing (k .before .before .before .before .before .before .before .pre) (k .take .ensures) (not-true _ (c .if1 .taken))
+
+asked-by-requires : tie.Need-asked-by-requires
+asked-by-requires c κs =
+    let k = c .before .before .before .before .before in
+    let p = k .before .before .before .before .before .before .before .pre in
+    let l = still-lent (p .lent) (k .take .ensures .good) in
+    record { table = l .table; session = l .session; known = p .known }
+
+put-event-requires : tie.Need-put-event-requires
+put-event-requires c κs =
+    let a = c .before .before in
+    let k = a .before .before .before .before .before .before in
+    asked-lent (k .before .before .before .before .before .before .before .pre) (k .take .ensures) (a .asked-by .ensures)
 
 returns-2 : tie.Need-returns-2
 returns-2 c =
-    let k = c .before .before .before in
-    told-one (k .before .before .before .before .before .pre) (k .take .ensures) (omega arith) (rw (c .if1 .left) (put-nothing _ _))
+    let y = c .before .before in
+    let a = y .before .before .before in
+    let i = a .before .before in
+    let k = i .before .before .before .before in
+    told-copy (k .before .before .before .before .before .before .before .pre) (k .take .ensures) (not-false _ (i .if1 .left))
+    (a .asked-by .ensures)
+    (y .put-event .ensures)
 
 pub tell-session-spec : {M : Type 1} → statement M
 tell-session-spec =
-    tie.close (tie.spec (λ c. search needs) (λ c. search needs) (λ c. search needs) (λ c. search needs) (λ c. search needs)
-    (λ c. search needs) take-requires put-copy-requires (λ c. search needs) (λ c. search needs) returns (λ c. search needs) returns-2)
+    tie.close
+    (tie.spec
+    (λ c. search needs)
+    (λ c. search needs)
+    (λ c. search needs)
+    (λ c. search needs)
+    (λ c. search needs)
+    (λ c. search needs)
+    take-requires
+    (λ c. search needs)
+    returns
+    asked-by-requires
+    put-event-requires
+    (λ c. search needs)
+    (λ c. search needs)
+    returns-2)
