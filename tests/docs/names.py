@@ -7,7 +7,7 @@ A document names in backquotes: a file (`tests/README.md`; tests/README names th
 its ending (`model/specs/Frames`, `table/proofs/Says`), a function (`frame::put_copy`), a constant, a type, a definition or a law
 (`OUTPUT_LEAST`, `event-frame`, `Demand3.equal`), a must-fail edit (`NUL_counted`), a function or an array of C (`put_record()`, `RULES[]`),
 a test of the host (`a-slow-disk`, whose function is a_slow_disk), a command (`make test`; also where it stands indented). The pages of
-docs/landings, which tell of what was, and MUST-FAIL, which is derived, may name what is gone: of them the links alone are looked at. Of
+docs/past, which tell of what was, and MUST-FAIL, which is derived, may name what is gone: of them the links alone are looked at. Of
 links those count that lead to files here, with their #anchors.
 
 Exit status 0: every name is there, and every link leads somewhere."""
@@ -42,9 +42,9 @@ def documents():
     return [os.path.join(ROOT, "README.md"), *sorted(glob.glob(os.path.join(ROOT, "docs", "*.md"))), os.path.join(ROOT, "tests/README.md")]
 
 
-def landings():
+def past():
     """Those that tell of what was."""
-    return sorted(glob.glob(os.path.join(ROOT, "docs", "landings", "*.md")))
+    return sorted(glob.glob(os.path.join(ROOT, "docs", "past", "*.md")))
 
 
 def words():
@@ -110,9 +110,9 @@ def astray(path, target, anchor):
 
 def main():
     known, commands, wrong, names, links = words(), targets(), [], 0, 0
-    paths = [os.path.abspath(path) for path in sys.argv[1:]] or documents() + landings()
+    paths = [os.path.abspath(path) for path in sys.argv[1:]] or documents() + past()
     for path in paths:
-        of_the_past = os.path.basename(path) == DERIVED or path in landings()
+        of_the_past = os.path.basename(path) == DERIVED or path in past()
         for number, line in enumerate(read(path).split("\n"), 1):
             place = "%s:%d" % (os.path.relpath(path, ROOT), number)
             for name in [] if of_the_past else re.findall(r"`([^`]+)`", line) + re.findall(r"^    (make .*)", line):
