@@ -16,7 +16,7 @@ use Rattle.model.specs.Kinds.{Kind, kinds, kind-at}
 use Rattle.model.specs.Frames.{frame, frame-0002, frame-0004, frame-0005, event-frame, frame-record}
 use Rattle.model.proofs.Framed.{at-every}
 use Rattle.model.proofs.KindLaws.{every-layout}
-use Rattle.text.specs.Put.{Put}
+use Rattle.text.specs.Put.{Put, Written}
 use Rattle.text.proofs.Puts.{put-then, put-before, put-over, put-as}
 use Rattle.frame.specs.declared.Content.{Content}
 use Rattle.frame.specs.declared.Content.the-variants.{Started, Refused, Accepted, Notice}
@@ -25,20 +25,19 @@ use Rattle.frame.specs.declared.Heading.{Heading}
 use Rattle.frame.specs.declared.To.{To}
 use Rattle.frame.specs.Places.{place-items, place-size, result-of, event-in}
 use Rattle.frame.specs.Layout.{layout-of, placed, Payloads, data-in, served, all-served}
-use Rattle.frame.specs.Output.{Written, frame-length, notice-byte-12, heading-of, heading-bytes}
-use Rattle.frame.specs.Output.{frame-of, head-bytes, Recorded}
+use Rattle.frame.specs.Output.{frame-length, notice-byte-12, heading-of, heading-bytes}
+use Rattle.frame.specs.Output.{frame-of, RecordMade, Recorded}
 
 -- ==== output records
 
 -- the head is written last, before the payload that stands there
 pub recorded : {o o₁ o₂ bs : List ℕ} {end r : ℕ} (to : To) (record-kind : ℕ) → Put o (to .at + record-head) bs end o₁
-    → (r ≡ end) × Written o₁ (to .at) record-head (head-bytes to record-kind end) (to .at + record-head) o₂
-    → Put o (to .at) (house-record (record-kind + to .session) bs) r o₂
+    → RecordMade o₁ to record-kind end r o₂ → Put o (to .at) (house-record (record-kind + to .session) bs) r o₂
 recorded {o} {o₁} {o₂} {bs} {end} {r} to record-kind p h =
     let n : end - (to .at + record-head) ≡ length bs = let e = p .place in omega arith in
-    subst (λ (k : ℕ). Put o (to .at) (house-record (record-kind + to .session) bs) k o₂) (sym (h .0))
+    subst (λ (k : ℕ). Put o (to .at) (house-record (record-kind + to .session) bs) k o₂) (sym (h .ends))
     (put-as (ap (λ (k : ℕ). (in-bytes 2 k ++ in-bytes 2 (record-kind + to .session)) ++ bs) n)
-    (put-before p (h .1 .put) refl))
+    (put-before p (h .head .put) refl))
 
 -- a record that stands before the place, written once more there, and then the kind of another session into its head
 pub repeated : {o o₁ o₂ bs : List ℕ} {at from r r′ : ℕ} (s : ℕ) → Recorded o from at bs → Put o at (take (at - from) (drop from o)) r o₁

@@ -9,14 +9,14 @@ use mathlib.Core.List.{List, [], _∷_, _++_, map}
 use lib.ListN.{length, drop, replicate, length-map, drop-of-length-le, List·getD-map}
 use Rattle.model.specs.Bytes.{digits}
 use Rattle.model.specs.Layouts.{Sources, Row, blank, width-of, characters, label-length, label, data-from, rows-length, data-length}
-use Rattle.text.specs.Put.{Put}
+use Rattle.text.specs.Put.{Put, Written}
 use Rattle.text.proofs.Lists.{drop-next, all-at}
 use Rattle.text.proofs.Puts.{Left, left-all, left-put, left-none, left-as, put-then, put-as}
 use Rattle.frame.specs.declared.Placed.{Placed}
 use Rattle.frame.specs.declared.Content.{Content}
 use Rattle.frame.specs.Layout.{layout-of, items-told, row-at, placed, placed-width, Payloads, field-characters, said-by}
 use Rattle.frame.specs.Layout.{data-in, served}
-use Rattle.frame.specs.Output.{Written, Servable, Layable}
+use Rattle.frame.specs.Output.{Servable, Layable}
 use Rattle.frame.proofs.Placing.{suits, placed-shown, width-placed, all-suit}
 
 -- ==== pairs of digits

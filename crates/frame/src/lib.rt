@@ -11,8 +11,8 @@ ghost use Rattle.model.specs.Records.{record-head, settings-of, settings-length
 ghost use Rattle.model.specs.Layouts.{controller-rows, identifier-rows, result-rows, data-length, label-length, label};
 ghost use Rattle.model.specs.Kinds.{kinds, kind-at, copy-most, reply-most};
 ghost use Rattle.model.specs.Frames.{frame-0002, frame-0004, frame-0005, event-frame, frame-record, close-record};
-ghost use Rattle.text.specs.Put.{Put};
-ghost use Rattle.frame.specs.Header.{header-of};
+ghost use Rattle.text.specs.Put.{Written, WrittenUpTo};
+ghost use Rattle.frame.specs.Header.{header-of, RunReads};
 ghost use Rattle.frame.specs.Places.{event-in};
 ghost use Rattle.frame.specs.Layout.{
   payloads,
@@ -28,9 +28,9 @@ ghost use Rattle.frame.specs.Layout.{
   data-in,
 };
 ghost use Rattle.frame.specs.Output.{
-  Written,
   Real,
   Readable,
+  Copyable,
   Servable,
   Layable,
   Headable,
@@ -41,13 +41,13 @@ ghost use Rattle.frame.specs.Output.{
   heading-of,
   frame-of,
   Recordable,
-  head-bytes,
+  RecordMade,
   length-0004,
   length-0005,
   record-length,
   Writable,
   Lent,
-  Recorded,
+  WrittenAgain,
   Repeatable,
 };
 ghost use Rattle.frame.specs.declared.Content.the-variants.{Notice};
@@ -181,7 +181,7 @@ pub struct RunRead<'a> {
 
 // Reads a run of count bytes, whose first are these.
 pub fn read_header<'a>(run: &'a [u8], count: usize) -> RunRead<'a>
-    ensures { λ r. ⌜ (r .header ≡ header-of (now (run .entry)) «count») × (now (r .field) ≡ drop header-length (now (run .entry))) ⌝ }
+    ensures { λ r. ⌜ RunReads (now (run .entry)) «count» (r .header) (now (r .field)) ⌝ }
 {
     let header = header_in(run, count);
     let field = data_field(run);
@@ -422,8 +422,7 @@ fn put_bytes(out: &mut [u8], at: usize, size: usize, place: usize, source: &[u8]
 }
 
 fn put_text(out: &mut [u8], at: usize, p: Part, settings: &[u8], told: &[u8]) -> usize
-    requires { ⌜ Readable (payloads (now settings) (now told)) (p .from) (p .size) (p .place)
-        × (at + p .size ≤ length (now out)) ⌝ }
+    requires { ⌜ Copyable (payloads (now settings) (now told)) p at (length (now out)) ⌝ }
     ensures { λ r. ⌜ Written (now (out .entry)) at (p .size)
         (part (payloads (now (settings .entry)) (now (told .entry))) (p .from) (p .size) (p .place)) r (now (out .exit)) ⌝ }
 {
@@ -602,8 +601,7 @@ const RECORD_KIND_AT: usize = 2;
 // Makes an output record of the payload that stands behind the place of its head, up to `end`.
 fn put_record(out: &mut [u8], to: To, record_kind: u64, end: usize) -> usize
     requires { ⌜ Recordable (now out) to «record_kind» end ⌝ }
-    ensures { λ r. ⌜ (r ≡ end) × Written (now (out .entry)) (to .at) record-head (head-bytes to «record_kind» end) (to .at + record-head)
-        (now (out .exit)) ⌝ }
+    ensures { λ r. ⌜ RecordMade (now (out .entry)) to «record_kind» end r (now (out .exit)) ⌝ }
 {
     let size = end - (to.at + model::RECORD_HEAD);
     let at = text::put_little(out, to.at, 2, size as u64);
@@ -614,8 +612,7 @@ fn put_record(out: &mut [u8], to: To, record_kind: u64, end: usize) -> usize
 // The order to close the session: a record with nothing in it.
 pub fn put_close(out: &mut [u8], to: To) -> usize
     requires { ⌜ Writable (now out) to record-head ⌝ }
-    ensures { λ r. ⌜ (r ≡ to .at + record-head)
-        × Put (now (out .entry)) (to .at) (close-record (to .session)) r (now (out .exit)) ⌝ }
+    ensures { λ r. ⌜ Written (now (out .entry)) (to .at) record-head (close-record (to .session)) r (now (out .exit)) ⌝ }
 {
     put_record(out, to, CLOSE_RECORD_KIND, to.at + model::RECORD_HEAD)
 }
@@ -639,9 +636,8 @@ fn put_frame(out: &mut [u8], to: To, content: Content, settings: &[u8], told: &[
 // 0002: the session is started. The settings are a settings record's payload.
 pub fn put_0002(out: &mut [u8], to: To, settings: &[u8]) -> usize
     requires { ⌜ Writable (now out) to reply-most × (length (now settings) ≡ settings-length) ⌝ }
-    ensures { λ r. ⌜ (r ≡ to .at + reply-most)
-        × Put (now (out .entry)) (to .at) (frame-record (to .session) (frame-0002 (settings-of (now (settings .entry))))) r
-        (now (out .exit)) ⌝ }
+    ensures { λ r. ⌜ Written (now (out .entry)) (to .at) reply-most
+        (frame-record (to .session) (frame-0002 (settings-of (now (settings .entry))))) r (now (out .exit)) ⌝ }
 {
     put_frame(out, to, Content::Started, settings, &[])
 }
@@ -649,8 +645,8 @@ pub fn put_0002(out: &mut [u8], to: To, settings: &[u8]) -> usize
 // 0004: message mid has an error.
 pub fn put_0004(out: &mut [u8], to: To, mid: u64, error: u64) -> usize
     requires { ⌜ Writable (now out) to (record-length length-0004) ⌝ }
-    ensures { λ r. ⌜ (r ≡ to .at + record-length length-0004)
-        × Put (now (out .entry)) (to .at) (frame-record (to .session) (frame-0004 mid error)) r (now (out .exit)) ⌝ }
+    ensures { λ r. ⌜ Written (now (out .entry)) (to .at) (record-length length-0004)
+        (frame-record (to .session) (frame-0004 mid error)) r (now (out .exit)) ⌝ }
 {
     put_frame(out, to, Content::Refused(mid, error), &[], &[])
 }
@@ -658,8 +654,8 @@ pub fn put_0004(out: &mut [u8], to: To, mid: u64, error: u64) -> usize
 // 0005: message mid is accepted.
 pub fn put_0005(out: &mut [u8], to: To, mid: u64) -> usize
     requires { ⌜ Writable (now out) to (record-length length-0005) ⌝ }
-    ensures { λ r. ⌜ (r ≡ to .at + record-length length-0005)
-        × Put (now (out .entry)) (to .at) (frame-record (to .session) (frame-0005 mid)) r (now (out .exit)) ⌝ }
+    ensures { λ r. ⌜ Written (now (out .entry)) (to .at) (record-length length-0005)
+        (frame-record (to .session) (frame-0005 mid)) r (now (out .exit)) ⌝ }
 {
     put_frame(out, to, Content::Accepted(mid), &[], &[])
 }
@@ -667,8 +663,8 @@ pub fn put_0005(out: &mut [u8], to: To, mid: u64) -> usize
 // 9999: the header as it came.
 pub fn put_9999(out: &mut [u8], to: To, run: &[u8]) -> usize
     requires { ⌜ Writable (now out) to (record-length header-length) × (header-length ≤ length (now run)) ⌝ }
-    ensures { λ r. ⌜ (r ≡ to .at + record-length header-length)
-        × Put (now (out .entry)) (to .at) (frame-record (to .session) (take header-length (now (run .entry)))) r (now (out .exit)) ⌝ }
+    ensures { λ r. ⌜ Written (now (out .entry)) (to .at) (record-length header-length)
+        (frame-record (to .session) (take header-length (now (run .entry)))) r (now (out .exit)) ⌝ }
 {
     let at = text::copy(&run[0..HEADER_LENGTH], out, to.at + model::RECORD_HEAD);
     let end = text::fill(out, at, 1, 0);
@@ -680,8 +676,7 @@ pub fn put_9999(out: &mut [u8], to: To, run: &[u8]) -> usize
 // A copy of the notice in a place, to a session that subscribed so.
 pub fn put_copy(out: &mut [u8], to: To, asked: Asked, settings: &[u8], place: &[u8]) -> usize
     requires { ⌜ Lent (now out) to asked (now settings) (now place) ⌝ }
-    ensures { λ r. ⌜ (r ≤ to .at + copy-most (kind-at (asked .kind)))
-        × Put (now (out .entry)) (to .at) (frame-record (to .session)
+    ensures { λ r. ⌜ WrittenUpTo (now (out .entry)) (to .at) (copy-most (kind-at (asked .kind))) (frame-record (to .session)
         (event-frame (settings-of (now (settings .entry))) (asked .revision) (asked .«no_acknowledge»)
         (event-in (asked .kind) (now (place .entry))))) r (now (out .exit)) ⌝ }
 {
@@ -691,8 +686,7 @@ pub fn put_copy(out: &mut [u8], to: To, asked: Asked, settings: &[u8], place: &[
 // The record of a frame that stands from `from` up to the place, whichever session it went to: once more, to this one.
 pub fn put_again(out: &mut [u8], to: To, from: usize) -> usize
     requires { ⌜ Repeatable (now out) to from ⌝ }
-    ensures { λ r. ⌜ (r ≡ to .at + (to .at - from)) × ((bs : List ℕ) → Recorded (now (out .entry)) from (to .at) bs
-        → Put (now (out .entry)) (to .at) (frame-record (to .session) bs) r (now (out .exit))) ⌝ }
+    ensures { λ r. ⌜ WrittenAgain (now (out .entry)) to from r (now (out .exit)) ⌝ }
 {
     let end = text::repeat(out, from, to.at);
     let at = to.at + RECORD_KIND_AT;

@@ -67,7 +67,7 @@ returns c =
     let s = d .before .before .before .before .before .before in
     let w = wrote-frame (s .args .content) _ (d .put-fields .ensures) (n .fill .ensures) (h .put-header .ensures) in
     let e = w .0 in
-    let f = p .put-record .ensures .0 in
+    let f = p .put-record .ensures .ends in
     record { place = omega arith; put = recorded (s .args .to) _ (w .1) (p .put-record .ensures) }
 
 pub put-frame-spec : {M : Type 1} → statement M
