@@ -80,7 +80,7 @@ proved: tools
 	@grep -oE '^ *pub (extern "C" )?fn [a-z0-9_]+' crates/*/src/*.rt | sed -E 's#crates/([a-z]+)/.*fn (.*)#  \1::\2#'
 
 # The layout, that nothing is assumed, that the must-fail edits fit and are listed, that the documents name what is there and count it
-# right, that sources have their form; then the gate itself, then the comparison over what the gate built and left, three parts at a time,
+# right, that files have their form; then the gate itself, then the comparison over what the gate built and left, three parts at a time,
 # since the host's tests mostly wait. The gate's own last line is said again at the end: it is the last line of a run in which nothing
 # failed. What fails behind the gate says so in the last line.
 test: tools

@@ -16,7 +16,10 @@ The line form, one or more records a line:
 
 Names and identifiers are filled up with spaces. In strings \\0 is NUL, \\xHH any
 byte, \\" and \\\\ themselves. Lines that begin with # are comments; lines that begin
-with > are the output expected there (see tests/vectors/run.py)."""
+with > are the output expected there (see tests/vectors/run.py).
+
+A line that begins with a blank goes on with the one before it: with nothing between the
+two where that is output expected, with a blank where it is records."""
 
 import itertools
 import re
@@ -79,19 +82,32 @@ def read_fields(record_kind, tokens):
     return fields
 
 
+def whole_lines(text):
+    """The lines of a text, each with those that go on with it."""
+    found = []
+    for line in text.splitlines():
+        if not line.strip() or not line[0].isspace():
+            found.append(line)
+        elif not found or found[-1].strip()[:1] in ("", "#") or line.lstrip()[0] in "#>":
+            raise ValueError("it goes on with no line: " + line)
+        else:
+            found[-1] += ("" if found[-1].startswith(">") else " ") + line.lstrip()
+    return found
+
+
 def line_to_records(line):
-    """The records of one line; none for comments, expectations and empty lines."""
-    if not line.strip() or line.lstrip()[0] in "#>":
+    """The records of one whole line; none for comments, expectations and empty lines."""
+    if not line.strip() or line[0] in "#>":
         return []
     word, *rest = TOKEN.findall(line)
     for record_kind in WORDS:
         if word == WORDS[record_kind]:
             return [record_of(record_kind, **read_fields(record_kind, rest))]
-    if word == "open":
+    if word == "open" and len(rest) == 1:
         return [record(OPEN + int(rest[0]))]
-    if word == "hangup":
+    if word == "hangup" and len(rest) == 1:
         return [record(HANG_UP + int(rest[0]))]
-    if word == "tick":
+    if word == "tick" and len(rest) <= 1:
         return [record(TICK)] * (int(rest[0]) if rest else 1)
     if word == "bytes":
         return [record(BYTES + int(rest[0]), b"".join(read_string(part) for part in rest[1:]))]
@@ -103,7 +119,7 @@ def line_to_records(line):
 
 
 def to_records(text):
-    return b"".join(part for line in text.splitlines() for part in line_to_records(line))
+    return b"".join(part for line in whole_lines(text) for part in line_to_records(line))
 
 
 def quoted_parts(data):

@@ -1,5 +1,7 @@
 """The pictures of tools/ladder: which rows are shown, and how they look, as text and as SVG."""
 
+import re
+import textwrap
 import time
 from dataclasses import dataclass
 from xml.sax.saxutils import escape, quoteattr
@@ -7,6 +9,8 @@ from xml.sax.saxutils import escape, quoteattr
 import history
 from ladder_journal import count
 from ladder_rows import CONTROLLER, TIGHTENED, TOOL
+
+COLUMNS = 140  # the most that a line has, be it of text or of SVG
 
 
 @dataclass
@@ -147,7 +151,12 @@ def time_words(row):
 
 # ---- as text
 
-DAY, TIME, PITCH = 15, 13, 14
+DAY, TIME, PITCH, GAP = 15, 13, 12, 3
+LEAST = 30  # the columns that labels have even where lines get longer by them: beside the rails of more than five servers
+
+
+def folded(text, columns, indent=""):
+    return textwrap.wrap(text, columns, subsequent_indent=indent, break_on_hyphens=False) or [""]
 
 
 def draw_text(shown):
@@ -155,19 +164,26 @@ def draw_text(shown):
     places = {rail: TIME + 4 + PITCH * place for place, rail in enumerate(rails)}
     width = TIME + 4 + PITCH * (len(rails) - 1) + 1
     margin = DAY if shown.has_times() else 0
+    room = max(LEAST, COLUMNS - margin - width - GAP)
     names = [" "] * (width + PITCH)
     for rail, place in places.items():
         name = rail_name(rail)
         begin = place - len(name) // 2
         names[begin:begin + len(name)] = name
-    lines = ["%s: %s" % (shown.title, shown.heading()), "", " " * margin + "".join(names)]
+    lines = folded("%s: %s" % (shown.title, shown.heading()), COLUMNS) + ["", " " * margin + "".join(names)]
     for row, fold in zip(shown.rows, shown.folds):
         if fold:
             lines.append(" " * margin + text_fold(places, width, row.open, fold))
-        lines.append(time_words(row).ljust(margin) + text_row(places, width, row))
+        arrow, label = text_row(places, width, row)
+        first, *more = folded(label, room)
+        lines.append(time_words(row).ljust(margin) + arrow + " " * GAP + first)
+        rails_only = " " * margin + "".join(text_rails(places, width, row.open, "|")) + " " * GAP
+        lines += [rails_only + part for part in more]
     if shown.folds[-1]:
         lines.append(" " * margin + text_fold(places, width, shown.open, shown.folds[-1]))
-    lines += [""] + shown.footers if shown.footers else []
+    lines += [""] if shown.footers else []
+    for footer in shown.footers:
+        lines += folded(footer, COLUMNS, "  ")
     return "".join(line.rstrip() + "\n" for line in lines)
 
 
@@ -184,6 +200,7 @@ def text_fold(places, width, is_open, fold):
 
 
 def text_row(places, width, row):
+    """The row with its arrow, and its label."""
     cells = text_rails(places, width, row.open, "|")
     line = "=" if row.notice else "." if row.link else "-"
     label = row.text()
@@ -200,7 +217,7 @@ def text_row(places, width, row):
         begin = near + 1 + (PITCH - 1 - len(row.word)) // 2
         cells[begin:begin + len(row.word)] = row.word
     time = second_words(row).rjust(TIME - 2)
-    return time.ljust(TIME) + "".join(cells)[TIME:] + "   " + label
+    return time.ljust(TIME) + "".join(cells)[TIME:], label
 
 
 # ---- as SVG: rails at the left, each with the words of its arrows before it, and the labels in a column of their own
@@ -222,6 +239,24 @@ text { font: 11px "DejaVu Sans", Verdana, Arial, sans-serif }
 .strong { font-weight: bold }
 """ % GREY
 
+# What a line is not cut within: a tag's further words, each with its blank; how a tag begins; a character by its name; of a text a word, or
+# a part of one.
+PIECE = re.compile(r"( [^ <>]*(?:>|(?=[^<>]*>)))|<[^ >]*>?|&\w+;|[^ <>&]{1,120}| ")
+
+
+def cut(line):
+    """A line as lines of COLUMNS at most: they end in a tag, where a blank stands, or in a comment, so that no text has a blank more."""
+    lines = [""]
+    for piece in PIECE.finditer(line):
+        if len(lines[-1] + piece[0] + "<!--") <= COLUMNS:
+            lines[-1] += piece[0]
+        elif piece[1]:
+            lines.append(piece[0].lstrip())
+        else:
+            lines[-1] += "<!--"
+            lines.append("-->" + piece[0])
+    return "\n".join(lines)
+
 
 def tag(name, content="", **attributes):
     """An element; `class_` is the attribute class, and so on."""
@@ -239,14 +274,14 @@ def line(x1, y1, x2, y2, colour, width=THIN, dash=""):
 
 
 def cross(x, y, colour):
-    return line(x - 4, y - 4, x + 4, y + 4, colour, 2) + line(x - 4, y + 4, x + 4, y - 4, colour, 2)
+    return line(x - 4, y - 4, x + 4, y + 4, colour, 2) + "\n" + line(x - 4, y + 4, x + 4, y - 4, colour, 2)
 
 
 def arrow(x1, x2, y, colour, width=THIN, dash="", crossed=False):
     """An arrow; that of what is refused or does nothing ends in a cross."""
     neck = x2 + (8 if x2 < x1 else -8)
     head = cross(neck, y, colour) if crossed else tag("path", d="M%d,%d L%d,%d v8 z" % (x2, y, neck, y - 4), fill=colour)
-    return line(x1, y, neck, y, colour, width, dash) + head
+    return line(x1, y, neck, y, colour, width, dash) + "\n" + head
 
 
 def width_of(text):
@@ -308,7 +343,8 @@ class Svg:
         begin = '<svg xmlns="http://www.w3.org/2000/svg" width="%d" height="%d" viewBox="0 0 %d %d" fill="%s">' % (
             self.width, height, self.width, height, INK)
         paper = tag("rect", width=self.width, height=height, fill="white")
-        return "\n".join([begin, tag("style", STYLE), paper] + head + self.under + self.over + ["</svg>", ""])
+        drawn = "\n".join([begin, tag("style", STYLE), paper] + head + self.under + self.over + ["</svg>", ""])
+        return "\n".join(map(cut, drawn.split("\n")))
 
     def reach(self, is_open, y, fold=False):
         """Takes the rails down to y."""
@@ -348,7 +384,7 @@ class Svg:
         parts.append(tag("text", word, x=self.labels + room, y=base, fill=colour))
         for number, more in enumerate(lines[1:], 1):
             parts.append(text_at(self.labels, base + LEADING * number, more, "", colour))
-        self.over.append(tag("g", "".join(parts), class_="line" if row.is_line() else ""))
+        self.over.append(tag("g", "\n".join(["", *parts, ""]), class_="line" if row.is_line() else ""))
 
     def mark(self, row, y, colour):
         """The arrow of a row with its word beside the outer rail, or what stands on a rail."""
@@ -361,7 +397,8 @@ class Svg:
         if x1 == x2:
             return tag("rect", x=x1 - 4, y=y - 4, width=8, height=8, fill=colour)
         word = text_at((x2 if row.origin == TOOL else max(x1, x2)) - APART // 2, y - 4, row.word, "word", colour)
-        return arrow(x1, x2, y, colour, THICK if row.notice else THIN, DOTS if row.link else "", bool(row.refused or row.vain)) + word
+        drawn = arrow(x1, x2, y, colour, THICK if row.notice else THIN, DOTS if row.link else "", bool(row.refused or row.vain))
+        return drawn + "\n" + word
 
     def draw_rails(self):
         for rail, stretches in self.stretches.items():

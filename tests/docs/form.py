@@ -1,11 +1,11 @@
 #!/usr/bin/env python3
-"""The form of sources and documents: no line is longer than 140 columns, no contract has more than two parts that no record names, no
-function more than five parameters.
+"""The form of the repository's files: no line is longer than 140 columns; in sources no contract has more than two parts that no record
+names, no function more than five parameters.
 
     form.py      says where it is otherwise
 
-For their lines, what is data is not asked for: vectors, stories, what a program reads, drawings; nor what a must-fail edit puts in a line's
-place, since an edit replaces one line by one. Exit status 0: all have the form."""
+The lines are those of every file: of data, drawings and must-fail edits, too. A column is a character, or a byte where a file is not UTF-8.
+Exit status 0: all have the form."""
 
 import glob
 import os
@@ -19,9 +19,7 @@ sys.path.insert(0, os.path.join(names.ROOT, "tests", "wrong"))
 from edits import COLUMNS  # noqa: E402
 
 PARTS, PARAMETERS = 2, 5
-DATA = (".edit", ".svg", ".txt")
-FOLDERS = (".git", "target", "stories", "__pycache__")
-FILES = ("stdin", "stdout")
+NOT_KEPT = (".git", "target", "__pycache__")  # not in the repository: git's own, and what .gitignore names
 CONTRACT = re.compile(r"(?:requires|ensures)(?: \w+)? \{ (.*?) \}\n", re.S)
 FUNCTION = re.compile(r"\bfn (\w+)(?:<[^>]*>)?\(([^)]*)\)")
 
@@ -31,14 +29,23 @@ def read(path):
         return file.read()
 
 
-def texts():
+def all_files():
     for folder, inner, files in os.walk("."):
-        inner[:] = sorted(name for name in inner if name not in FOLDERS)
-        yield from (os.path.join(folder, name)[2:] for name in sorted(files) if name not in FILES and not name.endswith(DATA))
+        inner[:] = sorted(name for name in inner if name not in NOT_KEPT)
+        yield from (os.path.join(folder, name)[2:] for name in sorted(files) if name not in NOT_KEPT)
+
+
+def lines(path):
+    with open(path, "rb") as file:
+        data = file.read()
+    try:
+        return data.decode("utf-8").split("\n")
+    except UnicodeDecodeError:
+        return data.split(b"\n")
 
 
 def too_long(path):
-    return [f"{path}:{number}: {len(line)} columns" for number, line in enumerate(read(path).split("\n"), 1) if len(line) > COLUMNS]
+    return [f"{path}:{number}: {len(line)} columns" for number, line in enumerate(lines(path), 1) if len(line) > COLUMNS]
 
 
 def too_many(path):
@@ -54,9 +61,9 @@ def too_many(path):
 
 def main():
     os.chdir(names.ROOT)
-    paths, sources = list(texts()), sorted(glob.glob("crates/*/src/*.rt"))
+    paths, sources = list(all_files()), sorted(glob.glob("crates/*/src/*.rt"))
     wrong = [line for path in paths for line in too_long(path)] + [line for path in sources for line in too_many(path)]
-    print("\n".join(wrong) or f"no line of {len(paths)} sources and documents is longer than {COLUMNS} columns; in {len(sources)} of them "
+    print("\n".join(wrong) or f"no line of {len(paths)} files is longer than {COLUMNS} columns; in {len(sources)} sources "
           f"no contract has more than {PARTS} parts, no function more than {PARAMETERS} parameters")
     return 1 if wrong else 0
 

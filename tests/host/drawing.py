@@ -13,17 +13,19 @@ TIME = r"\d\d-\d\d \d\d:\d\d:\d\d"
 
 
 def drawn(names):
-    """The rows of a picture: the time of day, and the label without what depends on where the picture begins."""
+    """The rows of a picture: the time of day, and the label, which may go on in further lines, without what depends on where the picture
+    begins."""
     command = [os.path.join(ROOT, "tools", "ladder"), "--rows", "1000000", *names]
     done = subprocess.run(command, stdin=subprocess.DEVNULL, capture_output=True, timeout=SECONDS, check=False)
     equal((done.returncode, done.stderr), (0, b""), "status and errors of ladder")
     found = []
     for line in done.stdout.decode("ascii").split("\n\n")[1].splitlines()[1:]:
-        row = re.match(r"(%s)? +-?\d+ s " % TIME, line)  # not what is folded
+        row, label = re.match(r"(%s)? +-?\d+ s " % TIME, line), line.rpartition("   ")[2]
         if row:
-            label = re.sub(r"notice \d+|, in \d+ parts from second \d+ on", "notice", line.rpartition("   ")[2])
             found.append((row.group(1), label))
-    return found
+        elif line.lstrip().startswith("|"):  # not what is folded
+            found[-1] = (found[-1][0], found[-1][1] + " " + label)
+    return [(when, re.sub(r"notice \d+|, in \d+ parts from second \d+ on", "notice", label)) for when, label in found]
 
 
 @test

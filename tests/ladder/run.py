@@ -67,16 +67,23 @@ def lines_of_replay(data):
 
 
 def rows(text):
-    """The rows of a text picture: second ('' for a fold), what stands on the rails, label."""
+    """The rows of a text picture: second ('' for a fold), what stands on the rails, label, which may go on in further lines."""
     found = []
     for line in text.split("\n\n")[1].splitlines()[1:]:
         fold = re.match(r"\.\. (\d+) s \.\.", line)
+        second, (rails, _, label) = line[:13].strip(), line[13:].strip().rpartition("   ")
         if fold:
             found.append(("", int(fold.group(1)), ""))
+        elif second:
+            found.append((second, rails, label))
         else:
-            rails, _, label = line[13:].strip().rpartition("   ")
-            found.append((line[:13].strip(), rails, label))
+            found[-1] = (*found[-1][:2], found[-1][2] + " " + label)
     return found
+
+
+def told_at_the_end(text):
+    """What stands behind the rows of a text picture, as one line."""
+    return " ".join(text.split("\n\n")[2].split())
 
 
 def labels(text):
@@ -126,6 +133,13 @@ def test_stories():
     for path, drawn in pictures():
         if content(path) != drawn:
             raise AssertionError("docs/%s is not what is drawn; `make -C tests pictures` draws it anew" % os.path.basename(path))
+
+
+def test_columns():
+    """No line of a picture is longer than 140 columns."""
+    for name, data in written_histories() + [("seed %d" % seed, generate.generate(seed)) for seed in SEEDS]:
+        for options in ([], ["--svg"]):
+            expect("longest line of " + name, max(map(len, draw(data, *options).splitlines())) <= 140, True)
 
 
 # ---- what is shown is what replay prints
@@ -359,7 +373,7 @@ def test_ninth():
     text = draw(made(SUBSCRIBED + "tightening\n" * 9))
     expect("labels", labels(text)[-3:], ["8: 0.00 Nm, OK, taken by 0", "9: 0.00 Nm, OK, taken by none",
                                          "lost: tightening 9: not taken; server 0 has 8 already"])
-    expect("told at the end", text.splitlines()[-1], "at the end server 0 has not acknowledged notice 1, tightening 1; "
+    expect("told at the end", told_at_the_end(text), "at the end server 0 has not acknowledged notice 1, tightening 1; "
            + ", ".join("tightening %d" % number for number in range(2, 9)) + " wait behind it")
 
 
@@ -419,7 +433,7 @@ def test_before_a_start():
     expect("seconds", [second for second, _, _ in shown], ["-"] * 5 + ["0 s"] * 6 + ["1 s", "1 s"])
     refused = [label.rpartition("refused, ")[2][0] for _, _, label in shown[:5]]
     expect("refused with", "".join(refused), "22922")
-    expect("after the second start", shown[-1][1:], ("|             |<...open......", "server 0 calls in"))
+    expect("after the second start", shown[-1][1:], ("|           |<..open.....", "server 0 calls in"))
 
 
 def test_cut_record():

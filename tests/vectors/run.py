@@ -29,7 +29,7 @@ def all_files():
 
 
 def expected_output(text):
-    lines = [line.lstrip()[2:] for line in text.splitlines() if line.lstrip().startswith("> ")]
+    lines = [line[2:] for line in history.whole_lines(text) if line.startswith("> ")]
     return "".join(line + "\n" for line in lines)
 
 

@@ -4,10 +4,10 @@
     check.py            says what does not hold
     check.py --write    writes the list in docs/MUST-FAIL.md first
 
-Each edit fits its crate: what it replaces stands there, once. Its first line is '# FUNCTIONS: WRONG PROGRAM': names of functions that the
-crate has, or of its definitions, separated by commas, and what the wrong program does. Each public function has two edits at least, and
-each crate has one in the gate. Each edit of the gate has a twin in tests/twins, which replaces no other lines. Behind its marker
-docs/MUST-FAIL.md lists what these first lines say, and nothing else.
+Each edit fits its crate: what it replaces stands there, once, and nothing is left of the mark of a replacement that goes on. Its first line
+is '# FUNCTIONS: WRONG PROGRAM': names of functions that the crate has, or of its definitions, separated by commas, and what the wrong
+program does. Each public function has two edits at least, and each crate has one in the gate. Each edit of the gate has a twin in
+tests/twins, which replaces no other lines. Behind its marker docs/MUST-FAIL.md lists what these first lines say, and nothing else.
 That the prover refuses an edit is for rt must-fail to show, that it accepts a twin for make twins. Exit status 0: all holds."""
 
 import collections

@@ -6,6 +6,9 @@ import textwrap
 
 COLUMNS = 140
 
+# What stands at the end of a replacement that goes on: the next one replaces it by the next piece.
+MORE = "<more>"
+
 
 def item(text):
     """An item of a list in a document."""
@@ -47,4 +50,5 @@ def applied(path, crate):
         if count != 1:
             misfits.append(f"{path}: what it replaces stands {count} times in {file}: {old}")
         texts[file] = texts[file].replace(old, new)
+    misfits += [f"{path}: it leaves {MORE} in {file}" for file, text in texts.items() if MORE in text]
     return texts, misfits if texts else [f"{path}: it replaces nothing"]
