@@ -5,24 +5,21 @@ use mathlib.Core.Path.{_≡_, refl, sym, _∙_, ap, ap₂, subst}
 use mathlib.Core.Bool.{Bool, true, false, cond, true≢false}
 use mathlib.Core.List.{List, [], _∷_, _++_, append-nil}
 use mathlib.Core.Option.{Option, none, some, Option·map as option-map}
-use native.Mathlib.Omega.{arith}
 use lib.Dec.{eqb}
-use lib.ListN.{length}
 use borrow.Author.Tests.{eqb-true}
 use Rattle.model.specs.Limits.{session-count}
 use Rattle.model.specs.Records.{Settings, read-tool}
 use Rattle.model.specs.Runs.{cut}
 use Rattle.model.specs.Events.{Event, kind-of}
 use Rattle.model.specs.Sharing.{Shared, reported}
-use Rattle.model.specs.Session.{Session, closed, Emission}
-use Rattle.model.specs.Local.{Local, opening, hang-up, receives, elsewhere, takes, step as session-step}
+use Rattle.model.specs.Session.{Session, Emission}
+use Rattle.model.specs.Local.{Local, opening, hang-up, receives, takes, step as session-step}
 use Rattle.model.specs.Row.{Tagged, pick}
-use Rattle.model.specs.World.{World, session-at, begun, Change, no-change, Moment, to, happens, each, changed, next, emits, after}
-use Rattle.model.specs.World.{emitted}
+use Rattle.model.specs.World.{World, session-at, begun, Moment, to, happens, each, changed, next, emits, after, emitted}
 use Rattle.model.specs.Calls.{Call, start, open-session, hang-up-session, bytes, one-tick, tool, Lent, Conduct, does, refusal}
 use Rattle.model.specs.Calls.{happening, moments, taken-by, in-sum, Answer, answered, step}
 use Rattle.model.specs.Sights.{sight}
-use Rattle.model.specs.Own.{Glance, its-call, its-news, made-known, glance, Learned, told-to, if-seen, view-of, told-in, world-after}
+use Rattle.model.specs.Own.{Glance, its-call, made-known, glance, Learned, told-to, if-seen, view-of, told-in, world-after}
 use Rattle.model.specs.Own.{Ample, AllAmple, ample, glanced, folded, world-folded, SameFor}
 use Rattle.model.proofs.RowLaws.{pick-append, length-row}
 use Rattle.model.proofs.Sessions.{session-next, session-emits}

@@ -1,7 +1,7 @@
 -- Event numbers are for speaking of histories only: a program need not keep them. From a world whose notices are all numbered 0
 -- each call gives the same answer and the same output bytes, and goes on to the same world but for the numbers; so what is proved
 -- of the numbered run speaks of the program's own.
-use Prim.Native.Nat.{ℕ, zero, suc, _+_, _%_}
+use Prim.Native.Nat.{ℕ, zero, suc, _%_}
 use mathlib.Core.Path.{_≡_, refl, sym, _∙_, ap, ap₂, fun-ext}
 use mathlib.Core.Bool.{Bool, true, false, cond}
 use mathlib.Core.List.{List, [], _∷_, _++_, map, map-append, append-assoc}

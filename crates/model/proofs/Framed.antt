@@ -4,6 +4,7 @@ use Prim.Native.Nat.{ℕ, zero, suc, _+_, _*_, _-_, _/_, _%_, _≤_, _<_}
 use mathlib.Core.Path.{_≡_, refl, _∙_}
 use mathlib.Core.Bool.{Bool, true, false, cond, _&&_, and-eq-true-iff}
 use mathlib.Core.List.{List, [], _∷_, _++_}
+use mathlib.Core.Option.{Option, none, some}
 use native.Mathlib.Omega.{arith}
 use lib.Dec.{leb, eqb}
 use lib.ListN.{length, getD, take, length-append, length-replicate}
@@ -24,6 +25,13 @@ use Rattle.model.specs.Wire.{Every, NoNUL, Framed, is-notice}
 pub both : (a b : Bool) → (a && b) ≡ true → (a ≡ true) × (b ≡ true)
 both a b h = and-eq-true-iff a b .0 h
 
+-- (the halves, for `search` to go by)
+pub left : (a b : Bool) → (a && b) ≡ true → a ≡ true
+left a b h = both a b h .0
+
+pub right : (a b : Bool) → (a && b) ≡ true → b ≡ true
+right a b h = both a b h .1
+
 -- ==== lists of which each element is so
 
 module _ {A : Type 0} (P : A → Type 0) where
@@ -36,6 +44,21 @@ module _ {A : Type 0} (P : A → Type 0) where
   every-take (suc n) [] h = tt
   every-take (suc n) (x ∷ xs) h = (h .0, every-take n xs (h .1))
 
+  pub every-at : (xs : List A) (i : ℕ) (d : A) → P d → Every P xs → P (getD xs i d)
+  every-at [] i d h k = h
+  every-at (x ∷ xs) zero d h k = k .0
+  every-at (x ∷ xs) (suc i) d h k = every-at xs i d h (k .1)
+
+-- each passes a test that all pass
+pub every-of : {A : Type 0} (test : A → Bool) (xs : List A) → all test xs ≡ true → Every (λ x. test x ≡ true) xs
+every-of test [] h = tt
+every-of test (x ∷ xs) h = let k = both (test x) (all test xs) h in (k .0, every-of test xs (k .1))
+
+-- what there is, if there is any, is so
+abbrev pub IfAny : {A : Type 0} → (A → Type 0) → Option A → Type 0
+IfAny P none = Unit {0}
+IfAny P (some a) = P a
+
 -- of two, whichever is chosen is so
 pub either : {A : Type 0} (P : A → Type 0) (b : Bool) (x y : A) → P x → P y → P (cond b x y)
 either P true x y h k = h
@@ -43,17 +66,11 @@ either P false x y h k = k
 
 -- ==== the layouts of a notice: what a test finds of each of them it finds of every revision
 
-pub getD-all : {A : Type 0} (test : A → Bool) (xs : List A) (i : ℕ) (d : A) → test d ≡ true → all test xs ≡ true
-    → test (getD xs i d) ≡ true
-getD-all test [] i d h k = h
-getD-all test (x ∷ xs) zero d h k = and-eq-true-iff (test x) (all test xs) .0 k .0
-getD-all test (x ∷ xs) (suc i) d h k = getD-all test xs i d h (and-eq-true-iff (test x) (all test xs) .0 k .1)
-
 pub at-every : (test : Layout → Bool) (ls : Layouts) → all test (ls .newest ∷ ls .older) ≡ true → (revision : ℕ)
     → test (layout-at ls revision) ≡ true
 at-every test ls h revision =
-    let t = and-eq-true-iff (test (ls .newest)) (all test (ls .older)) .0 h in
-    getD-all test (ls .older) (revision - 1) (ls .newest) (t .0) (t .1)
+    let t = every-of test (ls .newest ∷ ls .older) h in
+    every-at (λ l. test l ≡ true) (ls .older) (revision - 1) (ls .newest) (t .0) (t .1)
 
 -- ==== bytes that are no NUL
 
@@ -107,12 +124,7 @@ module _ (mid revision byte-12 : ℕ) (bs : List ℕ) where
   unfolding frame header
   nul-frame h k =
       let size = header-length + length bs in
-      let end = byte-12 ∷ spaces 8 in
-      nul-append (digits 4 size ++ digits 4 mid ++ digits 3 revision ++ end) bs
-      (nul-append (digits 4 size ++ digits 4 mid ++ digits 3 revision) end
-      (nul-append (digits 4 size ++ digits 4 mid) (digits 3 revision)
-      (nul-append (digits 4 size) (digits 4 mid) (nul-digits 4 size) (nul-digits 4 mid)) (nul-digits 3 revision))
-      (h, nul-spaces 8)) k
+      search (nul-append, nul-digits, nul-spaces)
 
   framed : Shown byte-12 → NoNUL bs → length bs < 9_980 → Framed (frame mid revision byte-12 bs)
   unfolding frame header digits
@@ -180,9 +192,8 @@ module _ (b : Sources) (h : Fits b) where
     unfolding data-from
     nul-data i [] = tt
     nul-data i (row ∷ rows) =
-        nul-append (label numbered i ++ characters b row) (data-from numbered (suc i) rows b)
-        (nul-append (label numbered i) (characters b row) (nul-digits (label-length numbered) i) (nul-characters row))
-        (nul-data (suc i) rows)
+        let more = nul-data (suc i) rows in
+        search (nul-append, nul-digits, nul-characters)
 
     length-data : (i : ℕ) (rows : List Row) → all slim-row rows ≡ true → length (data-from numbered i rows b) ≤ 27 * length rows
     unfolding data-from

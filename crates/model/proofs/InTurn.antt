@@ -1,18 +1,18 @@
 -- A moment that one session sees is that session's step, and nothing to the others. And one that all sessions see is what they see one
 -- after the other, in order of session, however many there are: a whole tick is the ticks of the sessions.
-use Prim.Native.Nat.{ℕ, zero, suc, _+_, _<_}
+use Prim.Native.Nat.{ℕ, suc, _<_}
 use mathlib.Core.Path.{_≡_, refl, sym, ap, ap₂, _∙_}
-use mathlib.Core.Bool.{Bool, true, false, cond}
+use mathlib.Core.Bool.{Bool, true, false}
 use mathlib.Core.List.{List, [], _∷_, _++_, append-assoc}
 use native.Mathlib.Omega.{arith}
-use lib.Dec.{leb, eqb}
+use lib.Dec.{leb}
 use lib.ListN.{length, set, length-append}
 use borrow.Author.Tests.{eq-eqb, ne-eqb, leb-true, leb-false}
 use Rattle.model.specs.Sharing.{Shared}
 use Rattle.model.specs.Session.{Session, closed, Emission}
 use Rattle.model.specs.Local.{Local, tick, elsewhere, step}
 use Rattle.model.specs.Row.{Tagged, tag, row, said}
-use Rattle.model.specs.World.{World, session-at, Moment, to, to-all, ticks, each, next, emits, after, emitted, in-turn}
+use Rattle.model.specs.World.{World, session-at, to, to-all, ticks, each, next, emits, after, emitted, in-turn}
 use Rattle.model.proofs.RowLaws.{alone-behind, row-alone, said-past}
 
 -- ==== what the sessions see of it

@@ -4,12 +4,10 @@ use Prim.Native.Nat.{ℕ, zero, suc, _<_}
 use mathlib.Core.Path.{_≡_, refl, ap, ap₂, sym, _∙_}
 use mathlib.Core.List.{List, [], _∷_, _++_, append-assoc}
 use lib.ListN.{length}
-use Rattle.model.specs.Sharing.{Shared}
 use Rattle.model.specs.Session.{Session, Emission}
 use Rattle.model.specs.Row.{pick}
-use Rattle.model.specs.World.{World, session-at, Change, Moment, changed, each, next, emits, after, emitted}
-use Rattle.model.specs.Local.{Local}
-use Rattle.model.specs.Calls.{Call, Lent, refusal, moments, answered, step}
+use Rattle.model.specs.World.{World, session-at, Moment, changed, each, next, emits, after, emitted}
+use Rattle.model.specs.Calls.{Call, Lent, refusal, answered, step}
 use Rattle.model.specs.Own.{moments-done, moments-in, sent-in, seen-of, lived, world-after}
 use Rattle.model.proofs.RowLaws.{pick-append, length-row}
 use Rattle.model.proofs.Sessions.{session-next, session-emits}

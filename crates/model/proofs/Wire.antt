@@ -1,36 +1,36 @@
 -- What a call sends, whatever came before it: frames that a line server reads alike by their NUL and by their length, and at most one
 -- reply, the first of them, to the session whose bytes completed the message that it answers. Each reads back.
-use Prim.Native.Nat.{ℕ, zero, suc, _+_, _≤_, _<_}
-use mathlib.Core.Path.{_≡_, refl, sym, _∙_, ap, subst}
-use mathlib.Core.Bool.{Bool, true, false, not, cond}
+use Prim.Native.Nat.{ℕ, zero, suc, _+_, _≤_}
+use mathlib.Core.Path.{_≡_, refl, sym, _∙_, subst}
+use mathlib.Core.Bool.{Bool, true, false, cond}
 use mathlib.Core.List.{List, [], _∷_, _++_}
 use mathlib.Core.Option.{Option, none, some, Option·map as option-map}
 use native.Mathlib.Omega.{arith}
-use lib.Dec.{leb, ltb, eqb}
-use lib.ListN.{length, getD, replicate}
+use lib.Dec.{eqb}
+use lib.ListN.{length, replicate}
 use borrow.Author.Tests.{eqb-true, eqb-false, eq-eqb}
-use Rattle.model.specs.Limits.{session-count, table-least, output-least, identifier-length, number-greatest}
+use Rattle.model.specs.Limits.{session-count, identifier-length, number-greatest}
 use Rattle.model.specs.Bytes.{is-space, all}
 use Rattle.model.specs.Records.{Settings, read-settings, Tool, scanned, tightening, read-tool}
 use Rattle.model.specs.Runs.{Piece, cut, Message}
 use Rattle.model.specs.Events.{Event, identified, tightened, identifier-of}
-use Rattle.model.specs.Tests.{_gives_, first}
 use Rattle.model.specs.Sharing.{Shared, in-force-after, reported}
 use Rattle.model.specs.Row.{Tagged, tag}
 use Rattle.model.specs.Session.{Session, closed, Emission, reply}
-use Rattle.model.specs.Local.{Local, opening, hang-up, receives, tick, elsewhere, step as session-step, announces}
+use Rattle.model.specs.Local.{Local, opening, hang-up, receives, elsewhere, announces}
 use Rattle.model.specs.World.{World, session-at, Change, no-change, by-event, by-start, Moment, to, begins, hears}
 use Rattle.model.specs.World.{begun, each, sessions-after, changed, next, emits, after, emitted}
-use Rattle.model.specs.Calls.{Call, start, open-session, hang-up-session, bytes, one-tick, tool, Lent, refusal, does}
+use Rattle.model.specs.Calls.{Call, start, open-session, hang-up-session, bytes, one-tick, tool, Lent, refusal}
 use Rattle.model.specs.Calls.{is-none, is-tightening, at-most-one, happening, moments, answered, step}
 use Rattle.model.specs.Sights.{sight}
 use Rattle.model.specs.Wire.{Every, Framed, Answers}
 use Rattle.model.specs.FieldsRead.{ReplyReads}
-use Rattle.model.proofs.Framed.{both, every-append, either, Identifier, identifier-spaces, CleanSettings, CleanEvent}
+use Rattle.model.proofs.Framed.{both, every-append, every-at, IfAny, either, Identifier, identifier-spaces, CleanSettings, CleanEvent}
 use Rattle.model.proofs.Legible.{identified-clean, tightened-clean}
-use Rattle.model.proofs.Clean.{CleanStart, clean-start, CleanTool, clean-tool, nul-cut, there}
+use Rattle.model.proofs.Clean.{clean-start, CleanTool, clean-tool, nul-cut, there}
 use Rattle.model.proofs.Sent.{Follows, Says, quiet, answers, row-every, said-every, CleanSession, CleanLocal, completes, heard}
-use Rattle.model.proofs.Sent.{CleanTold, step-clean, announces-clean}
+use Rattle.model.proofs.Sent.{tag-every, step-clean, announces-clean}
+use Rattle.model.proofs.Refusals.{past, done}
 use Rattle.model.proofs.InTurn.{either-emits}
 
 -- ==== the world, and a moment
@@ -94,10 +94,6 @@ abbrev pub Silent : Settings → List (Tagged Emission) → Type 0
 Silent st es = Every (λ t. Follows st (t .what)) es
 
 module _ (st : Settings) where
-  silent-tag : (s : ℕ) (es : List Emission) → Every (Follows st) es → Silent st (tag s es)
-  silent-tag s [] h = tt
-  silent-tag s (e ∷ es) h = (h .0, silent-tag s es (h .1))
-
   silent-append : (xs ys : List (Tagged Emission)) → Silent st xs → Silent st ys → Silent st (xs ++ ys)
   silent-append xs ys h k = every-append (λ t. Follows st (t .what)) xs ys h k
 
@@ -138,11 +134,7 @@ emitted-silent w h c (a-moment {m} u) = silent-append (w .shared .settings) (emi
 
 -- ==== the moments of a call: settings, tool records and identifiers over the net are tested before they come in
 
-abbrev CleanNews : Option Event → Type 0
-CleanNews none = Unit {0}
-CleanNews (some e) = CleanEvent e
-
-happening-clean : (o : Option Event) → CleanNews o → Every CleanMoment (happening o)
+happening-clean : (o : Option Event) → IfAny CleanEvent o → Every CleanMoment (happening o)
 happening-clean none h = tt
 happening-clean (some e) h = (record { sees = λ s. h; leaves = h }, tt)
 
@@ -150,7 +142,7 @@ happening-one : (o : Option Event) → AtMostOne (happening o)
 happening-one none = no-moment
 happening-one (some e) = a-moment (λ s x. refl)
 
-told-clean : (o : Option (List ℕ)) → CleanTold o → CleanNews (option-map identified o)
+told-clean : (o : Option (List ℕ)) → IfAny Identifier o → IfAny CleanEvent (option-map identified o)
 told-clean none h = tt
 told-clean (some x) h = identified-clean x h
 
@@ -161,8 +153,8 @@ identifier-clean x y h k = either Identifier (all is-space x) y x k h
 abbrev reaches-last : World → Option Tool → Bool
 reaches-last w o = cond (is-tightening o) (eqb (w .shared .last) number-greatest) false
 
-reported-clean : (w : World) (o : Option Tool) → CleanWorld w → CleanTool o → reaches-last w o ≡ false
-    → CleanNews (option-map (reported (w .shared)) o)
+reported-clean : (w : World) (o : Option Tool) → CleanWorld w → IfAny CleanTool o → reaches-last w o ≡ false
+    → IfAny CleanEvent (option-map (reported (w .shared)) o)
 reported-clean w none h c e = tt
 reported-clean w (some (scanned x)) h c e = identified-clean x c
 reported-clean w (some (tightening x t)) h c e =
@@ -171,25 +163,9 @@ reported-clean w (some (tightening x t)) h c e =
     (identifier-clean x (w .shared .in-force) (c .0) (h .in-force)) (c .1) (c .2)
     (omega (arith, eqb-false (w .shared .last) number-greatest e))
 
--- of five tests none applies
-fifth : (a b c d e : Bool) → first {A = ℕ} 0 (a gives 1 ∷ b gives 2 ∷ c gives 3 ∷ d gives 7 ∷ e gives 8 ∷ []) ≡ 0 → e ≡ false
-fifth true b c d e h = absurd (omega arith)
-fifth false true c d e h = absurd (omega arith)
-fifth false false true d e h = absurd (omega arith)
-fifth false false false true e h = absurd (omega arith)
-fifth false false false false true h = absurd (omega arith)
-fifth false false false false false h = refl
-
 not-last : (l : Lent) (w : World) (slice : List ℕ) → refusal l w (tool slice) ≡ 0 → reaches-last w (read-tool slice) ≡ false
-unfolding refusal
 not-last l w slice e =
-    let o = read-tool slice in
-    fifth (ltb (l .table) table-least) (not (l .well-formed)) (ltb (l .output) output-least) (is-none o) (reaches-last w o) e
-
-session-clean : (xs : List Session) (s : ℕ) → Every CleanSession xs → CleanSession (getD xs s closed)
-session-clean [] s h = tt
-session-clean (x ∷ xs) zero h = h .0
-session-clean (x ∷ xs) (suc s) h = session-clean xs s (h .1)
+    past (reaches-last w (read-tool slice)) 7 0 (past (is-none (read-tool slice)) 6 _ (done l w (tool slice) e .1) .1) .0
 
 -- ==== a call
 
@@ -212,15 +188,15 @@ pub data Sends (w : World) (c : Call) : List (Tagged Emission) → Type 0 where
 sends-to : {w : World} {c : Call} (s : ℕ) {o : Option Message} {es : List Emission} (more : List (Tagged Emission))
     → Says (w .shared .settings) o es → completed w c s ≡ o → Silent (w .shared .settings) more → Sends w c (tag s es ++ more)
 sends-to {w = w} s more (quiet {es = es} h) e k =
-    let st = w .shared .settings in none-replies (silent-append st (tag s es) more (silent-tag st s es h) k)
+    let st = w .shared .settings in none-replies (silent-append st (tag s es) more (tag-every (Follows st) s es h) k)
 sends-to {w = w} s more (answers {es = es} f a b r h) e k =
-    let st = w .shared .settings in replies (e ∙ f) a b r (silent-append st (tag s es) more (silent-tag st s es h) k)
+    let st = w .shared .settings in replies (e ∙ f) a b r (silent-append st (tag s es) more (tag-every (Follows st) s es h) k)
 
 module _ (w : World) (h : CleanWorld w) where
   silently : (c : Call) {ms : List Moment} → Every CleanMoment ms → AtMostOne ms → Every CleanMoment ms × Sends w c (emitted w ms)
   silently c k u = (k, none-replies (emitted-silent w h k u))
 
-  hears-sends : (s : ℕ) (bs : List ℕ) (o : Option Event) → CleanNews o
+  hears-sends : (s : ℕ) (bs : List ℕ) (o : Option Event) → IfAny CleanEvent o
       → let m = hears s (cut bs) in Every CleanMoment (m ∷ happening o) × Sends w (bytes s bs) (emitted w (m ∷ happening o))
   hears-sends s bs o k =
       let c = bytes s bs in
@@ -230,7 +206,7 @@ module _ (w : World) (h : CleanWorld w) where
       let silent = emitted-silent (next w m) (next-clean w h m clean) (happening-clean o k) (happening-one o) in
       let x = session-at w s in
       let said = step-clean (w .shared) (h .settings) (receives (cut bs)) x (nul-cut bs)
-      (session-clean (w .sessions) s (h .sessions)) .1 in (
+      (every-at CleanSession (w .sessions) s closed tt (h .sessions)) .1 in (
         (clean, happening-clean o k),
         either-emits w s (receives (cut bs)) (λ es. Sends w c (es ++ more)) (none-replies silent)
             (sends-to s more said (rw (eq-eqb s s refl)) silent),
@@ -240,7 +216,7 @@ module _ (w : World) (h : CleanWorld w) where
   done-sends : (l : Lent) (c : Call) → refusal l w c ≡ 0 → Every CleanMoment (moments w c) × Sends w c (emitted w (moments w c))
   done-sends l (start slice) e = go (read-settings slice) (clean-start slice)
     where
-      go : (o : Option Settings) → CleanStart o
+      go : (o : Option Settings) → IfAny CleanSettings o
           → let ms = at-most-one (option-map begins o) ++ [] in Every CleanMoment ms × Sends w (start slice) (emitted w ms)
       go none k = silently (start slice) tt no-moment
       go (some st) k = silently (start slice) (record { sees = λ s. tt; leaves = k }, tt) (a-moment (λ s x. refl))
@@ -252,7 +228,7 @@ module _ (w : World) (h : CleanWorld w) where
       let x = session-at w s in
       hears-sends s bs (option-map identified (announces (w .shared) (cut bs) x))
       (told-clean (announces (w .shared) (cut bs) x)
-      (announces-clean (w .shared) (h .settings) (cut bs) x (nul-cut bs) (session-clean (w .sessions) s (h .sessions))))
+      (announces-clean (w .shared) (h .settings) (cut bs) x (nul-cut bs) (every-at CleanSession (w .sessions) s closed tt (h .sessions))))
   done-sends l one-tick e = silently one-tick (record { sees = λ s. tt; leaves = tt }, tt) (a-moment (λ s x. refl))
   done-sends l (tool slice) e =
       let o = option-map (reported (w .shared)) (read-tool slice) in
@@ -270,4 +246,4 @@ step-sends l w c h = answered-sends w h l c (refusal l w c) refl
 
 -- what a start takes is clean
 pub settings-clean : {st : Settings} (slice : List ℕ) → read-settings slice ≡ some st → CleanSettings st
-settings-clean slice e = subst CleanStart e (clean-start slice)
+settings-clean slice e = subst (IfAny CleanSettings) e (clean-start slice)
