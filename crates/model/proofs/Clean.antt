@@ -49,35 +49,42 @@ nul-time place (b ∷ bs) h =
 abbrev slim-item : Item → Bool
 slim-item e = leb (item-length e) identifier-length
 
-good-value : (e : Item) (bs : List ℕ) → slim-item e ≡ true → good-item e bs ≡ true → length bs ≡ item-length e
-    → Fit (value-of e bs) × (is-within e (value-of e bs) ≡ true)
-good-value (number size greatest) bs s h n = (tt, h)
-good-value (text size) bs s h n =
-    (record { no-NUL = nul-text bs h; short = omega (arith, leb-true size identifier-length s) }, eq-eqb (length bs) size n)
-good-value time bs s h n = (record { no-NUL = nul-time 1 bs h; short = omega arith }, eq-eqb (length bs) _ n)
+good-value : (e : Item) (bs : List ℕ) → good-item e bs ≡ true → length bs ≡ item-length e
+    → (slim-item e ≡ true → Fit (value-of e bs)) × (is-within e (value-of e bs) ≡ true)
+good-value (number size greatest) bs h n = (λ s. tt, h)
+good-value (text size) bs h n =
+    (λ s. record { no-NUL = nul-text bs h; short = omega (arith, leb-true size identifier-length s) }, eq-eqb (length bs) size n)
+good-value time bs h n = (λ s. record { no-NUL = nul-time 1 bs h; short = omega arith }, eq-eqb (length bs) _ n)
 
-good-values : (es : List Item) (at : ℕ) (bs : List ℕ) → all slim-item es ≡ true → good-parts es (parts-from at es bs) ≡ true
-    → at + payload-length es ≤ length bs
-    → Every Fit (values-of es (parts-from at es bs)) × (all-within es (values-of es (parts-from at es bs)) ≡ true)
-good-values [] at bs s h n = (tt, refl)
-good-values (e ∷ es) at bs s h n =
+good-values : (es : List Item) (at : ℕ) (bs : List ℕ) → good-parts es (parts-from at es bs) ≡ true → at + payload-length es ≤ length bs
+    → (all slim-item es ≡ true → Every Fit (values-of es (parts-from at es bs)))
+    × (all-within es (values-of es (parts-from at es bs)) ≡ true)
+good-values [] at bs h n = (λ s. tt, refl)
+good-values (e ∷ es) at bs h n =
     let p = take (item-length e) (drop at bs) in
-    let t = both (slim-item e) (all slim-item es) s in
     let g = both (good-item e p) _ h in
-    let v = good-value e p (t .0) (g .0) (omega (arith, length-take (item-length e) (drop at bs), length-drop at bs)) in
-    let vs = good-values es (at + item-length e) bs (t .1) (g .1) (omega arith) in
-    ((v .0, vs .0), rw (v .1) (vs .1))
+    let v = good-value e p (g .0) (omega (arith, length-take (item-length e) (drop at bs), length-drop at bs)) in
+    let vs = good-values es (at + item-length e) bs (g .1) (omega arith) in
+    (λ s. let t = both (slim-item e) (all slim-item es) s in (v .0 (t .0), vs .0 (t .1)), rw (v .1) (vs .1))
+
+payload-says : (es : List Item) (bs : List ℕ) → good-payload es bs ≡ true
+    → (all slim-item es ≡ true → Every Fit (values es bs)) × (all-within es (values es bs) ≡ true) × (length bs ≡ payload-length es)
+unfolding good-payload
+payload-says es bs h =
+    let g = both (eqb (length bs) (payload-length es)) _ h in
+    let e = eqb-true (length bs) (payload-length es) (g .0) in
+    let v = good-values es 0 bs (g .1) (omega arith) in
+    (v .0, v .1, e)
+
+pub payload-within : (es : List Item) (bs : List ℕ) → good-payload es bs ≡ true → all-within es (values es bs) ≡ true
+payload-within es bs h = payload-says es bs h .1
 
 good-said : (record-kind : ℕ) (es : List Item) (slice : List ℕ) → all slim-item es ≡ true → good-record record-kind es slice ≡ true
-    → (length (payload slice) ≡ payload-length es) × Every Fit (values es (payload slice))
-    × (all-within es (values es (payload slice)) ≡ true)
-unfolding good-record good-payload
+    → Every Fit (values es (payload slice)) × (all-within es (values es (payload slice)) ≡ true)
+    × (length (payload slice) ≡ payload-length es)
+unfolding good-record
 good-said record-kind es slice s h =
-    let n = length (payload slice) in
-    let g = both (eqb n (payload-length es)) _ (both (is-record record-kind slice) _ h .1) in
-    let e = eqb-true n (payload-length es) (g .0) in
-    let v = good-values es 0 (payload slice) s (g .1) (omega arith) in
-    (e, v .0, v .1)
+    let v = payload-says es (payload slice) (both (is-record record-kind slice) _ h .1) in (v .0 s, v .1, v .2)
 
 -- a start takes good settings only
 pub clean-start : (slice : List ℕ) → IfAny CleanSettings (read-settings slice)
@@ -89,9 +96,9 @@ clean-start slice = go (good-record settings-record-kind settings-items slice) r
     go true e =
         let v = good-said settings-record-kind settings-items slice refl e in
         record {
-          texts = v .1;
-          within = v .2;
-          last = omega (arith, number-within (suc number-greatest) settings-items (values settings-items (payload slice)) 4 (v .2) refl);
+          texts = v .0;
+          within = v .1;
+          last = omega (arith, number-within (suc number-greatest) settings-items (values settings-items (payload slice)) 4 (v .1) refl);
         }
     go false e = tt
 
@@ -113,11 +120,11 @@ clean-tool slice =
     go true b e f =
         let v = good-said tightening-record-kind tightening-items slice refl e in
         let n = length (identifier-in (payload slice)) in
-        let w = both (eqb n identifier-length) (all-within reported-items (tightening-of (payload slice))) (v .2) in
-        (record { clean = v .1 .0; whole = eqb-true n identifier-length (w .0) }, v .1 .1, w .1)
+        let w = both (eqb n identifier-length) (all-within reported-items (tightening-of (payload slice))) (v .1) in
+        (record { clean = v .0 .0; whole = eqb-true n identifier-length (w .0) }, v .0 .1, w .1)
     go false true e f =
         let v = good-said scanned-record-kind scanned-items slice refl f in
-        record { clean = subst Text (take-all identifier-length (payload slice) (omega arith)) (v .1 .0); whole = v .0 }
+        record { clean = subst Text (take-all identifier-length (payload slice) (omega arith)) (v .0 .0); whole = v .2 }
     go false false e f = tt
 
 -- ==== runs: a piece of bytes ends before its NUL, and so nothing that is kept has one
