@@ -234,11 +234,12 @@ pub code-short : (x : Standing) (mid : ℕ) (o : Option Entry) → entry-of mid 
     → short-code (tested x o size revision bs) ≡ true
 code-short x mid none q size revision bs = refl
 code-short x mid (some e) q size revision bs =
+    let own-short = entry-at (λ f. short-code ((own-test x (f .effect)) .answer)) refl mid e q .1 in
     by-test (x .started && eqb (e .mid) 0001) _ _ refl
     (by-test (not (good-length e size)) _ _ refl
     (by-test (not (good-among (e .revision) revision)) _ _ refl
     (by-test (not (all is-text bs)) _ _ refl
-    (by-test ((own-test x (e .effect)) .applies) _ none (entry-at (λ f. short-code ((own-test x (f .effect)) .answer)) refl mid e q .1) refl))))
+    (by-test ((own-test x (e .effect)) .applies) _ none own-short refl))))
   where
     by-test : (b : Bool) (o p : Option Error) → short-code o ≡ true → short-code p ≡ true → short-code (cond b o p) ≡ true
     by-test = either (λ (o : Option Error). short-code o ≡ true)

@@ -55,6 +55,10 @@ run-emitted w (c ∷ cs) =
 
 -- ==== one session
 
+pub length-after : (w : World) (ms : List Moment) → length ((after w ms) .sessions) ≡ length (w .sessions)
+length-after w [] = refl
+length-after w (m ∷ ms) = length-after (next w m) ms ∙ length-row (each w m) 0 (w .sessions)
+
 module _ (s : ℕ) where
   pub lives : (w : World) → s < length (w .sessions) → (ms : List Moment)
       → (session-at (after w ms) s, pick s (emitted w ms)) ≡ lived (w .shared) (session-at w s) (seen-of s ms)

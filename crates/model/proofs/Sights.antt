@@ -3,7 +3,7 @@
 use Prim.Native.Nat.{ℕ, _<_}
 use mathlib.Core.Path.{_≡_, refl, sym, _∙_, ap}
 use mathlib.Core.Bool.{Bool, true, false, not, cond, true≢false}
-use mathlib.Core.List.{List, [], _∷_, _++_, append-nil}
+use mathlib.Core.List.{List, [], _++_, append-nil}
 use mathlib.Core.Option.{Option, none, some, Option·map as option-map}
 use lib.Dec.{leb, eqb}
 use lib.ListN.{length}
@@ -16,13 +16,13 @@ use Rattle.model.specs.Sharing.{Shared, shared-with, reported}
 use Rattle.model.specs.Row.{pick}
 use Rattle.model.specs.Session.{Session, is-closed, Emission}
 use Rattle.model.specs.Local.{Local, opening, hang-up, receives, tick, event, elsewhere, step, announces}
-use Rattle.model.specs.World.{World, session-at, Moment, begins, hears, happens, each, next, after, emitted}
+use Rattle.model.specs.World.{World, session-at, Moment, begins, hears, after, emitted}
 use Rattle.model.specs.Calls.{Call, start, open-session, hang-up-session, bytes, one-tick, tool, Lent, is-none, taken-by, does}
 use Rattle.model.specs.Calls.{refusal, at-most-one, happening}
+use Rattle.model.specs.Own.{seen-of, lived}
 use Rattle.model.specs.Sights.{Sight, sighted, sight, starts, reports, speaker}
-use Rattle.model.proofs.RowLaws.{length-row}
 use Rattle.model.proofs.Refusals.{past, done}
-use Rattle.model.proofs.Lived.{lives}
+use Rattle.model.proofs.Lived.{length-after, lives}
 use Rattle.model.proofs.Clean.{there}
 
 -- ==== what a session sees of the moment of a call
@@ -177,26 +177,22 @@ module _ (w : World) (s : ℕ) (h : s < length (w .sessions)) where
 
   pub goes-to : (o : Option Moment) (e : Option Event) → let ms = at-most-one o ++ happening e in
       (session-at (after w ms) s ≡ (then-of o e) .0) × (pick s (emitted w ms) ≡ (first-of o) .1 ++ (then-of o e) .1)
-  goes-to none none = (refl, refl)
-  goes-to none (some e) =
-      let q = lives s w h (happens e ∷ []) in
-      (ap (λ (r : Session × List Emission). r .0) q, ap (λ (r : Session × List Emission). r .1) q ∙ append-nil _)
-  goes-to (some m) none =
-      let q = lives s w h (m ∷ []) in (ap (λ (r : Session × List Emission). r .0) q, ap (λ (r : Session × List Emission). r .1) q)
-  goes-to (some m) (some e) =
-      let q = lives s w h (m ∷ happens e ∷ []) in (
-        ap (λ (r : Session × List Emission). r .0) q,
-        ap (λ (r : Session × List Emission). r .1) q ∙ ap ((first-of (some m)) .1 ++_) (append-nil _),
-      )
+  goes-to o e =
+      let q = lives s w h (at-most-one o ++ happening e) ∙ both-of o e in
+      (ap (λ (r : Session × List Emission). r .0) q, ap (λ (r : Session × List Emission). r .1) q)
+    where
+      both-of : (o : Option Moment) (e : Option Event)
+          → lived (w .shared) (session-at w s) (seen-of s (at-most-one o ++ happening e))
+          ≡ ((then-of o e) .0, (first-of o) .1 ++ (then-of o e) .1)
+      both-of none none = refl
+      both-of none (some e) = simp append-nil
+      both-of (some m) none = refl
+      both-of (some m) (some e) = simp append-nil
 
 module _ (w : World) where
   pub after-length : (o : Option Moment) (e : Option Event)
       → length ((after w (at-most-one o ++ happening e)) .sessions) ≡ length (w .sessions)
-  after-length none none = refl
-  after-length none (some e) = length-row (each w (happens e)) 0 (w .sessions)
-  after-length (some m) none = length-row (each w m) 0 (w .sessions)
-  after-length (some m) (some e) =
-      length-row (each (next w m) (happens e)) 0 ((next w m) .sessions) ∙ length-row (each w m) 0 (w .sessions)
+  after-length o e = length-after w (at-most-one o ++ happening e)
 
   pub after-shared : (o : Option Moment) (e : Option Event)
       → (after w (at-most-one o ++ happening e)) .shared ≡ shared-with ((after w (at-most-one o)) .shared) e

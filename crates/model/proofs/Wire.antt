@@ -25,7 +25,8 @@ use Rattle.model.specs.Calls.{is-none, is-tightening, at-most-one, happe
 use Rattle.model.specs.Sights.{sight}
 use Rattle.model.specs.Wire.{Every, Framed, Answers}
 use Rattle.model.specs.FieldsRead.{ReplyReads}
-use Rattle.model.proofs.Framed.{both, every-append, every-at, IfAny, either, Identifier, identifier-spaces, CleanSettings, CleanEvent}
+use Rattle.model.proofs.Framed.{left, every-append, every-at, IfAny, either, Identifier, identifier-spaces, CleanSettings}
+use Rattle.model.proofs.Framed.{CleanEvent}
 use Rattle.model.proofs.Legible.{identified-clean, tightened-clean}
 use Rattle.model.proofs.Clean.{clean-start, CleanTool, clean-tool, nul-cut, there}
 use Rattle.model.proofs.Sent.{Follows, Says, quiet, answers, row-every, said-every, CleanSession, CleanLocal, completes, heard}
@@ -65,7 +66,7 @@ begun-clean st events h =
 in-force-clean : (x : List ℕ) (e : Event) → Identifier x → CleanEvent e → Identifier (in-force-after x e)
 in-force-clean x (identified y) h c = record {
   clean = c .texts .0;
-  whole = eqb-true (length y) identifier-length (both (eqb (length y) identifier-length) true (c .within) .0);
+  whole = eqb-true (length y) identifier-length (left (eqb (length y) identifier-length) true (c .within));
 }
 in-force-clean x (tightened r) h c = h
 
