@@ -30,12 +30,8 @@ use Rattle.model.specs.World.{ticks, happens, begins, changed, each, ses
 use Rattle.model.specs.Calls.{Call, start, open-session, hang-up-session, bytes, one-tick, tool, Lent, refusal, at-most-one}
 use Rattle.model.specs.Calls.{happening, moments, output-record, output, takers, taken-by, does, Answer, answered, step, run}
 use Rattle.model.specs.Erased.{erase, erase-sub, erase-session, erase-world, observed}
+use Rattle.model.proofs.Framed.{chosen}
 use Rattle.model.proofs.RowLaws.{retag, row-map, said-map}
-
--- a function of a choice is a choice of its values
-chosen : {A B : Type 0} (f : A → B) (b : Bool) (x y : A) → cond b (f x) (f y) ≡ f (cond b x y)
-chosen f true x y = refl
-chosen f false x y = refl
 
 -- ==== a subscription
 

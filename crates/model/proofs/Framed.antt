@@ -64,6 +64,11 @@ pub either : {A : Type 0} (P : A → Type 0) (b : Bool) (x y : A) → P x → P 
 either P true x y h k = h
 either P false x y h k = k
 
+-- a function of a choice is a choice of its values
+pub chosen : {A B : Type 0} (f : A → B) (b : Bool) (x y : A) → cond b (f x) (f y) ≡ f (cond b x y)
+chosen f true x y = refl
+chosen f false x y = refl
+
 -- ==== the layouts of a notice: what a test finds of each of them it finds of every revision
 
 pub at-every : (test : Layout → Bool) (ls : Layouts) → all test (ls .newest ∷ ls .older) ≡ true → (revision : ℕ)

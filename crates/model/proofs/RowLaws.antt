@@ -62,13 +62,6 @@ module _ {X E : Type 0} (act : ℕ → X → X × List E) where
   pub said-at : (xs : List X) (n : ℕ) (d : X) → n < length xs → pick n (said act 0 xs) ≡ (act n (getD xs n d)) .1
   said-at xs n d h = said-from xs 0 n n d (omega arith) h
 
-  -- cell n after the call, past the last one too, where the call leaves d as it is
-  pub row-everywhere : (d : X) → ((n : ℕ) → (act n d) .0 ≡ d) → (xs : List X) (i j n : ℕ) → i + j ≡ n
-      → getD (row act i xs) j d ≡ (act n (getD xs j d)) .0
-  row-everywhere d h [] i j n e = sym (h n)
-  row-everywhere d h (x ∷ xs) i zero n e = ap (λ (m : ℕ). (act m x) .0) (omega arith)
-  row-everywhere d h (x ∷ xs) i (suc j) n e = row-everywhere d h xs (suc i) j n (omega arith)
-
   -- cells that say nothing
   pub said-none : ((n : ℕ) (x : X) → (act n x) .1 ≡ []) → (i : ℕ) (xs : List X) → said act i xs ≡ []
   said-none h i [] = refl
@@ -112,17 +105,6 @@ module _ {X E : Type 0} (act : ℕ → X → X × List E) (s : ℕ) (others : (j
         ap (row act 0) (split-at xs s d h) ∙ r .0 ∙ sym (set-split xs s ((act s x) .0) h),
         ap (said act 0) (split-at xs s d h) ∙ r .1,
       )
-
--- ==== a call, and then another, which come to a third
-
-module _ {X E : Type 0} (f g h : ℕ → X → X × List E) (same : (n : ℕ) (x : X) → g n ((f n x) .0) ≡ h n x) where
-  pub row-row : (i : ℕ) (xs : List X) → row g i (row f i xs) ≡ row h i xs
-  row-row i [] = refl
-  row-row i (x ∷ xs) = rw (same i x, row-row (suc i) xs)
-
-  pub said-row : (i : ℕ) (xs : List X) → said g i (row f i xs) ≡ said h i xs
-  said-row i [] = refl
-  said-row i (x ∷ xs) = rw (same i x, said-row (suc i) xs)
 
 -- ==== a row beside a row: where each cell of the one answers as the other's does, by way of m and e, so do the rows
 
