@@ -17,7 +17,7 @@ use Rattle.model.specs.Layouts.{Layout, data-from, data-of, layout-0002,
 use Rattle.model.specs.Layouts.{Layouts, layout-at, layouts-0052, layouts-0061}
 use Rattle.model.specs.Kinds.{kind-at}
 use Rattle.model.specs.Events.{Event, identified, tightened, kind-of, told-of}
-use Rattle.model.specs.Sharing.{last-after}
+use Rattle.model.specs.Sharing.{last-after, in-force-after}
 use Rattle.model.specs.Frames.{header, frame, sources, nothing, frame-0002, frame-0004, frame-0005, event-frame}
 use Rattle.model.specs.FieldsRead.{settings-within, told-within}
 use Rattle.model.specs.Wire.{Every, NoNUL, Framed, is-notice}
@@ -116,9 +116,7 @@ unfolding digits
 four-digits n h = omega arith
 
 digit-test : (n : ℕ) → is-digit (0x30 + n % 10) ≡ true
-digit-test n =
-    and-eq-true-iff (leb 0x30 (0x30 + n % 10)) (leb (0x30 + n % 10) 0x39) .1
-    (le-leb 0x30 (0x30 + n % 10) (omega arith), le-leb (0x30 + n % 10) 0x39 (omega arith))
+digit-test n = rw (le-leb 0x30 (0x30 + n % 10) (omega arith), le-leb (0x30 + n % 10) 0x39 (omega arith))
 
 digits-test : (n : ℕ) → all is-digit (digits 4 n) ≡ true
 unfolding digits
@@ -233,7 +231,7 @@ pub identifier-spaces : Identifier (spaces identifier-length)
 identifier-spaces = record { clean = record { no-NUL = nul-spaces identifier-length; short = omega arith }; whole = refl }
 
 -- settings, and events, whose texts can stand in fields, and whose values are within their items; the last number that they leave is one
--- that there is
+-- that there is, and what an event leaves in force is an identifier
 pub record CleanSettings (st : Settings) : Type 0 where
   pub texts : Every Fit (st .values)
   pub within : settings-within st ≡ true
@@ -243,6 +241,7 @@ pub record CleanEvent (e : Event) : Type 0 where
   pub texts : Every Fit (told-of e)
   pub within : told-within e ≡ true
   pub last : (n : ℕ) → n ≤ number-greatest → last-after n e ≤ number-greatest
+  pub in-force : (x : List ℕ) → Identifier x → Identifier (in-force-after x e)
 
 nothing-fits : Fits nothing
 nothing-fits = record { settings = tt; told = tt }

@@ -136,6 +136,7 @@ identified-clean x h = record {
   texts = (h .clean, tt);
   within = rw (eq-eqb (length x) identifier-length (h .whole));
   last = λ n k. k;
+  in-force = λ y k. h;
 }
 
 all-within-append : (es : List Item) (vs : List Value) (fs : List Item) (ws : List Value) → all-within es vs ≡ true
@@ -161,4 +162,5 @@ tightened-clean r h k w n =
             all-within-append reported-items (r .tightening) number-items numbers w (rw (le-leb (r .number) number-greatest n)),
           );
       last = λ m l. n;
+      in-force = λ y l. l;
     }
