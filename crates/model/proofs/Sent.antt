@@ -133,9 +133,6 @@ Goes st o r = CleanSession (r .0) × Says st o (r .1)
 abbrev Still : Settings → Session × List Emission → Type 0
 Still st r = CleanSession (r .0) × Every (Follows st) (r .1)
 
-still : (st : Settings) (o : Option Message) (r : Session × List Emission) → Still st r → Goes st o r
-still st o r h = (h .0, quiet (h .1))
-
 -- what a subscription becomes, and the copies that are sent by it
 abbrev CleanAct : Settings → Subscription → Subscription × List Notice → Type 0
 CleanAct st s a = CleanSub (a .0) × Every (CleanCopy st) (copies-to st s (a .1))
@@ -203,29 +200,42 @@ module _ (g : Shared) (clean : CleanSettings (g .settings)) where
       → Goes (g .settings) (some m) (accepted m r)
   accepted-clean m n r h = (h .0, answers refl accepts (framed-0005 (m .mid)) (reads-0005 (back-0005 (m .mid) n)) (h .1))
 
+  -- what a message does, and the identifier that it makes known
   carry-out-clean : (subs : List Subscription) (m : Message) (f : Effect) → CleanMessage m → Every CleanSub subs → (least greatest : ℕ)
-      → mirrors-only f (m .mid) least greatest ≡ true → within least greatest (m .size) ≡ true
-      → Goes (g .settings) (some m) (carry-out g subs m f)
-  carry-out-clean subs m starts c h least greatest u v = ((tt, h), quiet tt)
-  carry-out-clean subs m stops c h least greatest u v = accepted-clean m (c .mid) (fresh, []) (tt, tt)
-  carry-out-clean subs m (identifies n) c h least greatest u v = accepted-clean m (c .mid) (started 0 empty-run subs, []) ((tt, h), tt)
-  carry-out-clean subs m (subscribes kind n) c h least greatest u v =
+      → mirrors-only f (m .mid) least greatest ≡ true → within least greatest (m .size) ≡ true → all is-text (m .data-field) ≡ true
+      → Goes (g .settings) (some m) (carry-out g subs m f) × IfAny Identifier (identifier-told m f)
+  carry-out-clean subs m starts c h least greatest u v w = (((tt, h), quiet tt), tt)
+  carry-out-clean subs m stops c h least greatest u v w = (accepted-clean m (c .mid) (fresh, []) (tt, tt), tt)
+  carry-out-clean subs m (identifies n) c h least greatest u v w =
+      let room = identifier-length - length (m .data-field) in
+      let short = c .short in
+      let n : length (m .data-field ++ spaces room) ≡ identifier-length =
+      omega (arith, length-append (m .data-field) (spaces room), length-replicate room space) in (
+        accepted-clean m (c .mid) (started 0 empty-run subs, []) ((tt, h), tt),
+        record {
+          clean = record {
+            no-NUL = nul-append (m .data-field) (spaces room) (nul-text (m .data-field) w) (nul-spaces room);
+            short = omega arith;
+          };
+          whole = n;
+        },
+      )
+  carry-out-clean subs m (subscribes kind n) c h least greatest u v w =
       let d = asks (m .revision) (m .no-acknowledge) in
-      accepted-clean m (c .mid) (dealt (g .settings) 0 empty-run (only kind d) subs)
-      (only-dealt (g .settings) clean 0 empty-run kind d subs tt tt h)
-  carry-out-clean subs m (unsubscribes kind n) c h least greatest u v =
-      accepted-clean m (c .mid) (dealt (g .settings) 0 empty-run (only kind drops) subs)
-      (only-dealt (g .settings) clean 0 empty-run kind drops subs tt tt h)
-  carry-out-clean subs m (acknowledges kind) c h least greatest u v =
-      still (g .settings) (some m) (dealt (g .settings) 0 empty-run (only kind acks) subs)
-      (only-dealt (g .settings) clean 0 empty-run kind acks subs tt tt h)
-  carry-out-clean subs m mirrors c h least greatest u v =
+      let r = dealt (g .settings) 0 empty-run (only kind d) subs in
+      (accepted-clean m (c .mid) r (only-dealt (g .settings) clean 0 empty-run kind d subs tt tt h), tt)
+  carry-out-clean subs m (unsubscribes kind n) c h least greatest u v w =
+      let r = dealt (g .settings) 0 empty-run (only kind drops) subs in
+      (accepted-clean m (c .mid) r (only-dealt (g .settings) clean 0 empty-run kind drops subs tt tt h), tt)
+  carry-out-clean subs m (acknowledges kind) c h least greatest u v w =
+      let r = only-dealt (g .settings) clean 0 empty-run kind acks subs tt tt h in ((r .0, quiet (r .1)), tt)
+  carry-out-clean subs m mirrors c h least greatest u v w =
       let mid = eqb-true (m .mid) 9999 (search (left, right)) in
       let from = eqb-true least header-length (search (left, right)) in
       let to = eqb-true greatest header-length (search (left, right)) in
       let fits = leb-true least (m .size) (search left) in
       let size : m .size ≡ header-length = omega (arith, leb-true (m .size) greatest (search (left, right))) in
-      ((tt, h), answers refl (mirror mid size) (c .own size) reads-9999 tt)
+      (((tt, h), answers refl (mirror mid size) (c .own size) reads-9999 tt), tt)
 
   refused-clean : (m : Message) (x : Error) → m .mid < 10_000 → code x < 100
       → Says (g .settings) (some m) (reply (frame-0004 (m .mid) (code x)) ∷ [])
@@ -239,20 +249,21 @@ module _ (g : Shared) (clean : CleanSettings (g .settings)) where
       either (Says (g .settings) (some m)) (gets-reply (e .effect)) (reply (frame-0004 (m .mid) (code x)) ∷ []) []
       (refused-clean m x n k) (quiet tt)
 
-  hear-clean : (subs : List Subscription) (m : Message) → CleanMessage m → Every CleanSub subs → Goes (g .settings) (some m) (hear g subs m)
+  hear-clean : (subs : List Subscription) (m : Message) → CleanMessage m → Every CleanSub subs
+      → Goes (g .settings) (some m) (hear g subs m) × IfAny Identifier (identifier-heard g subs m)
   unfolding error-of
   hear-clean subs m c h = go (entry-of (m .mid)) refl (message-error (started-standing g subs) m) refl
     where
       go : (o : Option Entry) → entry-of (m .mid) ≡ o → (x : Option Error)
           → tested (started-standing g subs) o (m .size) (m .revision) (m .data-field) ≡ x
-          → Goes (g .settings) (some m) (judged g subs m o x)
+          → Goes (g .settings) (some m) (judged g subs m o x) × IfAny Identifier (identifier-judged m o x)
       go o q (some x) e =
           let short = code-short (started-standing g subs) (m .mid) o q (m .size) (m .revision) (m .data-field) in
-          ((tt, h), error-clean m o x (c .mid) (ltb-true (code x) 100 (rw e at short)))
-      go none q none e = ((tt, h), quiet tt)
+          (((tt, h), error-clean m o x (c .mid) (ltb-true (code x) 100 (rw e at short))), tt)
+      go none q none e = (((tt, h), quiet tt), tt)
       go (some f) q none e =
-          carry-out-clean subs m (f .effect) c h (f .least) (f .greatest) (mirrored (m .mid) f q)
-          (passed (started-standing g subs) f (m .size) (m .revision) (m .data-field) e .0)
+          let p = passed (started-standing g subs) f (m .size) (m .revision) (m .data-field) e in
+          carry-out-clean subs m (f .effect) c h (f .least) (f .greatest) (mirrored (m .mid) f q) (p .0) (p .1)
 
   hear-opened-clean : (idle : ℕ) (m : Message) → Goes (g .settings) (some m) (hear-opened g idle m)
   unfolding error-of
@@ -270,14 +281,22 @@ module _ (g : Shared) (clean : CleanSettings (g .settings)) where
       go false e x k = (tt, quiet tt)
 
   -- the end of a run, and bytes
-  receive-clean : (idle : ℕ) (r : Run) (subs : List Subscription) (b : Bool) → CleanRun r → length (r .kept) ≤ run-kept
-      → Every CleanSub subs → Goes (g .settings) (cond b (read-run r) none) (receive g idle r subs b)
-  receive-clean idle r subs false h n k = ((h, k), quiet tt)
+  receive-clean : (idle : ℕ) (r : Run) (subs : List Subscription) (b : Bool) → CleanRun r → length (r .kept) ≤ run-kept → Every CleanSub subs
+      → Goes (g .settings) (cond b (read-run r) none) (receive g idle r subs b)
+      × IfAny Identifier (cond b (identifier-run g subs (read-run r)) none)
+  receive-clean idle r subs false h n k = (((h, k), quiet tt), tt)
   receive-clean idle r subs true h n k = go (read-run r) (clean-end r h n)
     where
-      go : (o : Option Message) → IfAny CleanMessage o → Goes (g .settings) o (end-run g idle subs o)
-      go none c = ((tt, k), quiet tt)
+      go : (o : Option Message) → IfAny CleanMessage o → Goes (g .settings) o (end-run g idle subs o) × IfAny Identifier (identifier-run g subs o)
+      go none c = (((tt, k), quiet tt), tt)
       go (some m) c = hear-clean subs m c k
+
+  longer-clean : (p : Piece) (idle : ℕ) (run : Run) (subs : List Subscription) → NoNUL (p .bytes) → CleanSession (started idle run subs)
+      → Goes (g .settings) (completes (started idle run subs) p) (step g (receives p) (started idle run subs))
+      × IfAny Identifier (announces g p (started idle run subs))
+  longer-clean p idle run subs c h =
+      receive-clean idle (longer run (p .bytes)) subs (p .ends) (clean-longer run (p .bytes) (h .0) c)
+      (omega (arith, length-take run-kept (run .kept ++ p .bytes))) (h .1)
 
   receive-opened-clean : (idle : ℕ) (r : Run) (b : Bool) → CleanRun r
       → Goes (g .settings) (cond b (read-run r) none) (receive-opened g idle r b)
@@ -292,7 +311,7 @@ module _ (g : Shared) (clean : CleanSettings (g .settings)) where
   tick-at-clean idle r h =
       let st = g .settings in
       let shut : Session × List Emission = (closed, close ∷ []) in
-      either (Goes st none) (eqb idle idle-limit) shut r (still st none shut (tt, (tt, tt))) (still st none r h)
+      either (Goes st none) (eqb idle idle-limit) shut r (tt, quiet (tt, tt)) (h .0, quiet (h .1))
 
   -- A STEP of a session
   pub step-clean : (l : Local) (x : Session) → CleanLocal l → CleanSession x → Goes (g .settings) (heard l x) (step g l x)
@@ -303,9 +322,7 @@ module _ (g : Shared) (clean : CleanSettings (g .settings)) where
   step-clean opening (started i run subs) c h = (h, quiet tt)
   step-clean (receives p) closed c h = (tt, quiet tt)
   step-clean (receives p) (opened i run) c h = receive-opened-clean i (longer run (p .bytes)) (p .ends) (clean-longer run (p .bytes) h c)
-  step-clean (receives p) (started i run subs) c h =
-      receive-clean i (longer run (p .bytes)) subs (p .ends) (clean-longer run (p .bytes) (h .0) c)
-      (omega (arith, length-take run-kept (run .kept ++ p .bytes))) (h .1)
+  step-clean (receives p) (started i run subs) c h = longer-clean p i run subs c h .0
   step-clean tick closed c h = (tt, quiet tt)
   step-clean tick (opened i run) c h = tick-at-clean (suc i) (opened (suc i) run, []) (h, tt)
   step-clean tick (started i run subs) c h =
@@ -314,52 +331,10 @@ module _ (g : Shared) (clean : CleanSettings (g .settings)) where
   step-clean (event e) closed c h = (tt, quiet tt)
   step-clean (event e) (opened i run) c h = (h, quiet tt)
   step-clean (event e) (started i run subs) c h =
-      let kind = kind-of e in
-      let n = notice-of g e in
-      still (g .settings) none (dealt (g .settings) i run (only kind (news n)) subs)
-      (only-dealt (g .settings) clean i run kind (news n) subs c (h .0) (h .1))
+      let r = only-dealt (g .settings) clean i run (kind-of e) (news (notice-of g e)) subs c (h .0) (h .1) in (r .0, quiet (r .1))
 
   -- the identifier that bytes make known
-  told-clean : (m : Message) (f : Effect) → CleanMessage m → all is-text (m .data-field) ≡ true → IfAny Identifier (identifier-told m f)
-  told-clean m starts c h = tt
-  told-clean m stops c h = tt
-  told-clean m (identifies n) c h =
-      let room = identifier-length - length (m .data-field) in
-      let short = c .short in
-      let n : length (m .data-field ++ spaces room) ≡ identifier-length =
-      omega (arith, length-append (m .data-field) (spaces room), length-replicate room space) in
-      record {
-        clean = record {
-          no-NUL = nul-append (m .data-field) (spaces room) (nul-text (m .data-field) h) (nul-spaces room);
-          short = omega arith;
-        };
-        whole = n;
-      }
-  told-clean m (subscribes kind n) c h = tt
-  told-clean m (unsubscribes kind n) c h = tt
-  told-clean m (acknowledges kind) c h = tt
-  told-clean m mirrors c h = tt
-
-  heard-clean : (subs : List Subscription) (m : Message) → CleanMessage m → IfAny Identifier (identifier-heard g subs m)
-  unfolding error-of
-  heard-clean subs m c = go (entry-of (m .mid)) (message-error (started-standing g subs) m) refl
-    where
-      go : (o : Option Entry) (e : Option Error) → tested (started-standing g subs) o (m .size) (m .revision) (m .data-field) ≡ e
-          → IfAny Identifier (identifier-judged m o e)
-      go o (some e) q = tt
-      go none none q = tt
-      go (some f) none q =
-          told-clean m (f .effect) c (passed (started-standing g subs) f (m .size) (m .revision) (m .data-field) q .1)
-
   pub announces-clean : (p : Piece) (x : Session) → NoNUL (p .bytes) → CleanSession x → IfAny Identifier (announces g p x)
   announces-clean p closed c h = tt
   announces-clean p (opened i run) c h = tt
-  announces-clean p (started i run subs) c h =
-      let more = longer run (p .bytes) in
-      let kept = length-take run-kept (run .kept ++ p .bytes) in
-      go (p .ends) (read-run more) (clean-end more (clean-longer run (p .bytes) (h .0) c) (omega arith))
-    where
-      go : (b : Bool) (o : Option Message) → IfAny CleanMessage o → IfAny Identifier (cond b (identifier-run g subs o) none)
-      go true none k = tt
-      go true (some m) k = heard-clean subs m k
-      go false o k = tt
+  announces-clean p (started i run subs) c h = longer-clean p i run subs c h .1
