@@ -281,13 +281,15 @@ module _ (g : Shared) (clean : CleanSettings (g .settings)) where
       go false e x k = (tt, quiet tt)
 
   -- the end of a run, and bytes
-  receive-clean : (idle : ℕ) (r : Run) (subs : List Subscription) (b : Bool) → CleanRun r → length (r .kept) ≤ run-kept → Every CleanSub subs
+  receive-clean : (idle : ℕ) (r : Run) (subs : List Subscription) (b : Bool) → CleanRun r → length (r .kept) ≤ run-kept
+      → Every CleanSub subs
       → Goes (g .settings) (cond b (read-run r) none) (receive g idle r subs b)
       × IfAny Identifier (cond b (identifier-run g subs (read-run r)) none)
   receive-clean idle r subs false h n k = (((h, k), quiet tt), tt)
   receive-clean idle r subs true h n k = go (read-run r) (clean-end r h n)
     where
-      go : (o : Option Message) → IfAny CleanMessage o → Goes (g .settings) o (end-run g idle subs o) × IfAny Identifier (identifier-run g subs o)
+      go : (o : Option Message) → IfAny CleanMessage o
+          → Goes (g .settings) o (end-run g idle subs o) × IfAny Identifier (identifier-run g subs o)
       go none c = (((tt, k), quiet tt), tt)
       go (some m) c = hear-clean subs m c k
 
