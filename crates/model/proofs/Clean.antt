@@ -9,16 +9,15 @@ use native.Mathlib.Omega.{arith}
 use lib.Dec.{leb, ltb, eqb}
 use lib.ListN.{length, take, drop, length-take, length-drop}
 use lib.Seq.{take-all, take-take, length-take-le}
-use borrow.Author.Tests.{leb-true, eqb-true, eqb-false, eq-eqb}
+use borrow.Author.Tests.{leb-true, eqb-true, eqb-false, eq-eqb, not-false}
 use Rattle.model.specs.Limits.{header-length, identifier-length, number-greatest, run-kept}
 use Rattle.model.specs.Bytes.{NUL, dash, colon, is-digit, is-text, all, places, decimal}
-use Rattle.model.specs.Tests.{first}
 use Rattle.model.specs.Records.{is-record, payload, Item, number, text, time, item-length, payload-length, parts-from, good-in-time}
 use Rattle.model.specs.Records.{is-time-from, good-item, good-parts, good-payload, good-record, value-of, values-of, values}
 use Rattle.model.specs.Records.{settings-record-kind, tightening-record-kind, scanned-record-kind, settings-items, settings-of}
 use Rattle.model.specs.Records.{read-settings, tightening-items, tightening-of, identifier-in, scanned-items, Tool, scanned}
 use Rattle.model.specs.Records.{tightening, read-tool}
-use Rattle.model.specs.Runs.{Run, longer, Piece, cut, Message, is-message, message-of, read-run}
+use Rattle.model.specs.Runs.{Run, longer, cut, Message, is-message, message-of, read-run}
 use Rattle.model.specs.Messages.{Effect, starts, stops, identifies, subscribes, unsubscribes, acknowledges, mirrors, Entry, table}
 use Rattle.model.specs.Messages.{listed, entry-of, Error, already-started, wrong-length, wrong-revision, wrong-data, own, code}
 use Rattle.model.specs.Messages.{Standing, good-length, good-among, own-test, tested}
@@ -91,16 +90,15 @@ pub clean-start : (slice : List ℕ) → IfAny CleanSettings (read-settings slic
 unfolding read-settings settings-of
 clean-start slice = go (good-record settings-record-kind settings-items slice) refl
   where
-    go : (b : Bool) → good-record settings-record-kind settings-items slice ≡ b
-        → IfAny CleanSettings (cond b (some (settings-of (payload slice))) none)
+    go : (b : Bool) → good-record settings-record-kind settings-items slice ≡ b → IfAny CleanSettings (read-settings slice)
     go true e =
         let v = good-said settings-record-kind settings-items slice refl e in
-        record {
+        rw e record {
           texts = v .0;
           within = v .1;
           last = omega (arith, number-within (suc number-greatest) settings-items (values settings-items (payload slice)) 4 (v .1) refl);
         }
-    go false e = tt
+    go false e = rw e tt
 
 abbrev pub CleanTool : Tool → Type 0
 CleanTool (scanned x) = Identifier x
@@ -113,19 +111,16 @@ clean-tool slice =
     go (good-record tightening-record-kind tightening-items slice) (good-record scanned-record-kind scanned-items slice) refl refl
   where
     go : (a b : Bool) → good-record tightening-record-kind tightening-items slice ≡ a
-        → good-record scanned-record-kind scanned-items slice ≡ b
-        → IfAny CleanTool
-        (cond a (some (tightening (identifier-in (payload slice)) (tightening-of (payload slice))))
-        (cond b (some (scanned (payload slice))) none))
+        → good-record scanned-record-kind scanned-items slice ≡ b → IfAny CleanTool (read-tool slice)
     go true b e f =
         let v = good-said tightening-record-kind tightening-items slice refl e in
         let n = length (identifier-in (payload slice)) in
         let w = both (eqb n identifier-length) (all-within reported-items (tightening-of (payload slice))) (v .1) in
-        (record { clean = v .0 .0; whole = eqb-true n identifier-length (w .0) }, v .0 .1, w .1)
+        rw e (record { clean = v .0 .0; whole = eqb-true n identifier-length (w .0) }, v .0 .1, w .1)
     go false true e f =
         let v = good-said scanned-record-kind scanned-items slice refl f in
-        record { clean = subst Text (take-all identifier-length (payload slice) (omega arith)) (v .0 .0); whole = v .2 }
-    go false false e f = tt
+        rw (e, f) record { clean = subst Text (take-all identifier-length (payload slice) (omega arith)) (v .0 .0); whole = v .2 }
+    go false false e f = rw (e, f) tt
 
 -- ==== runs: a piece of bytes ends before its NUL, and so nothing that is kept has one
 
@@ -134,11 +129,9 @@ unfolding cut
 nul-cut [] = tt
 nul-cut (b ∷ bs) = go (eqb b NUL) refl (nul-cut bs)
   where
-    go : (t : Bool) → eqb b NUL ≡ t → NoNUL ((cut bs) .bytes)
-        → let more : Piece = record { bytes = b ∷ (cut bs) .bytes; ends = (cut bs) .ends } in
-        NoNUL ((cond {A = Piece} t (record { bytes = []; ends = true }) more) .bytes)
-    go true e h = tt
-    go false e h = (eqb-false b NUL e, h)
+    go : (t : Bool) → eqb b NUL ≡ t → NoNUL ((cut bs) .bytes) → NoNUL ((cut (b ∷ bs)) .bytes)
+    go true e h = rw e tt
+    go false e h = rw e (eqb-false b NUL e, h)
 
 abbrev pub CleanRun : Run → Type 0
 CleanRun r = NoNUL (r .kept)
@@ -247,16 +240,13 @@ code-short x mid (some e) q size revision bs =
 -- a message that has no error has a good length, and its data are text
 pub passed : (x : Standing) (e : Entry) (size revision : ℕ) (bs : List ℕ) → tested x (some e) size revision bs ≡ none
     → (good-length e size ≡ true) × (all is-text bs ≡ true)
-passed x e size revision bs =
-    go (x .started && eqb (e .mid) 0001) (good-length e size) (good-among (e .revision) revision) (all is-text bs)
-    (first none (own-test x (e .effect) ∷ []))
+passed x e size revision bs h =
+    let a = past (x .started && eqb (e .mid) 0001) already-started _ h in
+    let b = past (not (good-length e size)) wrong-length _ (a .1) in
+    let c = past (not (good-among (e .revision) revision)) wrong-revision _ (b .1) in
+    let d = past (not (all is-text bs)) wrong-data _ (c .1) in
+    (not-false (good-length e size) (b .0), not-false (all is-text bs) (d .0))
   where
-    go : (a b c d : Bool) (o : Option Error)
-        → cond a (some already-started)
-        (cond (not b) (some wrong-length) (cond (not c) (some wrong-revision) (cond (not d) (some wrong-data) o))) ≡ none
-        → (b ≡ true) × (d ≡ true)
-    go true b c d o h = absurd (there h)
-    go false false c d o h = absurd (there h)
-    go false true false d o h = absurd (there h)
-    go false true true false o h = absurd (there h)
-    go false true true true o h = (refl, refl)
+    past : (b : Bool) (x : Error) (o : Option Error) → cond b (some x) o ≡ none → (b ≡ false) × (o ≡ none)
+    past true x o e = absurd (there e)
+    past false x o e = (refl, e)

@@ -26,7 +26,7 @@ use Rattle.model.specs.Hearing.{message-error, started-standing, opened-
 use Rattle.model.specs.Local.{end-run, end-run-opened, Local, opening, hang-up, receives, tick, event, elsewhere, tick-at, receive}
 use Rattle.model.specs.Local.{receive-opened, step as session-step, takes, identifier-run, announces}
 use Rattle.model.specs.World.{World, uncounted, session-at, Change, no-change, by-event, by-start, Moment, to, opens, hangs-up, hears}
-use Rattle.model.specs.World.{ticks, happens, begins, changed, each, sessions-after, next, emits, after, emitted}
+use Rattle.model.specs.World.{ticks, happens, begins, changed, each, next, emits, after, emitted}
 use Rattle.model.specs.Calls.{Call, start, open-session, hang-up-session, bytes, one-tick, tool, Lent, refusal, at-most-one}
 use Rattle.model.specs.Calls.{happening, moments, output-record, output, takers, taken-by, does, Answer, answered, step, run}
 use Rattle.model.specs.Erased.{erase, erase-sub, erase-session, erase-world, observed}
@@ -225,30 +225,6 @@ takers-erased : (kind s : ℕ) (xs : List Session) → takers kind s (map erase-
 takers-erased kind s [] = refl
 takers-erased kind s (x ∷ xs) = rw (session-kept x .1 kind, takers-erased kind (suc s) xs)
 
--- ==== the world
-
-left-erased : (g : Shared) (c : Change) → unnumbered (changed (unnumbered g) c) ≡ unnumbered (changed g c)
-left-erased g no-change = refl
-left-erased g (by-event e) = refl
-left-erased g (by-start st) = refl
-
-module _ (w : World) where
-  module _ (m : Moment) where
-    each-erased : (s : ℕ) (x : Session) → each (erase-world w) m s (erase-session x) ≡ both (each w m s x)
-    each-erased s x = step-erased (w .shared) (m .sees s) x
-
-    sessions-erased : sessions-after (erase-world w) m ≡ map erase-session (sessions-after w m)
-    sessions-erased = row-map (each w m) (each (erase-world w) m) erase-session erase-emission each-erased 0 (w .sessions)
-
-    emits-erased : emits (erase-world w) m ≡ map (retag erase-emission) (emits w m)
-    emits-erased = said-map (each w m) (each (erase-world w) m) erase-session erase-emission each-erased 0 (w .sessions)
-
-    next-erased : uncounted (next (erase-world w) m) ≡ erase-world (next w m)
-    next-erased = rw (sessions-erased, left-erased (w .shared) (m .leaves))
-
-  session-erased : (s : ℕ) → session-at (erase-world w) s ≡ erase-session (session-at w s)
-  session-erased s = List·getD-map erase-session (w .sessions) s closed
-
 -- ==== the output
 
 record-erased : (s : ℕ) (e : Emission)
@@ -266,6 +242,32 @@ output-append [] ys = refl
 output-append (x ∷ xs) ys =
     ap (output-record x ++_) (output-append xs ys) ∙ sym (append-assoc (output-record x) (output xs) (output ys))
 
+-- ==== the world
+
+left-erased : (g : Shared) (c : Change) → unnumbered (changed (unnumbered g) c) ≡ unnumbered (changed g c)
+left-erased g no-change = refl
+left-erased g (by-event e) = refl
+left-erased g (by-start st) = refl
+
+session-erased : (w : World) (s : ℕ) → session-at (erase-world w) s ≡ erase-session (session-at w s)
+session-erased w s = List·getD-map erase-session (w .sessions) s closed
+
+module _ (w : World) (m : Moment) where
+  each-erased : (s : ℕ) (x : Session) → each (erase-world w) m s (erase-session x) ≡ both (each w m s x)
+  each-erased s x = step-erased (w .shared) (m .sees s) x
+
+  next-erased : uncounted (next (erase-world w) m) ≡ erase-world (next w m)
+  next-erased =
+      rw (
+        row-map (each w m) (each (erase-world w) m) erase-session erase-emission each-erased 0 (w .sessions),
+        left-erased (w .shared) (m .leaves),
+      )
+
+  first-alike : output (emits (erase-world w) m) ≡ output (emits w m)
+  first-alike =
+      ap output (said-map (each w m) (each (erase-world w) m) erase-session erase-emission each-erased 0 (w .sessions))
+      ∙ output-erased (emits w m)
+
 -- ==== calls
 
 -- the moments ms, from w and from w without numbers: the same world but for the count, and the same bytes
@@ -273,9 +275,6 @@ abbrev Alike : World → List Moment → Type 0
 Alike w ms =
     (uncounted (after (erase-world w) ms) ≡ erase-world (after w ms))
     × (output (emitted (erase-world w) ms) ≡ output (emitted w ms))
-
-first-alike : (w : World) (m : Moment) → output (emits (erase-world w) m) ≡ output (emits w m)
-first-alike w m = ap output (emits-erased w m) ∙ output-erased (emits w m)
 
 -- the last moment may be an event; the one before it may not, since it leaves a count
 alike-one : (w : World) (m : Moment) → Alike w (m ∷ [])

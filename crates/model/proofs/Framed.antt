@@ -11,8 +11,8 @@ use lib.ListN.{length, getD, take, length-append, length-replicate}
 use borrow.Author.Tests.{le-leb, leb-true}
 use Rattle.model.specs.Limits.{header-length, identifier-length, number-greatest}
 use Rattle.model.specs.Bytes.{NUL, space, digit-0, digit-1, is-digit, is-text, all, spaces, decimal, digits}
-use Rattle.model.specs.Records.{Value, counted, said, number-at, text-at, Settings}
-use Rattle.model.specs.Layouts.{Sources, settings, source, Row, number, text, blank, known, width-of, characters, label-length, label}
+use Rattle.model.specs.Records.{Value, counted, said, text-in, value-at, number-at, text-at, Settings}
+use Rattle.model.specs.Layouts.{Sources, settings, source, Row, number, text, blank, known, width-of, characters, label-length}
 use Rattle.model.specs.Layouts.{Layout, data-from, data-of, layout-0002, layout-0004, layout-0005}
 use Rattle.model.specs.Layouts.{Layouts, layout-at, layouts-0052, layouts-0061}
 use Rattle.model.specs.Kinds.{kind-at}
@@ -154,11 +154,9 @@ pub record Fits (b : Sources) : Type 0 where
   pub settings : Every Fit (b .settings)
   pub told : Every Fit (b .told)
 
-fit-at : (vs : List Value) (i : ℕ) → Every Fit vs → Text (text-at vs i)
-fit-at [] i h = record { no-NUL = tt; short = omega arith }
-fit-at (counted n ∷ vs) zero h = record { no-NUL = tt; short = omega arith }
-fit-at (said bs ∷ vs) zero h = h .0
-fit-at (v ∷ vs) (suc i) h = fit-at vs i (h .1)
+fit-text : (v : Value) → Fit v → Text (text-in v)
+fit-text (counted n) h = record { no-NUL = tt; short = omega arith }
+fit-text (said bs) h = h
 
 -- ==== layouts of which no field is longer, and which have so few that a frame's length goes into its digits
 
@@ -170,7 +168,9 @@ slim l = leb (length (l .rows)) 300 && all slim-row (l .rows)
 
 module _ (b : Sources) (h : Fits b) where
   fit-source : (from i : ℕ) → Text (text-at (source b from) i)
-  fit-source from i = fit-at (source b from) i (either (Every Fit) (eqb from settings) (b .settings) (b .told) (h .settings) (h .told))
+  fit-source from i =
+      let texts = either (Every Fit) (eqb from settings) (b .settings) (b .told) (h .settings) (h .told) in
+      fit-text (value-at (source b from) i) (every-at Fit (source b from) i (counted 0) tt texts)
 
   nul-characters : (row : Row) → NoNUL (characters b row)
   unfolding characters
@@ -188,9 +188,6 @@ module _ (b : Sources) (h : Fits b) where
   length-characters (known width n) e = omega (arith, length-digits width n, leb-true width identifier-length e)
 
   module _ (numbered : Bool) where
-    label-few : label-length numbered ≤ 2
-    label-few = either (λ (n : ℕ). n ≤ 2) numbered 2 0 (omega arith) (omega arith)
-
     nul-data : (i : ℕ) (rows : List Row) → NoNUL (data-from numbered i rows b)
     unfolding data-from
     nul-data i [] = tt
@@ -204,14 +201,8 @@ module _ (b : Sources) (h : Fits b) where
     length-data i (row ∷ rows) e =
         let t = and-eq-true-iff (slim-row row) (all slim-row rows) .0 e in
         let ih = length-data (suc i) rows (t .1) in
-        let few = label-few in
-        omega (
-          arith,
-          length-digits (label-length numbered) i,
-          length-characters row (t .0),
-          length-append (label numbered i ++ characters b row) (data-from numbered (suc i) rows b),
-          length-append (label numbered i) (characters b row),
-        )
+        let few = either (λ (n : ℕ). n ≤ 2) numbered 2 0 (omega arith) (omega arith) in
+        simp length-append (omega (arith, length-digits (label-length numbered) i, length-characters row (t .0)))
 
   framed-layout : (mid revision byte-12 : ℕ) (l : Layout) → Shown byte-12 → slim l ≡ true
       → Framed (frame mid revision byte-12 (data-of l b))
