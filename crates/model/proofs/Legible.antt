@@ -1,18 +1,16 @@
--- What a reader gets out of the frames that we write: a payload that is good says only values that are within its items, and rows that have
--- room for whatever the items say are legible. So the data of our frames reads back as the values that they were made of.
-use Prim.Native.Nat.{ℕ, zero, suc, _+_, _≤_, _<_, _^_}
+-- What a reader gets out of the frames that we write: rows that have room for whatever the items say are legible, whatever values within
+-- the items there are. So the data of our frames reads back as the values that they were made of.
+use Prim.Native.Nat.{ℕ, zero, suc, _≤_, _<_, _^_}
 use mathlib.Core.Path.{_≡_, refl, sym, ap, _∙_}
 use mathlib.Core.Bool.{Bool, true, false, cond, and-eq-true-iff, true≢false}
 use mathlib.Core.List.{List, [], _∷_, _++_, append-nil}
 use native.Mathlib.Omega.{arith}
 use lib.Dec.{leb, eqb}
-use lib.ListN.{length, take, drop, length-take, length-drop}
+use lib.ListN.{length, drop}
 use borrow.Author.Tests.{leb-true, ltb-true, eqb-true, le-leb, lt-ltb, eq-eqb}
 use Rattle.model.specs.Limits.{header-length, identifier-length, number-length, number-greatest}
 use Rattle.model.specs.Bytes.{space, digit-0, digit-1, all, digits}
-use Rattle.model.specs.Records.{Item, number as number-item, text as text-item, time, item-length, payload-length}
-use Rattle.model.specs.Records.{parts-from, parts, good-item, good-parts, good-payload}
-use Rattle.model.specs.Records.{Value, counted, said, value-of, values-of, values, number-at, text-at}
+use Rattle.model.specs.Records.{Item, number as number-item, text as text-item, time, Value, counted, said, number-at, text-at}
 use Rattle.model.specs.Records.{Settings, settings-items, tightening-items, result-items, scanned-items}
 use Rattle.model.specs.Layouts.{Sources, settings, source, Row, number, text, blank, known, Layout, data-of}
 use Rattle.model.specs.Layouts.{layout-0002, layout-0004, layout-0005, layouts-0052, layouts-0061}
@@ -24,30 +22,6 @@ use Rattle.model.specs.FieldsRead.{layout-for, ReadsBack, is-within, all
 use Rattle.model.specs.Wire.{Every}
 use Rattle.model.proofs.Framed.{both, every-append, at-every, Fit, Identifier, CleanSettings, CleanEvent}
 use Rattle.model.proofs.ReadBack.{read-back}
-
--- ==== a good payload says values that are within its items
-
-value-within : (e : Item) (bs : List ℕ) → good-item e bs ≡ true → length bs ≡ item-length e → is-within e (value-of e bs) ≡ true
-value-within (number-item size greatest) bs good n = good
-value-within (text-item size) bs good n = eq-eqb (length bs) size n
-value-within time bs good n = eq-eqb (length bs) _ n
-
-parts-within : (es : List Item) (at : ℕ) (bs : List ℕ) → good-parts es (parts-from at es bs) ≡ true
-    → at + payload-length es ≤ length bs → all-within es (values-of es (parts-from at es bs)) ≡ true
-parts-within [] at bs good n = refl
-parts-within (e ∷ es) at bs good n =
-    let p = take (item-length e) (drop at bs) in
-    let g = both (good-item e p) (good-parts es (parts-from (at + item-length e) es bs)) good in
-    and-eq-true-iff (is-within e (value-of e p)) (all-within es (values-of es (parts-from (at + item-length e) es bs))) .1 (
-      value-within e p (g .0) (omega (arith, length-take (item-length e) (drop at bs), length-drop at bs)),
-      parts-within es (at + item-length e) bs (g .1) (omega arith),
-    )
-
-pub payload-within : (es : List Item) (bs : List ℕ) → good-payload es bs ≡ true → all-within es (values es bs) ≡ true
-unfolding good-payload
-payload-within es bs good =
-    let g = both (eqb (length bs) (payload-length es)) (good-parts es (parts es bs)) good in
-    parts-within es 0 bs (g .1) (omega (arith, eqb-true (length bs) (payload-length es) (g .0)))
 
 -- ==== rows that fit the items are legible, whatever values within them the sources have
 
@@ -162,6 +136,7 @@ identified-clean x h = record {
   texts = (h .clean, tt);
   within = rw (eq-eqb (length x) identifier-length (h .whole));
   last = λ n k. k;
+  in-force = λ y k. h;
 }
 
 all-within-append : (es : List Item) (vs : List Value) (fs : List Item) (ws : List Value) → all-within es vs ≡ true
@@ -187,4 +162,5 @@ tightened-clean r h k w n =
             all-within-append reported-items (r .tightening) number-items numbers w (rw (le-leb (r .number) number-greatest n)),
           );
       last = λ m l. n;
+      in-force = λ y l. l;
     }
