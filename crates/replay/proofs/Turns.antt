@@ -1,18 +1,18 @@
 -- What the program does with a record: the call that it stands for, and that received bytes are used up.
-use mathlib.Core.Path.{_≡_, refl, sym, ap, subst, _∙_}
-use Prim.Native.Nat.{ℕ, zero, suc, _+_, _-_, _≤_, _<_}
+use mathlib.Core.Path.{_≡_, refl, sym, ap, _∙_}
+use Prim.Native.Nat.{ℕ, zero, suc, _+_, _≤_, _<_}
 use native.Mathlib.Omega.{arith}
 use mathlib.Core.Bool.{Bool, true, false, not, cond, _&&_, and-eq-true-iff}
 use mathlib.Core.List.{List, [], _∷_}
 use lib.Dec.{leb, eqb}
 use lib.ListN.{length, drop, length-drop}
 use lib.Seq.{sets, length-sets}
-use borrow.Author.Tests.{eq-eqb, ne-eqb, eqb-true, eqb-false, leb-true, not-true}
+use borrow.Author.Tests.{eq-eqb, eqb-true, eqb-false, leb-true, not-true}
 use Rattle.model.specs.Bytes.{within}
 use Rattle.model.specs.Runs.{cut, consumed-by}
 use Rattle.model.specs.World.{World}
-use Rattle.model.specs.Calls.{Call, start, open-session, hang-up-session, bytes, one-tick, tool, does, answered, output, refusal, step}
-use Rattle.model.specs.Program.{open-record-kind, hang-up-record-kind, bytes-record-kind, tick-record-kind, session-greatest}
+use Rattle.model.specs.Calls.{Call, start, bytes, does, answered, output, refusal, step}
+use Rattle.model.specs.Program.{session-greatest}
 use Rattle.model.specs.Program.{call-of, is-of}
 use Rattle.model.specs.Records.{settings-record-kind}
 use Rattle.model.proofs.Cuts.{consumes}
@@ -28,34 +28,6 @@ use Rattle.replay.specs.States.{Fits}
 pub at-least : (least n : ℕ) → is-of least n ≡ true → least ≤ n
 at-least least n e = leb-true least n (and-eq-true-iff (leb least n) (leb n (least + session-greatest)) .0 e .0)
 
-module _ (record-kind : ℕ) (slice : List ℕ) where
-  start-call : record-kind ≡ settings-record-kind → start slice ≡ call-of record-kind slice
-  start-call e = rw (eq-eqb record-kind settings-record-kind e)
-
-  pub open-call : (record-kind ≡ settings-record-kind → ⊥) → is-of open-record-kind record-kind ≡ true
-      → open-session (record-kind - open-record-kind) ≡ call-of record-kind slice
-  open-call h e = rw (ne-eqb record-kind settings-record-kind h, e)
-
-  pub hang-up-call : (record-kind ≡ settings-record-kind → ⊥) → is-of open-record-kind record-kind ≡ false
-      → is-of hang-up-record-kind record-kind ≡ true
-      → hang-up-session (record-kind - hang-up-record-kind) ≡ call-of record-kind slice
-  hang-up-call h e f = rw (ne-eqb record-kind settings-record-kind h, e, f)
-
-  pub tick-call : (record-kind ≡ settings-record-kind → ⊥) → is-of open-record-kind record-kind ≡ false
-      → is-of hang-up-record-kind record-kind ≡ false
-      → is-of bytes-record-kind record-kind ≡ false → record-kind ≡ tick-record-kind
-      → one-tick ≡ call-of record-kind slice
-  tick-call h e f g k = rw (ne-eqb record-kind settings-record-kind h, e, f, g, eq-eqb record-kind tick-record-kind k)
-
-  pub tool-call : (record-kind ≡ settings-record-kind → ⊥) → is-of open-record-kind record-kind ≡ false
-      → is-of hang-up-record-kind record-kind ≡ false
-      → is-of bytes-record-kind record-kind ≡ false → (record-kind ≡ tick-record-kind → ⊥)
-      → tool slice ≡ call-of record-kind slice
-  tool-call h e f g k = rw (ne-eqb record-kind settings-record-kind h, e, f, g, ne-eqb record-kind tick-record-kind k)
-
-pub as-call : {c d : Call} {t o : List ℕ} {r : Answer} {t′ o′ : List ℕ} → c ≡ d → Outcome c t o r t′ o′ → Outcome d t o r t′ o′
-as-call {t = t} {o = o} {r = r} {t′ = t′} {o′ = o′} e out = subst (λ (x : Call). Outcome x t o r t′ o′) e out
-
 -- a start is lent no output, and would leave any as it was
 nothing : (l : List ℕ) → length l ≡ 0 → [] ≡ l
 nothing [] e = refl
@@ -69,7 +41,7 @@ started {t = t} {o = o} {r = r} record-kind slice e out =
     let n = so-long out in
     let h = stands out .within in
     let z : length (output ((said (start slice) t []) .2)) ≡ 0 = omega arith in
-    as-call (start-call record-kind slice e) (record {
+    rw (eq-eqb record-kind settings-record-kind e) (record {
       answer = out .answer;
       meaning = out .meaning;
       output = ap (sets o 0) (nothing (output ((said (start slice) t []) .2)) z);
