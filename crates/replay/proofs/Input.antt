@@ -3,7 +3,7 @@ use mathlib.Core.Path.{_≡_, refl, sym, ap, ap₂, _∙_}
 use Prim.Native.Nat.{ℕ, zero, suc, _+_, _-_, _≤_, _<_}
 use native.Mathlib.Nat.{zero-add}
 use native.Mathlib.Omega.{arith}
-use mathlib.Core.Bool.{Bool, true, false, cond, _&&_}
+use mathlib.Core.Bool.{Bool, true, false, cond, _&&_, and-eq-true-iff}
 use mathlib.Core.List.{List, [], _∷_, _++_, append-assoc, append-nil, flatten}
 use lib.Dec.{leb}
 use lib.ListN.{length, take, drop, replicate, length-append, length-drop}
@@ -31,21 +31,20 @@ record Is-whole (bs : List ℕ) : Type 0 where
 
 is-whole : (bs : List ℕ) → 0 < whole-size bs → Is-whole bs
 unfolding whole-size
-is-whole bs h = go (leb record-head (length bs)) (leb n payload-longest) (leb (record-head + n) (length bs)) refl refl refl h
+is-whole bs h = go (few && leb (record-head + n) (length bs)) refl h
   where
     n : ℕ
     n = little (places 1 2 bs)
 
-    go : (a b c : Bool) → leb record-head (length bs) ≡ a → leb n payload-longest ≡ b → leb (record-head + n) (length bs) ≡ c
-        → 0 < cond (a && b && c) (record-head + n) 0 → Is-whole bs
-    go true true true p q r z = record {
-      size = rw (p, q, r);
-      short = leb-true _ _ q;
-      fits = leb-true _ _ r;
-    }
-    go true true false p q r z = absurd (omega arith)
-    go true false c p q r z = absurd (omega arith)
-    go false b c p q r z = absurd (omega arith)
+    few : Bool
+    few = leb record-head (length bs) && leb n payload-longest
+
+    go : (t : Bool) → (few && leb (record-head + n) (length bs)) ≡ t → 0 < cond t (record-head + n) 0 → Is-whole bs
+    go true q z =
+        let b = and-eq-true-iff few (leb (record-head + n) (length bs)) .0 q in
+        let k = and-eq-true-iff (leb record-head (length bs)) (leb n payload-longest) .0 (b .0) in
+        record { size = rw q; short = leb-true _ _ (k .1); fits = leb-true _ _ (b .1) }
+    go false q z = absurd (omega arith)
 
 size-append : (xs ys : List ℕ) → 0 < whole-size xs → whole-size (xs ++ ys) ≡ whole-size xs
 size-append xs ys h =
