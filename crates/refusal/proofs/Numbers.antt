@@ -95,12 +95,12 @@ bad-settings true slice e = rw (sym e)
 bad-settings false slice e = rw (sym e)
 
 -- a tool record of that kind
-pub tool-refused : (t : List ℕ) (n : ℕ) (record-kind : RecordKind) (slice : List ℕ) → tool-in record-kind slice ≡ read-tool slice
-    → tool-number t n record-kind ≡ number t n (tool slice)
+pub tool-refused : {r : ℕ} (t : List ℕ) (n : ℕ) (record-kind : RecordKind) (slice : List ℕ) → r ≡ tool-number t n record-kind
+    → tool-in record-kind slice ≡ read-tool slice → r ≡ number t n (tool slice)
 unfolding refusal tool-number
-tool-refused t n Bad slice e = rw (sym e)
-tool-refused t n Tightening slice e = rw (sym e)
-tool-refused t n Scanned slice e = rw (sym e)
+tool-refused t n Bad slice q e = rw (sym e) q
+tool-refused t n Tightening slice q e = rw (sym e) q
+tool-refused t n Scanned slice q e = rw (sym e) q
 
 module _ (t : List ℕ) {record-kind : RecordKind} where
   pub a-bad-one : record-kind ≡ Bad → 7 ≡ first 0 (tool-own t record-kind)
@@ -116,9 +116,9 @@ module _ (t : List ℕ) {record-kind : RecordKind} where
   one-more e h = ap (λ (b : Bool). cond b 8 0) (sym (ne-eqb _ _ h)) ∙ ap (λ (k : RecordKind). first 0 (tool-own t k)) (sym e)
 
 -- received bytes are refused as a hang-up is
-pub bytes-refused : (t : List ℕ) (n s : ℕ) (bs : List ℕ) → number t n (hang-up-session s) ≡ number t n (bytes s bs)
+pub bytes-refused : {r : ℕ} (t : List ℕ) (n s : ℕ) (bs : List ℕ) → r ≡ number t n (hang-up-session s) → r ≡ number t n (bytes s bs)
 unfolding refusal
-bytes-refused t n s bs = refl
+bytes-refused t n s bs e = e
 
 -- ==== what is known of a call that is not refused
 
