@@ -32,8 +32,8 @@ use Rattle.history.specs.Demand.{FewFrames, NoStart}
 use Rattle.history.proofs.Subscriptions.{view}
 use Rattle.history.proofs.Sessions.{sub-at, newest}
 use Rattle.history.proofs.Calls.{sub-of}
-use Rattle.history.proofs.Sendings.{Sent, sent-turn}
-use Rattle.history.proofs.Turns.{goes, Agrees, moves, agrees-on, agrees-begun, course-of}
+use Rattle.history.proofs.Sendings.{Sent}
+use Rattle.history.proofs.Turns.{goes, Agrees, moves, agrees-on, agrees-begun, course-of, sent-turn}
 
 -- ==== of every kind, added up
 
@@ -162,7 +162,7 @@ module _ (st : Settings) (s : ℕ) (h : s < session-count) where
       let r = call-step (c .0) w (c .1) in
       subst (λ (x : Turn). frames s (x ∷ during) ≤ messages s past (x ∷ during) + sent past (x ∷ during)) (ap (head y) e)
       (more-frames past (turn (c .1) r) during
-      (few-in (is-some (message s past (turn (c .1) r))) (pick s (r .2)) (sent-turn w past a s h (c .0) (c .1) (ns .0)))
+      (few-in (is-some (message s past (turn (c .1) r))) (pick s (r .2)) (sent-turn st w past (c .0) (c .1) a s h (ns .0)))
       (frames-in-prefix during later cs (r .0) (turn (c .1) r ∷ past) (agrees-on st (moves st w past (c .0) (c .1) a (ns .0))) (ns .1)
       (ap tail e)))
 

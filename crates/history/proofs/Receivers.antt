@@ -1,6 +1,6 @@
 -- TWO RECEIVERS, one of which cuts the bytes that a session is sent at each NUL while the other counts them off by their lengths, see the
 -- same frames: those that the product wrote.
-use Prim.Native.Nat.{ℕ, zero, suc, _+_, _≤_, _<_}
+use Prim.Native.Nat.{ℕ, zero, suc, _≤_, _<_}
 use mathlib.Core.Path.{_≡_, refl, sym, _∙_, ap, ap₂}
 use mathlib.Core.Bool.{Bool, true, false, cond, true≢false}
 use mathlib.Core.List.{List, [], _∷_, _++_, map, append-nil, append-assoc}

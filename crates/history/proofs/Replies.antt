@@ -23,8 +23,8 @@ use Rattle.watch.specs.Marks.{Seen, Mark, all-sent, or-later, frame-of, Every}
 use Rattle.history.specs.Turns.{Turn, turn, turns, mid-of, frames-in}
 use Rattle.history.specs.Past.{message, is-some, Wish, wish, event as event-of, shared, frame-for}
 use Rattle.history.specs.Demand.{NoNotice, of-number, ToldApart, copies-in, seen, seen-in, mark, marks, NoStart}
-use Rattle.history.proofs.Turns.{Agrees, moves, agrees-on, agrees-begun, demand-3-of-runs}
-use Rattle.history.proofs.Sendings.{Sent, sent-turn}
+use Rattle.history.proofs.Turns.{Agrees, moves, agrees-on, agrees-begun, demand-3-of-runs, sent-turn}
+use Rattle.history.proofs.Sendings.{Sent}
 
 -- ==== no reply has a kind's number, and every copy is of a kind
 
@@ -83,7 +83,7 @@ quiet-turns : (st : Settings) (s : ℕ) → s < session-count → (w : World) (p
 quiet-turns st s h w past [] a ns = tt
 quiet-turns st s h w past (c ∷ cs) a ns =
     let r = call-step (c .0) w (c .1) in (
-      quiet-sent (is-some (message s past (turn (c .1) r))) (pick s (r .2)) (sent-turn w past a s h (c .0) (c .1) (ns .0)),
+      quiet-sent (is-some (message s past (turn (c .1) r))) (pick s (r .2)) (sent-turn st w past (c .0) (c .1) a s h (ns .0)),
       quiet-turns st s h (r .0) (turn (c .1) r ∷ past) cs (agrees-on st (moves st w past (c .0) (c .1) a (ns .0))) (ns .1),
     )
 

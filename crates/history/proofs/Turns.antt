@@ -3,7 +3,7 @@
 use Prim.Native.Nat.{ℕ, zero, suc, _<_}
 use mathlib.Core.Path.{_≡_, refl, sym, _∙_, ap, ap₂, subst}
 use mathlib.Core.Bool.{Bool, true, false, cond, _&&_}
-use mathlib.Core.List.{List, [], _∷_, _++_, append-nil}
+use mathlib.Core.List.{List, [], _∷_, _++_}
 use mathlib.Core.Option.{Option, none, some, Option·map as option-map}
 use native.Mathlib.Omega.{arith}
 use lib.Dec.{eqb, eqb·suc-zero}
@@ -30,13 +30,14 @@ use Rattle.watch.specs.Marks.{Demand3, InTime}
 use Rattle.watch.specs.Course.{PendingSeen, empty as none-waits, Course, end, call}
 use Rattle.watch.proofs.Theorem.{demand-3, goes-out-in-time}
 use Rattle.history.specs.Turns.{Turn, turn, turns, is-start}
-use Rattle.history.specs.Past.{run-with, run, ended, wish, is-some, identifier-event, spoken, event, shared, of-kind, takes-it}
+use Rattle.history.specs.Past.{run-with, run, ended, message, wish, is-some, identifier-event, spoken, event, shared, of-kind, takes-it}
 use Rattle.history.specs.Demand.{seen-in, marks, NoStart}
 use Rattle.history.proofs.Subscriptions.{wish-in, view}
-use Rattle.history.proofs.Signals.{Signals, signals, silence, silent-after}
+use Rattle.history.proofs.Signals.{Signals, signals, silent-after}
+use Rattle.history.proofs.Sendings.{Sent, sent-append}
 use Rattle.history.proofs.Sessions.{closing, Like, sub-at, newest, StepAsRead, elsewhere-steps, tells-of, sees-steps, told-steps}
-use Rattle.history.proofs.Sessions.{event-silent}
-use Rattle.history.proofs.Calls.{session-read, sub-of, like-wish, Moves, Beside, quiet-moves, event-moves}
+use Rattle.history.proofs.Sessions.{then-steps}
+use Rattle.history.proofs.Calls.{session-read, sub-of, like-wish, Moves, Beside, moves-by}
 
 -- ==== what a session does not see, and what it hears
 
@@ -72,10 +73,6 @@ at-kind f h kind j e = go (eqb kind j) refl
     go : (b : Bool) → eqb kind j ≡ b → (b && f kind) ≡ (b && h kind)
     go true q = rw (eqb-true kind j q) e
     go false q = refl
-
-told-silent : (g : Shared) (o : Option Event) (x : Session) → signals ((told g o x) .1) ≡ silence
-told-silent g none x = refl
-told-silent g (some e) x = event-silent g e x
 
 -- ==== a call that is done, and no start
 
@@ -134,7 +131,8 @@ module _ (w : World) (past : List Turn) (size : length (w .sessions) ≡ session
       let a = announces g p (session-at w t) in
       let o = (does w c) .event in
       let shows : signals (pick t (x .out)) ≡ signals ((y t) .1) =
-      ap signals (goes t inside .1) ∙ silent-after ((y t) .1) ((told g o ((y t) .0)) .1) (told-silent g o ((y t) .0)) in
+      ap signals (goes t inside .1)
+      ∙ silent-after ((y t) .1) ((told g o ((y t) .0)) .1) (then-steps o (call-steps t inside) .silent) in
       ap₂ (λ (b : Bool) (q : Option Piece). cond b (identifier-event (ended (run t past) q)) none)
       (ap (λ (sg : Signals). sg .accepts (λ m. m .identifies)) shows ∙ (call-steps t inside) .tells
       ∙ ap (λ (q : Option Piece). tells-of g (session-read t past) q (session-at w t)) given) given
@@ -221,20 +219,16 @@ module _ (w : World) (past : List Turn) (size : length (w .sessions) ≡ session
   w′ = after w (moments w c)
 
   done-moves : Moves (g .settings) g w past x w′
-  done-moves = go ((does w c) .event) refl
-    where
-      size′ : length (w′ .sessions) ≡ session-count
-      size′ = after-length w moment ((does w c) .event) ∙ size
+  done-moves =
+      moves-by w past like x w′ (after-length w moment ((does w c) .event) ∙ size) y tells call-steps ((does w c) .event) event-is leaves goes
+      beside
 
-      go : (o : Option Event) → (does w c) .event ≡ o → Moves (g .settings) g w past x w′
-      go none is =
-          quiet-moves w past like x w′ size′ y tells call-steps (event-is ∙ is) (leaves ∙ ap (shared-with g) is)
-          (λ s h. goes s h .0 ∙ ap (λ (o : Option Event). (told g o ((y s) .0)) .0) is)
-          (λ s h. goes s h .1 ∙ ap (λ (o : Option Event). (y s) .1 ++ (told g o ((y s) .0)) .1) is ∙ append-nil ((y s) .1))
-      go (some e) is =
-          event-moves w past like x w′ size′ y tells call-steps e (event-is ∙ is) (leaves ∙ ap (shared-with g) is)
-          (λ s h. goes s h .0 ∙ ap (λ (o : Option Event). (told g o ((y s) .0)) .0) is)
-          (λ s h. goes s h .1 ∙ ap (λ (o : Option Event). (y s) .1 ++ (told g o ((y s) .0)) .1) is) (beside e is)
+  done-sent : (s : ℕ) → s < session-count → Sent (is-some (message s past x)) (pick s (x .out))
+  done-sent s h =
+      let o = (does w c) .event in
+      rw (goes s h .1)
+      (sent-append (is-some (message s past x)) ((y s) .1) ((told g o ((y s) .0)) .1) ((call-steps s h) .sent)
+      (then-steps o (call-steps s h) .sent))
 
 -- ==== any call but a start that is done
 
@@ -258,9 +252,9 @@ module _ (st : Settings) (w : World) (past : List Turn) (l : Lent) (c : Call) (a
 
   refused-moves : (n : ℕ) → Moves (here .settings) here w past (turn c (answered w c (suc n))) w
   refused-moves n =
-      quiet-moves w past (a .like) (turn c (answered w c (suc n))) w (a .size) (λ s. (session-at w s, [])) (λ s. false)
-      (λ s h. rw (eqb·suc-zero n) (elsewhere-steps here (session-read s past) (session-at w s) (a .like s h))) (rw (eqb·suc-zero n)) refl
-      (λ s h. refl) (λ s h. refl)
+      moves-by w past (a .like) (turn c (answered w c (suc n))) w (a .size) (λ s. (session-at w s, [])) (λ s. false)
+      (λ s h. rw (eqb·suc-zero n) (elsewhere-steps here (session-read s past) (session-at w s) (a .like s h))) none (rw (eqb·suc-zero n))
+      refl (λ s h. (refl, refl)) (λ e q. absurd (there (sym q)))
 
   call-moves : is-start (turn c (step l w c)) ≡ false → Moves (here .settings) here w past (turn c (step l w c)) ((step l w c) .0)
   unfolding step
@@ -275,6 +269,17 @@ module _ (st : Settings) (w : World) (past : List Turn) (l : Lent) (c : Call) (a
   moves ns =
       subst (λ (v : Settings). Moves v (shared st past) w past (turn c (step l w c)) ((step l w c) .0)) (settings-stay st past)
       (subst (λ (v : Shared). Moves (v .settings) v w past (turn c (step l w c)) ((step l w c) .0)) (a .sharing) (call-moves ns))
+
+  -- what goes out to session s
+  pub sent-turn : (s : ℕ) → s < session-count → is-start (turn c (step l w c)) ≡ false
+      → Sent (is-some (message s past (turn c (step l w c)))) (pick s ((step l w c) .2))
+  unfolding step
+  sent-turn s h ns = go (refusal l w c) refl ns
+    where
+      go : (n : ℕ) → refusal l w c ≡ n → is-start (turn c (answered w c n)) ≡ false
+          → Sent (is-some (message s past (turn c (answered w c n)))) (pick s ((answered w c n) .2))
+      go (suc n) e f = tt
+      go zero e f = done-sent w past (a .size) (a .like) l c e f s h
 
 -- ==== whole histories
 

@@ -1,6 +1,6 @@
 -- One call of the program's: what it leaves of the table means the state that the model's program goes on to, and its lines are that
 -- one's new lines.
-use mathlib.Core.Path.{_≡_, refl, sym, ap, ap₂, subst, _∙_}
+use mathlib.Core.Path.{_≡_, refl, sym, ap, _∙_}
 use Prim.Native.Nat.{ℕ, zero, suc}
 use native.Mathlib.Omega.{arith}
 use mathlib.Core.Bool.{Bool, true, false, cond, _||_}
@@ -28,7 +28,7 @@ use Rattle.controller.specs.Contract.{Said, said, model-answer, Outcome}
 use Rattle.controller.proofs.Calls.{start-silent}
 use Rattle.controller.proofs.Outputs.{Below, stands, step-below, step-many}
 use Rattle.controller.proofs.Traces.{table-left}
-use Rattle.controller.proofs.Modelled.{lending, one-call}
+use Rattle.controller.proofs.Modelled.{one-call}
 use Rattle.replay.specs.Lines.{text-of}
 use Rattle.replay.specs.States.{Means, Behind, Follows}
 use Rattle.replay.proofs.Told.{told-as}
@@ -96,15 +96,13 @@ module _ {c : Call} {t o : List ℕ} {r : Answer} {t′ o′ : List ℕ} (out : 
   as-formed : table-formed t ≡ true → decode t ≡ erase-world w → As c true (step (with-formed true) w c) r t′ o′
   as-formed f e =
       let h : Table t = record { size = omega arith; formed = f } in
-      let k = one-call w h e out in
-      let same : step (lending (length t) (length o)) w c ≡ step (with-formed true) w c =
-      ap₂ (λ (m n : ℕ). step (lending m n) w c) size room in
+      let k = rw (size, room) at (one-call w h e out) in
       record {
-        answer = k .answer ∙ ap (λ (x : Said). x .1) same;
-        bytes = k .bytes ∙ ap (λ (x : Said). output (x .2)) same;
+        answer = k .answer;
+        bytes = k .bytes;
         below = step-below session-count (with-formed true) w c many;
         formed = table-left h out .formed;
-        world = λ z. k .world ∙ ap (λ (x : Said). erase-world (x .0)) same;
+        world = λ z. k .world;
       }
 
   formed-after : (k : ℕ) → r .number ≡ k → table-formed t ≡ false → table-formed t′ ≡ eqb k 0
@@ -118,14 +116,13 @@ module _ {c : Call} {t o : List ℕ} {r : Answer} {t′ o′ : List ℕ} (out : 
       let g = regardless (decode t) w (so-many-sessions t) many c in
       let lends : numbers.lent t (length o) ≡ with-formed false = λ i. record { table = size i; well-formed = f i; output = room i } in
       let same : said c t o ≡ step (with-formed false) (decode t) c = ap (λ (l : Lent). step l (decode t) c) lends in
-      let answer : model-answer r ≡ q .1 = ap model-answer (out .answer) ∙ ap (λ (x : Said). x .1) same ∙ g .answer in
+      let answer : model-answer r ≡ q .1 = rw (out .answer, same) (g .answer) in
       record {
         answer = answer;
-        bytes = stands out .records ∙ ap (λ (x : Said). output (x .2)) same ∙ ap output (g .silent .0 ∙ sym (g .silent .1));
-        below = subst (Below session-count) (sym (g .silent .1)) tt;
+        bytes = stands out .records ∙ cc;
+        below = rw (g .silent .1) tt;
         formed = formed-after (q .1 .number) (ap (λ (a : model.Answer). a .number) answer) f;
-        world = λ z.
-            out .meaning ∙ ap (λ (x : Said). uncounted (x .0)) same ∙ g .world (eqb-true (q .1 .number) 0 z);
+        world = λ z. out .meaning ∙ rw same (g .world (eqb-true (q .1 .number) 0 z));
       }
 
   as-called : (b : Bool) → table-formed t ≡ b → (b ≡ true → decode t ≡ erase-world w) → As c b (step (with-formed b) w c) r t′ o′
@@ -159,8 +156,7 @@ module _ {c : Call} {t o : List ℕ} {r : Answer} {t′ o′ : List ℕ} (out : 
       lines = λ x m.
           let k = as-state x m in
           let q = step (lent x) (x .world) c in
-          printed-append (x .lines) (lines-of (q .1) (q .2))
-          ∙ ap (λ (l : List ℕ). printed (x .lines) ++ l) (sym (told-as q r o′ (k .answer) (k .bytes) (out .fits) (k .below)));
+          rw (told-as q r o′ (k .answer) (k .bytes) (out .fits) (k .below)) (printed-append (x .lines) (lines-of (q .1) (q .2)));
     };
     behind = b;
   }

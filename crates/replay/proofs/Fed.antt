@@ -2,11 +2,11 @@
 use mathlib.Core.Path.{_≡_, refl, sym, ap, _∙_}
 use Prim.Native.Nat.{ℕ, zero, suc, _<_}
 use native.Mathlib.Omega.{arith}
-use mathlib.Core.Bool.{Bool, true, false, not, cond, _&&_, and-eq-true-iff}
+use mathlib.Core.Bool.{Bool, true, false, not, cond, _&&_}
 use mathlib.Core.List.{List}
 use lib.Dec.{ltb, eqb}
 use lib.ListN.{length, drop}
-use borrow.Author.Tests.{eq-eqb, ne-eqb, eqb-true, ltb-true, ltb-false}
+use borrow.Author.Tests.{eq-eqb, ne-eqb, ltb-true, ltb-false}
 use Rattle.model.specs.Limits.{table-least, output-least}
 use Rattle.model.specs.Calls.{bytes, step}
 use Rattle.model.specs.Calls as model
@@ -68,21 +68,13 @@ feeding-on {s} {room} {bs} {t} {waited} {t′} {waits} {left} {o} {t₁} {o₁} 
     go (suc m) h k = record {
       more = m;
       enough = λ z.
-          let p = and-eq-true-iff (eqb (r .number) 0) (not (eqb (length rest) 0)) .0 (sym g ∙ z) in
-          let some : 0 < length rest = over (length rest) (p .1) in
-          let n : length rest ≡ length (drop (r .consumed) left) = ap length d in
-          let less = used-up left out (eqb-true (r .number) 0 (p .0)) (omega arith) in
-          omega arith;
+          omega (arith, used-up left d out (sym g ∙ z));
       so-far = λ x. called (f .so-far x) (bytes s left);
       follows = follows-then (f .follows) (called-follows out size lends b);
       rest = λ x means.
           let answer = called-answer out size lends (f .so-far x) (f .follows .leads .state x means) in
           sym (fed-next m s (f .so-far x) left rest (model-answer r) on (sym answer) d g) ∙ k x means;
     }
-      where
-        over : (n : ℕ) → not (eqb n 0) ≡ true → 0 < n
-        over zero q = let z : _≡_ {A = ℕ} 0 1 = cc in omega arith
-        over (suc n) q = omega arith
 
 pub feeding-ends : {s room : ℕ} {bs t waited t′ waits left : List ℕ} {going : Bool}
     → Feeding s bs room t waited t′ waits left going → going ≡ false

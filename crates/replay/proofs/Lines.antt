@@ -3,7 +3,7 @@ use mathlib.Core.Path.{_≡_, refl, sym, ap, _∙_}
 use Prim.Native.Nat.{ℕ, suc, _+_, _-_, _≤_, _<_}
 use native.Mathlib.Omega.{arith}
 use mathlib.Core.Bool.{Bool, true, false, cond}
-use mathlib.Core.List.{List, [], _∷_, _++_, map, append-assoc}
+use mathlib.Core.List.{List, [], _∷_, _++_, append-assoc}
 use lib.Dec.{eqb}
 use lib.ListN.{length, getD, take, drop, length-append, length-drop}
 use lib.Seq.{length-take-le}
@@ -61,8 +61,7 @@ pub lines-next : (bs : List ℕ) (size : ℕ) → size ≡ whole-size bs → 0 <
     → printed (lines-in bs) ≡ (line-in (take size bs) ++ 0x0A ∷ []) ++ printed (lines-in (drop size bs))
 unfolding lines-in
 lines-next bs size e h =
-    ap (λ (ss : List (List ℕ)). printed (map line-in ss)) (slices-first bs size e h)
-    ∙ sym (append-assoc (line-in (take size bs)) (0x0A ∷ []) (printed (lines-in (drop size bs))))
+    rw (slices-first bs size e h) (sym (append-assoc (line-in (take size bs)) (0x0A ∷ []) (printed (lines-in (drop size bs)))))
 
 pub lines-none : (bs : List ℕ) (size : ℕ) → size ≡ whole-size bs → size ≡ 0 → printed (lines-in bs) ≡ []
 unfolding lines-in

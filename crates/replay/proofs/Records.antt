@@ -45,8 +45,7 @@ waits-next bs size e h few =
     let n = length-take-le size bs few in
     let a = length-append (take size bs) behind in
     let k : size + length behind ≡ length (take size bs ++ behind) = omega arith in
-    drop-drop (length behind) size bs ∙ ap (λ (m : ℕ). drop m bs) k
-    ∙ ap (λ (ss : List (List ℕ)). drop (length (flatten ss)) bs) (sym (slices-first bs size e h))
+    drop-drop (length behind) size bs ∙ rw (slices-first bs size e h, k)
 
 pub waits-none : (bs : List ℕ) → whole-size bs ≡ 0 → waits bs ≡ bs
 unfolding waits flatten
@@ -69,10 +68,8 @@ pub serving-on : {input t waited t′ waiting left t₁ waiting₁ rest : List �
 serving-on {left = left} {size = size} s e h few f d = record {
   so-far = λ x. given (s .so-far x) (take size left);
   follows = follows-then (s .follows) f;
-  rest = λ x.
-      ap (λ (l : List ℕ). all-given (given (s .so-far x) (take size left)) (records l)) d
-      ∙ ap (all-given (s .so-far x)) (sym (slices-first left size e h)) ∙ s .rest x;
-  same = ap waits d ∙ waits-next left size e h few ∙ s .same;
+  rest = λ x. rw d (rw (slices-first left size e h) at (s .rest x));
+  same = rw d (waits-next left size e h few ∙ s .same);
 }
 
 -- no whole record is left
