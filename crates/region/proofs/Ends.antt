@@ -1,20 +1,19 @@
 -- The end of a run, to a session in its region.
 use mathlib.Core.Path.{_≡_, refl, sym, ap, ap₂, subst, _∙_}
 use mathlib.Core.Bool.{Bool, true, false, cond}
-use mathlib.Core.List.{List, [], _∷_, _++_, append-nil}
-use mathlib.Core.Option.{Option, none}
-use Prim.Native.Nat.{ℕ, zero, suc, _≤_, _<_, min}
+use mathlib.Core.List.{List, [], _++_, append-nil}
+use mathlib.Core.Option.{Option}
+use Prim.Native.Nat.{ℕ, _≤_, _<_, min}
 use native.Mathlib.Omega.{arith}
 use lib.Dec.{lit≤}
-use lib.ListN.{length, getD, set, take, drop, length-take, length-drop}
-use lib.Seq.{getD-set-same, take-take, take-all}
+use lib.ListN.{length, take, drop, length-take, length-drop}
+use lib.Seq.{set-getD, take-take, take-all}
 use Rattle.model.specs.Limits.{header-length, run-kept, idle-limit}
 use Rattle.model.specs.Bytes.{little}
 use Rattle.model.specs.Records.{Settings}
 use Rattle.model.specs.Runs.{Run, empty-run, longer}
 use Rattle.model.specs.Kinds.{kinds, room-of}
-use Rattle.model.specs.Events.{Notice}
-use Rattle.model.specs.Notices.{Subscription, unsubscribed, act}
+use Rattle.model.specs.Notices.{Subscription, unsubscribed}
 use Rattle.model.specs.Notices as notices
 use Rattle.model.specs.Session.{no-subscriptions, Emission}
 use Rattle.model.specs.Session as model
@@ -42,69 +41,22 @@ use Rattle.run.specs.Area as run
 use Rattle.run.proofs.Areas.{counted}
 use Rattle.head.specs.Head.{head-size, head-of, head-formed}
 use Rattle.head.specs.Head as head
-use Rattle.lane.specs.Lane.{any}
 use Rattle.lane.proofs.Sayings.{quiet-of, after}
 use Rattle.region.specs.Region.{region-size, head-area, run-area, subscriptions-in, subscription-in, session-of, meaning, Good}
 use Rattle.region.specs.Region.{run-bytes, Becomes, Changes, LanesCleared}
 use Rattle.region.specs.Said.{due-copy, DealtTo, ending, is-known, known-in, Knows, stood, Ruled, CarriesOut, ended-by, ended-in}
 use Rattle.region.specs.Said.{RunEnds}
 use Rattle.region.specs.declared.Ended.{Ended}
-use Rattle.region.proofs.Areas.{parts, good-of, replaced-size, subscription-at, there, means}
-use Rattle.region.proofs.Says.{sent, row-one, said-one}
+use Rattle.region.proofs.Areas.{good-of, replaced-size, subscription-at, there, means, unchanged, changes-then}
+use Rattle.region.proofs.Says.{sent, now-is, row-one, said-one}
 use Rattle.region.proofs.Ticks.{means-so}
 
--- ==== one change after another
-
-pub changes-then : {r r₁ r₂ : List ℕ} {x y : Session} {m n : Run} {xs ys : List Subscription} → Changes r x m xs r₁ → Changes r₁ y n ys r₂
-    → Changes r y n ys r₂
-changes-then a b = record {
-  becomes = record {
-    good = b .becomes .good;
-    size = b .becomes .size ∙ a .becomes .size;
-    head = b .becomes .head;
-    runs = b .becomes .runs;
-    subscriptions = b .becomes .subscriptions;
-  };
-  bytes = b .bytes ∙ a .bytes;
-}
-
--- the lanes were cleared
-pub lanes-cleared : {r r′ : List ℕ} → Good r → LanesCleared r r′
-    → Changes r (head-of (head-area r)) (run-of (run-area r)) no-subscriptions r′
-lanes-cleared {r} {r′} g c = record {
-  becomes = record {
-    good =
-        good-of r′ (c .size ∙ g .size) (ap head-formed (c .head) ∙ parts r g .head .formed)
-        (ap run-formed (c .run) ∙ parts r g .run .formed) (c .formed);
-    size = c .size;
-    head = ap head-of (c .head);
-    runs = ap run-of (c .run);
-    subscriptions = c .none;
-  };
-  bytes = ap bytes-of (c .run);
-}
-
--- nothing was done
-pub unchanged : (r : List ℕ) → Good r → Changes r (head-of (head-area r)) (run-of (run-area r)) (subscriptions-in r) r
-unchanged r g = record {
-  becomes = record { good = g; size = refl; head = refl; runs = refl; subscriptions = refl };
-  bytes = refl;
-}
-
-set-same : {A : Type 0} (l : List A) (k : ℕ) (d : A) → set l k (getD l k d) ≡ l
-set-same [] k d = refl
-set-same (x ∷ l) zero d = refl
-set-same (x ∷ l) (suc k) d = ap (λ (z : List _). x ∷ z) (set-same l k d)
-
-abbrev Changes-to : List ℕ → List Subscription → Type 0
-Changes-to r subs = Changes r (head-of (head-area r)) (run-of (run-area r)) subs r
+-- ==== nothing is done
 
 pub nothing-dealt : (r : List ℕ) (kind : ℕ) → kind < length kinds → Good r → DealtTo kind notices.nothing r false r
 nothing-dealt r kind few g = record {
   changes =
-      subst (Changes-to r)
-      (sym (ap (set (subscriptions-in r) kind) (sym (subscription-at r kind few)) ∙ set-same (subscriptions-in r) kind unsubscribed))
-      (unchanged r g);
+      rw (← subscription-at r kind few, set-getD (subscriptions-in r) kind unsubscribed) (unchanged r g);
   sends = refl;
 }
 
@@ -133,59 +85,22 @@ held d r = cond (d .begins) no-subscriptions (subscriptions-in r)
 
 module _ (d : Decision) {r r₁ r₂ : List ℕ} {sends : Bool} (few : d .kind < length kinds)
     (c : Changes r (d .next) empty-run (held d r) r₁) (e : DealtTo (d .kind) (deed-of (d .deed)) r₁ sends r₂) where
-  abbrev kind : ℕ
-  kind = d .kind
-
-  abbrev xs : List Subscription
-  xs = held d r
-
-  abbrev x : Subscription
-  x = getD xs kind unsubscribed
-
-  abbrev y : Subscription × List Notice
-  y = act (room-of kind) (deed-of (d .deed)) x
-
-  subs₁ : subscriptions-in r₁ ≡ xs
-  subs₁ = c .becomes .subscriptions
-
-  fits : kind < length xs
-  fits = subst (λ (l : List Subscription). kind < length l) subs₁ (there r₁ kind few)
-
-  is-x : subscription-in kind r₁ ≡ x
-  is-x = sym (subscription-at r₁ kind few) ∙ ap (λ (l : List Subscription). getD l kind unsubscribed) subs₁
-
-  subs₂ : subscriptions-in r₂ ≡ set xs kind (y .0)
-  subs₂ =
-      e .changes .becomes .subscriptions
-      ∙ ap₂ (λ (l : List Subscription) (z : Subscription). set l kind ((act (room-of kind) (deed-of (d .deed)) z) .0)) subs₁ is-x
-
-  now-is : subscription-in kind r₂ ≡ y .0
-  now-is =
-      sym (subscription-at r₂ kind few) ∙ ap (λ (l : List Subscription). getD l kind unsubscribed) subs₂
-      ∙ getD-set-same xs kind (y .0) unsubscribed fits
-
-  due : sends ≡ any (y .1)
-  due = e .sends ∙ ap (λ (z : Subscription). any ((act (room-of kind) (deed-of (d .deed)) z) .1)) is-x
-
-  now : session-of r₂ ≡ meaning (d .next) empty-run (set xs kind (y .0))
-  now =
-      means (e .changes .becomes) ∙ ap₂ (λ (z : Session) (n : Run). meaning z n
-      (set (subscriptions-in r₁) kind ((act (room-of kind) (deed-of (d .deed)) (subscription-in kind r₁)) .0)))
-      (c .becomes .head) (c .becomes .runs) ∙ ap (meaning (d .next) empty-run) (sym (e .changes .becomes .subscriptions) ∙ subs₂)
-
   pub carries-out : CarriesOut d r sends r₂
   carries-out =
+      let deed = deed-of (d .deed) in
+      let x = subscription-in (d .kind) r₁ in
       let q = quiet-of (d .deed) in
+      let f = e .changes .becomes in
+      let is = now-is few e in
+      let now = rw (f .runs ∙ c .becomes .runs) at (means-so r₂ (d .next) (sym (f .head ∙ c .becomes .head))) in
       record {
-        good = e .changes .becomes .good;
-        size = e .changes .becomes .size ∙ c .becomes .size;
+        good = f .good;
+        size = f .size ∙ c .becomes .size;
         bytes = e .changes .bytes ∙ c .bytes;
-        ready = λ b. rw now-is (after (room-of kind) (deed-of (d .deed)) x q .there (sym due ∙ b));
+        ready = λ b. rw is (after (room-of (d .kind)) deed x q .there (sym (e .sends) ∙ b));
         carries = λ st.
-            ap₂ (λ (m : model.Session) (es : List Emission). (m, es))
-            (ap (meaning (d .next) empty-run) (row-one kind (deed-of (d .deed)) xs fits st) ∙ sym now)
-            (said-one kind (deed-of (d .deed)) xs fits st ∙ sent (room-of kind) (deed-of (d .deed)) x q st kind
-            ∙ ap₂ (due-copy st kind) (sym due) (sym now-is));
+            rw (← c .becomes .subscriptions, row-one few e st, said-one few e st, now, is, e .sends,
+            sent (room-of (d .kind)) deed x q st (d .kind));
       }
 
 -- step by step: the run is over, what it held is gone or not, and it is then as the decision says
