@@ -240,6 +240,12 @@ pub changes-then : {r r₁ r₂ : List ℕ} {x y : Session} {m n : Run} {xs ys :
 changes-then a b =
     let c = b .becomes in
     record {
-      becomes = record { good = c .good; size = c .size ∙ a .becomes .size; head = c .head; runs = c .runs; subscriptions = c .subscriptions };
+      becomes = record {
+        good = c .good;
+        size = c .size ∙ a .becomes .size;
+        head = c .head;
+        runs = c .runs;
+        subscriptions = c .subscriptions;
+      };
       bytes = b .bytes ∙ a .bytes;
     }

@@ -99,8 +99,8 @@ module _ (d : Decision) {r r₁ r₂ : List ℕ} {sends : Bool} (few : d .kind <
         bytes = e .changes .bytes ∙ c .bytes;
         ready = λ b. rw is (after (room-of (d .kind)) deed x q .there (sym (e .sends) ∙ b));
         carries = λ st.
-            rw (← c .becomes .subscriptions, row-one few e st, said-one few e st, now, is, e .sends,
-            sent (room-of (d .kind)) deed x q st (d .kind));
+            rw (← c .becomes .subscriptions, row-one few e st, said-one few e st, now, is, e .sends)
+            (rw (sent (room-of (d .kind)) deed x q st (d .kind)));
       }
 
 -- step by step: the run is over, what it held is gone or not, and it is then as the decision says

@@ -68,8 +68,8 @@ module _ {x : Session} {r r₁ : List ℕ} (c : Changes r x (run-of (run-area r)
         size = f .size ∙ b .size;
         ready = rw (d .sends, f .subscriptions) (all-ready (λ kind. beats) (λ kind. tt) (subscriptions-in r₁));
         steps = λ st.
-            rw (means f, f .subscriptions, d .sends, b .head, b .runs, b .subscriptions, e, row-acting st (λ kind. beats) 0,
-            said-due (λ kind. beats) (λ kind. tt) st 0 (subscriptions-in r));
+            rw (means f, f .subscriptions, d .sends, b .head, b .runs, b .subscriptions, e, row-acting st (λ kind. beats) 0)
+            (rw (said-due (λ kind. beats) (λ kind. tt) st 0 (subscriptions-in r)));
       }
 
 -- ==== a tick
@@ -144,6 +144,6 @@ module _ {kind : ℕ} (p r : List ℕ) (few : kind < length kinds) {x : Session}
         takes = rw (before, subscription-at r kind few) takes-it;
         ready = λ q. rw is (told (room-of kind) n (subscription-in kind r) .there (sym (d .sends) ∙ q));
         steps = λ st.
-            rw (before, after, kind-in kind p few, row-one few d st, said-one few d st, is, d .sends,
-            sent-itself (room-of kind) n (subscription-in kind r) st kind);
+            rw (before, after, kind-in kind p few, row-one few d st, said-one few d st, is, d .sends)
+            (rw (sent-itself (room-of kind) n (subscription-in kind r) st kind));
       }

@@ -94,8 +94,8 @@ module _ (deed : ℕ → Deed) where
               (filled-next xs k few (rw (behind, drop-next xs k unsubscribed few, subscription-at r k h, add-one k)) ∙ w .subscriptions);
           dues =
               rw (d .changes .becomes .subscriptions)
-              (filled-next due k (rw (w .count) h) (rw (behind, drop-next xs k unsubscribed few, subscription-at r k h, add-one k, d .sends))
-              ∙ w .dues);
+              (filled-next due k (rw (w .count) h)
+              (rw (behind, drop-next xs k unsubscribed few, subscription-at r k h, add-one k, d .sends)) ∙ w .dues);
         }
 
     pub dealt-to-all : length kinds ≤ k → DealtToAll deed r₀ due r
