@@ -1,8 +1,7 @@
 -- The end of a run, to a session in its region.
-use mathlib.Core.Path.{_≡_, refl, sym, ap, ap₂, subst, _∙_}
+use mathlib.Core.Path.{_≡_, refl, sym, ap, ap₂, _∙_}
 use mathlib.Core.Bool.{Bool, true, false, cond}
 use mathlib.Core.List.{List, [], _++_, append-nil}
-use mathlib.Core.Option.{Option}
 use Prim.Native.Nat.{ℕ, _≤_, _<_, min}
 use native.Mathlib.Omega.{arith}
 use lib.Dec.{lit≤}
@@ -27,7 +26,7 @@ use Rattle.message.specs.declared.Standing.{Standing}
 use Rattle.frame.specs.Header.{header-of}
 use Rattle.session.specs.Meaning.{deed-of, session-as}
 use Rattle.session.specs.Control.{cleared}
-use Rattle.session.specs.Effects.{standing-in, carried-out, replies, announced}
+use Rattle.session.specs.Effects.{standing-in, replies, announced}
 use Rattle.session.specs.declared.Phase.{Phase}
 use Rattle.session.specs.declared.Phase.the-variants.{Closed, Opened, Started}
 use Rattle.session.specs.declared.Session.{Session}
@@ -43,8 +42,8 @@ use Rattle.head.specs.Head.{head-size, head-of, head-formed}
 use Rattle.head.specs.Head as head
 use Rattle.lane.proofs.Sayings.{quiet-of, after}
 use Rattle.region.specs.Region.{region-size, head-area, run-area, subscriptions-in, subscription-in, session-of, meaning, Good}
-use Rattle.region.specs.Region.{run-bytes, Becomes, Changes, LanesCleared}
-use Rattle.region.specs.Said.{due-copy, DealtTo, ending, is-known, known-in, Knows, stood, Ruled, CarriesOut, ended-by, ended-in}
+use Rattle.region.specs.Region.{Becomes, Changes, LanesCleared}
+use Rattle.region.specs.Said.{DealtTo, ending, is-known, stood, Ruled, CarriesOut, ended-by, ended-in}
 use Rattle.region.specs.Said.{RunEnds}
 use Rattle.region.specs.declared.Ended.{Ended}
 use Rattle.region.proofs.Areas.{good-of, replaced-size, subscription-at, there, means, unchanged, changes-then}
@@ -107,12 +106,9 @@ module _ (d : Decision) {r r₁ r₂ : List ℕ} {sends : Bool} (few : d .kind <
 pub changed-so : (d : Decision) {r r₁ r₂ r₃ : List ℕ} → Changes r (head-of (head-area r)) empty-run (subscriptions-in r) r₁
     → Changes r₁ (head-of (head-area r₁)) (run-of (run-area r₁)) (cond (d .begins) no-subscriptions (subscriptions-in r₁)) r₂
     → Changes r₂ (d .next) (run-of (run-area r₂)) (subscriptions-in r₂) r₃ → Changes r (d .next) empty-run (held d r) r₃
-changed-so d {r} {r₂ = r₂} {r₃} a b c =
-    let empty : run-of (run-area r₂) ≡ empty-run = b .becomes .runs ∙ a .becomes .runs in
-    let subs : subscriptions-in r₂ ≡ held d r =
-    b .becomes .subscriptions ∙ ap (cond (d .begins) no-subscriptions) (a .becomes .subscriptions) in
-    changes-then a (changes-then b (subst (λ (l : List Subscription). Changes r₂ (d .next) empty-run l r₃) subs
-    (subst (λ (n : Run). Changes r₂ (d .next) n (subscriptions-in r₂) r₃) empty c)))
+changed-so d a b c =
+    rw (← a .becomes .subscriptions, ← b .becomes .subscriptions, ← a .becomes .runs, ← b .becomes .runs)
+    (changes-then a (changes-then b c))
 
 -- ==== the run is over
 
@@ -165,29 +161,17 @@ module _ {granted : Bool} {bs r place : List ℕ} {d : Decision} {place′ : Lis
       ready = c .ready;
       whole = long;
       steps = λ st eg.
-          ap (step (shared-begun st 0) (receives (ending bs))) (means-so r (o .who) (o .here))
-          ∙ decide-right st (run-of (run-area r)) (subscriptions-in r) (ending bs) refl (o .standing) (o .who) (so st eg)
-          ∙ ap (λ (z : Decision). carried-out st (take header-length (n .kept)) z (subscriptions-in r)) (sym (o .ruled .decides))
-          ∙ ap₂ (λ (q : model.Session × List Emission) (es : List Emission). (q .0, es ++ q .1)) (c .carries st)
-          (replies-same st _ _ (d .reply) same);
+          rw (means-so r (o .who) (o .here), decide-right st _ _ (ending bs) refl (o .standing) (o .who) (so st eg), ← o .ruled .decides)
+          (ap₂ (λ (q : model.Session × List Emission) (es : List Emission). (q .0, es ++ q .1)) (c .carries st)
+          (replies-same st _ _ (d .reply) same));
       knows = λ st eg.
-          let told = ap (announces (shared-begun st 0) (ending bs)) (means-so r (o .who) (o .here))
-          ∙ identify-right st (run-of (run-area r)) (subscriptions-in r) (ending bs) refl (o .standing) (o .who) (so st eg)
-          ∙ ap (λ (z : Decision). announced (z .identifies) (drop header-length (n .kept))) (sym (o .ruled .decides)) in (
-            known-by (d .identifies) (drop header-length (n .kept)) ∙ ap is-known (sym told),
-            o .ruled .knows ∙ ap (λ (z : Option (List ℕ)). known-in z place) (sym told),
-          );
+          rw (means-so r (o .who) (o .here), identify-right st _ _ (ending bs) refl (o .standing) (o .who) (so st eg), ← o .ruled .decides)
+          (known-by (d .identifies) _, o .ruled .knows);
     }
 
 -- ==== where its bytes are
 
 -- whole in the slice
-pub whole-header : (bs : List ℕ) → take header-length (longer empty-run bs .kept) ≡ take header-length bs
-whole-header bs = take-take header-length run-kept bs (omega arith)
-
-pub whole-long : (bs : List ℕ) → header-length ≤ length (longer empty-run bs .kept) → header-length ≤ length bs
-whole-long bs h = omega (arith, length-take run-kept bs)
-
 pub taken-few : (bs : List ℕ) → length (longer empty-run bs .kept) ≤ run-kept
 taken-few bs = rw (length-take run-kept bs) (omega arith)
 
@@ -225,18 +209,16 @@ module _ {granted : Bool} {bs r place : List ℕ} {d : Decision} {place′ : Lis
   -- where it stands whole in the slice
   pub ends-whole : run-of (run-area r) ≡ empty-run → RunEnds granted bs r place (ended-by d true sends) r′ place′
   ends-whole e =
-      let n : longer (run-of (run-area r)) bs ≡ longer empty-run bs = ap (λ (z : Run). longer z bs) e in
-      run-ends o c true (λ q. ap (λ (z : Run). take header-length (z .kept)) n ∙ whole-header bs)
-      (λ q. whole-long bs (subst (λ (z : Run). header-length ≤ length (z .kept)) n (header-there o q)))
+      run-ends o c true (λ q. rw (e, take-take header-length run-kept bs (lit≤ tt)))
+      (λ q. omega (arith, length-take run-kept bs, rw e at (header-there o q)))
 
 module _ {granted : Bool} {r place : List ℕ} {d : Decision} {place′ : List ℕ} (o : Judged granted [] r place d place′) {sends : Bool}
     {r′ : List ℕ} (c : CarriesOut d r sends r′) where
   -- where it is kept
   pub ends-kept : run.Area (run-area r) → RunEnds granted [] r place (ended-by d false sends) r′ place′
   ends-kept area =
-      let n = longer-none (run-area r) area in
-      run-ends o c false (λ q. ap (λ (z : Run). take header-length (z .kept)) n ∙ kept-header (run-area r) area
-      (subst (λ (z : Run). header-length ≤ length (z .kept)) n (header-there o q)) ∙ ap (take header-length) (sym (c .bytes)))
+      let n = ap (λ (z : Run). z .kept) (longer-none (run-area r) area) in
+      run-ends o c false (λ q. rw (n, c .bytes) (kept-header (run-area r) area (rw n at (header-there o q))))
       (λ q. rw (c .bytes) (bytes-long (run-area r) area))
 
 -- ==== a run that began earlier ends: first it gets longer, and then it is over
@@ -268,30 +250,13 @@ module _ (bs : List ℕ) {r r₁ : List ℕ} {x : Session} (ex : x ≡ head-of (
 
   pub ends-longer : {granted : Bool} {place : List ℕ} {e : Ended} {r′ place′ : List ℕ} → e .whole ≡ false
       → RunEnds granted [] r₁ place e r′ place′ → RunEnds granted bs r place e r′ place′
-  ends-longer {place = place} {e} {r′} {place′} kept w =
-      let was = means-so r x ex in
-      let is = means b in
+  ends-longer kept w =
       record {
         good = w .good;
         size = w .size ∙ b .size;
         kind = w .kind;
         ready = w .ready;
         whole = λ q. rw kept (rw kept at (w .whole q));
-        steps = λ st eg.
-            ap (step (shared-begun st 0) (receives (ending bs))) was ∙ steps-same st (x .phase)
-            ∙ ap (step (shared-begun st 0) (receives (ending []))) (sym is) ∙ w .steps st eg
-            ∙ ap (λ (z : Bool). (
-              session-of r′,
-              replies st (take header-length (cond z [] (run-bytes r′))) (e .reply)
-                  ++ due-copy st (e .kind) (e .sends) (subscription-in (e .kind) r′),
-            )) kept
-            ∙ sym (ap (λ (z : Bool). (
-              session-of r′,
-              replies st (take header-length (cond z bs (run-bytes r′))) (e .reply)
-                  ++ due-copy st (e .kind) (e .sends) (subscription-in (e .kind) r′),
-            )) kept);
-        knows = λ st eg.
-            subst (λ (z : Option (List ℕ)). Knows z place (e .identified) place′)
-            (ap (announces (shared-begun st 0) (ending [])) is ∙ sym (tells-same st (x .phase))
-            ∙ ap (announces (shared-begun st 0) (ending bs)) (sym was)) (w .knows st eg);
+        steps = λ st eg. rw (means-so r x ex, steps-same st (x .phase), ← means b, w .steps st eg, kept);
+        knows = λ st eg. rw (means-so r x ex, tells-same st (x .phase), ← means b) (w .knows st eg);
       }
