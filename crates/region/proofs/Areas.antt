@@ -169,9 +169,6 @@ module _ {r ys : List ℕ} (g : Good r) where
 -- ==== a lane was replaced, as lending `&mut region[a..a + z]` has it
 
 module _ (r : List ℕ) {kind a z : ℕ} (few : kind < length kinds) (ea : a ≡ lane-at kind) (ez : z ≡ lane-size kind) where
-  pub lane-lies : length r ≡ region-size → a + z ≤ length r
-  lane-lies s = let e = lane-ends kind few in omega arith
-
   pub lane-part : midOf a (a + z - a) r ≡ lane-in kind r
   lane-part = rw (add-sub-cancel-left a z, ea, ez)
 

@@ -5,7 +5,7 @@ use Rattle.model.specs.Kinds.{room-of}
 use Rattle.model.specs.Notices.{takes}
 use Rattle.frame.specs.Places.{notice-in}
 use Rattle.lane.specs.Lane.{lane-of}
-use Rattle.region.proofs.Areas.{lane-lies, lane-part, lane-lent}
+use Rattle.region.proofs.Areas.{lane-ends, lane-part, lane-lent}
 use Rattle.region.proofs.Walks.{dealt-to}
 use Rattle.region.proofs.Ticks.{takes-none, takes-one}
 use Rattle.region.proofs.take.Statement.{statement}
@@ -47,11 +47,7 @@ pub take-spec : {M : Type 1} → statement M
 take-spec =
     tie.close (tie.spec (λ c κs. search needs) (λ c. search needs) (λ c. search needs) (λ c. search needs) (λ c κs. search needs)
     (λ c κs. search needs)
-    (λ c. let s = c .before .before .before .before .before .before .before .before in
-    let f = lane-lies (s .args .region .now) (s .pre .known) (c .before .lane-at .ensures) (c .size .ensures) (s .pre .good .size) in
-    search needs)
+    (λ c. let e = lane-ends _ (c .before .before .before .before .before .before .before .before .pre .known) in search needs)
     (λ c. search needs) (λ c. search needs)
-    (λ c. let s = c .before .before .before .before .before .before .before .before in
-    let f = lane-lies (s .args .region .now) (s .pre .known) (c .before .lane-at .ensures) (c .size .ensures) (s .pre .good .size) in
-    search needs)
+    (λ c. let e = lane-ends _ (c .before .before .before .before .before .before .before .before .pre .known) in search needs)
     take-requires (λ c. search needs) returns (λ c. search needs) returns-2 (λ c. search needs) returns-3)
