@@ -61,13 +61,7 @@ parts r g =
 pub good-of : (r : List ℕ) → length r ≡ region-size → head-formed (head-area r) ≡ true → run-formed (run-area r) ≡ true
     → all (λ (formed : Bool). formed) (lanes lane-formed r) ≡ true → Good r
 unfolding region-formed
-good-of r s a b c =
-    let tested = all (λ (formed : Bool). formed) (lanes lane-formed r) in
-    record {
-      size = s;
-      formed = and-eq-true-iff (head-formed (head-area r)) (run-formed (run-area r) && tested) .1
-          (a, and-eq-true-iff (run-formed (run-area r)) tested .1 (b, c));
-    }
+good-of r s a b c = record { size = s; formed = rw (a, b, c) }
 
 pub length-subscriptions : (r : List ℕ) → length (subscriptions-in r) ≡ length kinds
 unfolding subscriptions-in

@@ -1,5 +1,5 @@
 -- A tick and an event to one session: first its region changes, and then what it has to say is written.
-use mathlib.Core.Path.{_≡_, sym, ap, ap₂, _∙_}
+use mathlib.Core.Path.{_≡_, refl, sym, ap, ap₂, _∙_}
 use Prim.Native.Nat.{ℕ, _+_, _≤_}
 use native.Mathlib.Omega.{arith}
 use mathlib.Core.Bool.{true, false}
@@ -24,7 +24,7 @@ use Rattle.table.specs.Table.{region-in, decode, settings-in, Went}
 use Rattle.table.specs.Says.{Lent, DueLent, asked-in}
 use Rattle.table.specs.Passes.{Last, AskedLent, Copies, EventLent, TellsOne}
 use Rattle.table.specs.declared.Copied.{Copied}
-use Rattle.table.proofs.Regions.{part, put, part-is, put-in, put-table, put-settings}
+use Rattle.table.proofs.Regions.{part, put, part-is, put-in, put-means, put-settings}
 use Rattle.table.proofs.Alone.{went-alone, by-settings}
 use Rattle.table.proofs.Says.{copy-said}
 use Rattle.table.proofs.Again.{copied-so, last-now}
@@ -33,7 +33,7 @@ use Rattle.table.proofs.Again.{copied-so, last-now}
 
 module _ {t o : List ℕ} {to : To} {most : ℕ} (l : Lent t o to most) {r : List ℕ} (g : Good r) where
   pub still-lent : Lent (put t (to .session) r) o to most
-  still-lent = record { table = put-table t (to .session) r (l .table) (l .session) g; session = l .session; room = l .room }
+  still-lent = record { table = put-means t (to .session) r _ (l .table) (l .session) g refl .table; session = l .session; room = l .room }
 
   pub there : region-in (to .session) (put t (to .session) r) ≡ r
   there = put-in t (to .session) r (l .table .size) (l .session) (g .size)
