@@ -38,7 +38,6 @@ takers-few kind s [] = rw add-zero (omega arith)
 takers-few kind s (x ∷ xs) =
     let few = at-most (takes kind x) (2 ^ s) in
     let rest : takers kind (suc s) xs + 2 ^ suc s ≤ 2 ^ (suc s + length xs) = takers-few kind (suc s) xs in
-    let twice : 2 ^ suc s ≡ 2 ^ s * 2 = pow-suc 2 s in
     let far : 2 ^ (s + suc (length xs)) ≡ 2 ^ (suc s + length xs) = ap (λ (n : ℕ). 2 ^ n)
     (add-suc s (length xs) ∙ sym (suc-add s (length xs))) in
     omega arith
@@ -119,8 +118,7 @@ module _ (t a : List ℕ) (kind : ℕ) (place : List ℕ) (h : Table t) where
       → Holds (settings-part (shared-area t)) (in-force-of (shared-area t)) n a
       → Becomes t (noted (decode t) (event-in kind place)) (front t a)
   unfolding decode result-of
-  noted-number n e f k =
-      rw e (front-means t a _ _ _ h (subst (λ (m : ℕ). Holds (settings-part (shared-area t)) (in-force-of (shared-area t)) m a) f k))
+  noted-number n e f k = rw e (front-means t a _ _ _ h (rw f at k))
 
 -- ==== one after another
 
