@@ -3,7 +3,7 @@ use mathlib.Core.Path.{_≡_, refl, sym, ap, _∙_}
 use Prim.Native.Nat.{ℕ, _<_}
 use mathlib.Core.Bool.{true, false≢true}
 use mathlib.Core.List.{List, [], _∷_, append-nil}
-use lib.ListN.{length, set}
+use lib.ListN.{length}
 use Rattle.model.specs.Limits.{session-count}
 use Rattle.model.specs.Sharing.{Shared, shared-begun}
 use Rattle.model.specs.Session.{Session, closed, opened, started, fresh, is-closed, Emission}

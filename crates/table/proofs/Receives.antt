@@ -1,5 +1,5 @@
 -- Received bytes: what they do to their session, and the identifier that they may make known to all.
-use mathlib.Core.Path.{_≡_, refl, sym, ap, ap₂, subst, _∙_}
+use mathlib.Core.Path.{_≡_, refl, sym, ap, _∙_}
 use mathlib.Core.Bool.{Bool, true, false, cond, true≢false}
 use mathlib.Core.List.{List, [], _∷_}
 use mathlib.Core.Option.{Option, none, some, Option·map as option-map}
@@ -15,16 +15,13 @@ use Rattle.model.specs.Records.{settings-of, settings-length}
 use Rattle.model.specs.Runs.{Piece, cut, longer}
 use Rattle.model.specs.Kinds.{kinds, kind-at, copy-most, copies-most, reply-most, session-most, receive-most}
 use Rattle.model.specs.Events.{identified}
-use Rattle.model.specs.Session.{Session, Emission}
 use Rattle.model.specs.Local.{receives, announces, step}
-use Rattle.model.specs.Sharing.{shared-begun}
-use Rattle.model.specs.Row.{tag}
-use Rattle.model.specs.World.{session-at, Moment, hears, happens, uncounted, next, emits}
+use Rattle.model.specs.World.{session-at, hears, happens, uncounted, next}
 use Rattle.model.specs.Calls.{output, happening}
 use Rattle.model.proofs.BySettings.{announces-bare}
 use Rattle.model.proofs.InTurn.{emits-to}
 use Rattle.text.specs.Put.{Put}
-use Rattle.text.proofs.Puts.{put-nothing, put-as, put-then, put-length}
+use Rattle.text.proofs.Puts.{put-nothing, put-then, put-length}
 use Rattle.text.proofs.Areas.{each-below}
 use Rattle.frame.specs.declared.To.{To}
 use Rattle.session.specs.Effects.{out-bytes, replies, ReplyLent}
