@@ -34,7 +34,7 @@ use Rattle.session.specs.declared.Decision.{Decision}
 use Rattle.session.specs.declared.Reply.{Reply}
 use Rattle.session.specs.declared.Reply.the-variants as reply
 use Rattle.session.proofs.Hearing.{decide-right, identify-right}
-use Rattle.session.proofs.Decided.{decided-kind, decided-idle, mirrored-whole}
+use Rattle.session.proofs.Decided.{Fair, decided-fair, mirrored-whole}
 use Rattle.run.specs.Area.{run-size, run-of, run-formed, bytes-of}
 use Rattle.run.specs.Area as run
 use Rattle.run.proofs.Areas.{counted}
@@ -137,12 +137,8 @@ module _ {granted : Bool} {bs r place : List ℕ} {d : Decision} {place′ : Lis
   abbrev n : Run
   n = longer (run-of (run-area r)) bs
 
-  pub kind-known : d .kind < length kinds
-  kind-known = rw (o .ruled .decides) (decided-kind (o .who) (o .standing) (header-of (n .kept) (n .count)) (drop header-length (n .kept)))
-
-  pub idle-few : d .next .idle < idle-limit
-  idle-few =
-      rw (o .ruled .decides) (decided-idle (o .who) (o .idle) (o .standing) (header-of (n .kept) (n .count)) (drop header-length (n .kept)))
+  pub fair : Fair d
+  fair = rw (o .ruled .decides) (decided-fair (o .who) (o .idle) (o .standing) _ _)
 
   header-there : d .reply ≡ reply.Mirrored → header-length ≤ length (n .kept)
   header-there q = mirrored-whole (o .who) (o .standing) n (ap (λ (z : Decision). z .reply) (sym (o .ruled .decides)) ∙ q)
@@ -157,7 +153,7 @@ module _ {granted : Bool} {bs r place : List ℕ} {d : Decision} {place′ : Lis
     run-ends whole same long = record {
       good = c .good;
       size = c .size;
-      kind = kind-known;
+      kind = fair .0;
       ready = c .ready;
       whole = long;
       steps = λ st eg.

@@ -43,7 +43,6 @@ use denote.Triple.Table.{entered, cited}
 use denote.Triple.Walked.{says, Stays, stay-ref, walkOf, goes-ref, ends-at, walked, walk-meets}
 use Rattle.session.specs.Control.{beat-at, clock-after, due-by}
 use Rattle.session.specs.declared.Clock.{Clock}
-use Rattle.session.specs.declared.Beat.{Beat}
 use Rattle.session.specs.declared.Due.{Due}
 use Rattle.session.proofs.Lent.{clock-at, cell, is-clock, ticks-fit, one-given, answered}
 use Rattle.session.proofs.Clock as clock
