@@ -23,7 +23,6 @@ use borrow.Rule.Slice.PartMut.{putMid}
 use Rattle.text.proofs.Cells.{area-same, area-before}
 use Rattle.message.specs.Meaning.{standing-of}
 use Rattle.message.specs.declared.Standing.{Standing}
-use Rattle.frame.specs.Header.{header-of}
 use Rattle.session.specs.Meaning.{deed-of, session-as}
 use Rattle.session.specs.Control.{cleared}
 use Rattle.session.specs.Effects.{standing-in, replies, announced}
