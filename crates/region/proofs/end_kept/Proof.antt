@@ -4,7 +4,7 @@ use mathlib.Core.Path.{refl}
 use mathlib.Core.List.{[]}
 use Rattle.region.specs.Region.{run-area}
 use Rattle.region.proofs.Areas.{parts}
-use Rattle.region.proofs.Ends.{longer-none, kind-known, idle-few, ends-kept, Judged}
+use Rattle.region.proofs.Ends.{longer-none, fair, ends-kept, Judged}
 use Rattle.region.proofs.end_kept.Statement.{statement}
 use Rattle.region.proofs.end_kept.Tie as tie
 
@@ -29,7 +29,7 @@ carry-out-requires : tie.Need-carry-out-requires
 carry-out-requires c κs =
     let o = judged (c .before .before .before) in
     let s = c .before .before .before .before .before .before .before .before .before .before .before in
-    record { good = s .pre .0; known = kind-known o; idle = idle-few o }
+    record { good = s .pre .0; known = fair o .0; idle = fair o .1 }
 
 returns : tie.Need-returns
 returns c =

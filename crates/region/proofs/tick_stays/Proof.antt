@@ -1,6 +1,7 @@
 -- `region::tick_stays` meets its contract, by the phase.
 use borrow.Author.Needs.{needs}
-use Rattle.region.proofs.Ticks.{unlike-closed, unlike-opened, stays-quiet, stays-started}
+use mathlib.Core.Path.{refl}
+use Rattle.region.proofs.Ticks.{stays-quiet, stays-started}
 use Rattle.region.proofs.tick_stays.Statement.{statement}
 use Rattle.region.proofs.tick_stays.Tie as tie
 
@@ -14,7 +15,7 @@ pub tick-stays-spec : {M : Type 1} → statement M
 tick-stays-spec =
     tie.close (tie.spec (λ c κs. search needs) (λ c. search needs) (λ c. search needs) (λ c. search needs) (λ c κs. search needs)
     (λ c. search needs)
-    (λ c. stays-quiet (c .before .before .before .before .store .ensures) (c .enum-told .given .1) unlike-closed)
+    (λ c. stays-quiet (c .before .before .before .before .store .ensures) (c .enum-told .given .1) (λ st. refl))
     (λ c. search needs)
-    (λ c. stays-quiet (c .before .before .before .before .store .ensures) (c .enum-told2 .given .1) unlike-opened)
+    (λ c. stays-quiet (c .before .before .before .before .store .ensures) (c .enum-told2 .given .1) (λ st. refl))
     (λ c. search needs) returns-3)
