@@ -563,8 +563,8 @@ fn notice_heading(size: usize, mid: u64, asked: Asked) -> Heading
     }
 }
 
-// The header of a frame of so many bytes. The number, and the length of what has one length only, stand in an arm for each frame, so that the
-// compiler knows their digits.
+// The header of a frame of so many bytes. The number, and the length of what has one length only, stand in an arm for each frame, so that
+// the compiler knows their digits.
 fn put_header(out: &mut [u8], at: usize, content: Content, size: usize) -> usize
     requires { ⌜ Headable content size at (length (now out)) ⌝ }
     ensures { λ r. ⌜ Written (now (out .entry)) at header-length (heading-bytes (heading-of content)) r (now (out .exit)) ⌝ }

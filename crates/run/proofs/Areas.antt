@@ -8,9 +8,9 @@ use lib.ListN.{length, take, drop, length-drop}
 use lib.Seq.{sets, length-sets, length-take-le}
 use borrow.Author.Tests.{le-leb, leb-true}
 use Rattle.model.specs.Bytes.{little, in-bytes}
-use Rattle.model.specs.Runs.{Run, longer}
+use Rattle.model.specs.Runs.{Run}
 use Rattle.text.proofs.Lists.{drop-sets, drop-sets-after, take-sets, take-least, take-over}
-use Rattle.run.specs.Area.{run-size, run-of, run-formed, Area, Over}
+use Rattle.run.specs.Area.{run-size, run-of, run-formed, Area, Over, Lengthened}
 
 pub counted : (a : List ℕ) → Area a → little (take 2 a) ≤ 10000
 unfolding run-formed
@@ -67,8 +67,7 @@ module _ (n more k m v : ℕ) (ek : k ≡ min 45 n) (em : m ≡ min (45 - k) mor
 
 pub lengthened : (a xs : List ℕ) (n k m v : ℕ) → Area a → n ≡ run-of a .count → n ≤ 10000 → k ≡ min 45 n → m ≡ min (45 - k) (length xs)
     → v ≡ min (10000 - n) (length xs)
-    → (run-of (sets (sets a (2 + k) (take m xs)) 0 (in-bytes 2 (n + v))) ≡ longer (run-of a) xs)
-    × Area (sets (sets a (2 + k) (take m xs)) 0 (in-bytes 2 (n + v)))
+    → Lengthened a xs (sets (sets a (2 + k) (take m xs)) 0 (in-bytes 2 (n + v)))
 unfolding run-of
 lengthened a xs n k m v h en hn ek em ev =
     let z = sets a (2 + k) (take m xs) in
@@ -84,4 +83,4 @@ lengthened a xs n k m v h en hn ek em ev =
     rw (e₁, drop-sets (take m xs) a 2 k) (take-sets (take m xs) l k (omega arith)) in
     let q : take k l ++ take m xs ≡ take 45 (take k l ++ xs) =
     rw (take-over 45 (take k l) xs (omega arith), lk, em, take-least (45 - k) xs) in
-    (w .0 ∙ rw (p ∙ q, total n (length xs) k m v ek em hn ev, ek, en), w .1)
+    record { area = w .1; longer = w .0 ∙ rw (p ∙ q, total n (length xs) k m v ek em hn ev, ek, en) }

@@ -21,5 +21,5 @@ tick-spec =
     (λ c. search needs)
     (λ c. search needs)
     (λ c. let d = c .before .before .before .before .before in let i = d .before .before .before in
-    finish _ _ _ _ 0 0 (i .before .tick .ensures) (i .if1 .left) (c .done .ensures) refl refl (d .tick2 .ensures .1)
-    (omega (arith, d .tick2 .ensures .0))))
+    finish _ _ _ _ 0 0 (i .before .tick .ensures) (i .if1 .left) (c .done .ensures) refl refl (d .tick2 .ensures .went)
+    (omega (arith, d .tick2 .ensures .within))))

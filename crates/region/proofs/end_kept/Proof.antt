@@ -36,7 +36,8 @@ returns c =
     let o = c .before .before .before in
     let u = o .before .before .before .before in
     let s = u .before .before .before .before .before .before .before .before in
-    rw (c .left-to-say .ensures) (refl, ends-kept (judged u) (o .carry-out .ensures) (parts (s .args .region .now) (s .pre .0) .run))
+    rw (c .left-to-say .ensures)
+    (record { whole = refl; ends = ends-kept (judged u) (o .carry-out .ensures) (parts (s .args .region .now) (s .pre .0) .run) })
 
 pub end-kept-spec : {M : Type 1} → statement M
 end-kept-spec =

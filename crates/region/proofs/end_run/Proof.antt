@@ -16,7 +16,8 @@ end-whole-requires c κs =
 returns-2 : tie.Need-returns-2
 returns-2 c =
     let e = c .before .before .before .before in
-    ends-longer _ refl (e .before .before .before .before .before .lengthen .ensures) (e .end-kept .ensures .0) (e .end-kept .ensures .1)
+    ends-longer _ refl (e .before .before .before .before .before .lengthen .ensures) (e .end-kept .ensures .whole)
+    (e .end-kept .ensures .ends)
 
 pub end-run-spec : {M : Type 1} → statement M
 end-run-spec =

@@ -7,7 +7,7 @@ use Rattle.region.proofs.lengthen.Tie as tie
 returns : tie.Need-returns
 returns c =
     let p = c .before .before in
-    run-replaced (p .before .before .before .before .pre) (p .lengthen .ensures .1) (p .lengthen .ensures .0)
+    run-replaced (p .before .before .before .before .pre) (p .lengthen .ensures .area) (p .lengthen .ensures .longer)
 
 pub lengthen-spec : {M : Type 1} → statement M
 lengthen-spec =

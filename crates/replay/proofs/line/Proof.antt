@@ -20,7 +20,7 @@ returns c =
     (c .before .before .copy .ensures) in
     let all = put-as (close-line (a .slice .now) (n .little .result) (n .little .ensures .0)
     (c .before .before .before .before .before .if1 .taken)) both in
-    (all, all .place ∙ ap (λ (k : ℕ). a .at + k) (line-length (a .slice .now) (s .pre .0)))
+    record { place = all .place ∙ ap (λ (k : ℕ). a .at + k) (line-length (a .slice .now) (s .pre .0)); put = all }
 
 copy-requires-3 : tie.Need-copy-requires-3
 copy-requires-3 c κs =
@@ -60,7 +60,7 @@ returns-2 c =
     (c .before .before .before .before .before .before .before .shown .ensures)) (c .before .before .copy3 .ensures) in
     let all =
     put-as (frame-line (a .slice .now) (n .little .result) (n .little .ensures .0) (length (a .slice .now) - 1 - record-head) e ne) four in
-    (all, all .place ∙ ap (λ (k : ℕ). a .at + k) (line-length (a .slice .now) (s .pre .0)))
+    record { place = all .place ∙ ap (λ (k : ℕ). a .at + k) (line-length (a .slice .now) (s .pre .0)); put = all }
 
 pub line-spec : {M : Type 1} → statement M
 line-spec =

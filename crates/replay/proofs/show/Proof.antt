@@ -46,7 +46,7 @@ loop-again c =
     let n = length-take-le (l .size) (l .left .now) few in
     let rest = take-all (length (l .left .now) - l .size) (drop (l .size) (l .left .now)) (simp length-drop (omega arith)) in (
       left-as (ap (λ (z : List ℕ). printed (lines-in z)) (sym rest))
-          (left-put (left-as (lines-next (l .left .now) (l .size) (l .inv .2 .whole) some) (l .inv .0)) (k .ensures .0)),
+          (left-put (left-as (lines-next (l .left .now) (l .size) (l .inv .2 .whole) some) (l .inv .0)) (k .ensures .put)),
       omega arith,
       c .whole2 .ensures,
     )
@@ -55,7 +55,7 @@ returns : tie.Need-returns Inv-loop μ-loop
 returns c =
     let l = c .before .loop in
     let z : l .size ≡ 0 = omega (arith, c .loop-test .left) in
-    (left-none (left-as (lines-none (l .left .now) (l .size) (l .inv .2 .whole) z) (l .inv .0)), omega arith)
+    record { within = omega arith; put = left-none (left-as (lines-none (l .left .now) (l .size) (l .inv .2 .whole) z) (l .inv .0)) }
 
 pub show-spec : {M : Type 1} → statement M
 show-spec =

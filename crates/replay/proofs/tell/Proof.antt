@@ -15,12 +15,13 @@ returns c =
     let first = c .before .before .before .before .before .before .before .before .before .before .before .copy .ensures in
     let second = c .before .before .before .before .before .before .before .put-digits .ensures in
     let third = c .before .before .copy2 .ensures in
-    let r = third .place in (
-      put-as (refused-text (a .answer) (a .output .now)
+    let r = third .place in
+    record {
+      within = omega arith;
+      put = put-as (refused-text (a .answer) (a .output .now)
           (c .before .before .before .before .before .before .before .before .before .before .before .before .before .before .if1 .taken))
-          (put-then (put-then first (second .1)) third),
-      omega arith,
-    )
+          (put-then (put-then first (second .1)) third);
+    }
 
 slice-aggregate-show : tie.Need-slice-aggregate-show
 slice-aggregate-show c =
@@ -39,7 +40,10 @@ returns-2 c =
     let a = s .args in
     let n = length-take-le (a .answer .written) (a .output .now) (s .pre .0 .within) in
     let k = c .before .before .show .ensures in
-    (put-as (done-text (a .answer) (a .output .now) (c .before .before .before .before .before .if1 .left)) (k .0), omega arith)
+    record {
+      within = omega arith;
+      put = put-as (done-text (a .answer) (a .output .now) (c .before .before .before .before .before .if1 .left)) (k .put);
+    }
 
 pub tell-spec : {M : Type 1} → statement M
 tell-spec =

@@ -9,7 +9,7 @@ returns : tie.Need-returns
 returns c =
     let filled = c .before .before .before in
     let pre = filled .before .before .before .before .before .before .pre in
-    (turned-none (filled .fill .ensures .1) (pre .1 .cut), pre .1 .within)
+    (turned-none (filled .fill .ensures .kept) (pre .1 .cut), pre .1 .within)
 
 returns-2 : tie.Need-returns-2
 returns-2 c =
@@ -18,7 +18,7 @@ returns-2 c =
     let filled = moved .before .before .before .before .before .before .before .before in
     let f = filled .fill in
     let size = filled .before .before .before .before .before .before .args .size in
-    (turned-served size (f .result) (f .last .0) (f .ensures .1) (served .0) (served .1 .front), omega arith)
+    (turned-served size (f .result) (f .last .0) (f .ensures .kept) (served .0) (served .1 .front), omega arith)
 
 pub turn-spec : {M : Type 1} → statement M
 turn-spec =

@@ -109,7 +109,7 @@ module _ {M : Type 1} (𝓤 : URA M) (H : Heap 𝓤) (A : Atoms 𝓤) (W : Given
           qed W (‵ (fobs γ (clock.the-row .coded .code (clock-at m))) ∷ ‵ (fbor κ (Body (mem clock.the-row) b o γ)) ∷ ‵ (flft κ q) ∷ []) ∵
           suffices ! _ (ends-at 𝓤 H A advance.ended stayed (advance.clauses 𝓤 H A at-mem run) W entry v d
           (clock-at m, tt) (tt, tt)) $
-          says ! (moved, says-due) $ nothing ! $ move ! (3 ∷ 0 ∷ []) $ join ! $
+          says ! (record { clock = moved; time = says-due }) $ nothing ! $ move ! (3 ∷ 0 ∷ []) $ join ! $
           frame ! $ feqI ! (List Val) (vptr b o ∷ []) (vptr b o ∷ []) refl $ fjoin3 ! $ nothing ! $ move ! (1 ∷ 0 ∷ []) $ fjoin ! $
           owned ! due.the-row (Is due.the-row) (enum.makes due.the-type due-laws.the-plain 𝓤 H A) d _ is $ move ! (1 ∷ 0 ∷ []) $ done !
 

@@ -43,7 +43,7 @@ use denote.Triple.Clauses.{lasts}
 use denote.Triple.Table.{entered, cited}
 use denote.Triple.Walked.{says, Stays, stay-none, walkOf, goes-none, ends-at, walked, walk-meets}
 use denote.Exit.{yes}
-use Rattle.session.specs.Control.{beat-at, clock-after, due-by, by-beat, step-at}
+use Rattle.session.specs.Control.{Advances, beat-at, clock-after, due-by, by-beat, step-at}
 use Rattle.session.specs.declared.Subscription.{Subscription}
 use Rattle.session.specs.declared.Clock.{Clock}
 use Rattle.session.specs.declared.Due.{Due}
@@ -90,10 +90,10 @@ module _ {M : Type 1} (𝓤 : URA M) (H : Heap 𝓤) (A : Atoms 𝓤) (W : Given
 
       -- what `advance` says of the clock at exit, and of its answer
       abbrev Said : Clock → Due → Type 0
-      Said h d = (h ≡ clock-after (beat-at n)) × (d ≡ due-by (beat-at n))
+      Said h d = Advances (record { ticks = n }) d h
 
       by-clock : (h : Clock) (d : Due) → Said h d → step-at x (h .ticks) d ≡ by-beat x (beat-at n)
-      by-clock h d said = rw (said .0, said .1)
+      by-clock h d said = rw (said .clock, said .time)
 
       abbrev held : Val
       held = struct.val subscription.the-type subscription-laws.the-laws x

@@ -42,7 +42,7 @@ use denote.Triple.Table.{entered, cited}
 use denote.Triple.Walked.{says, Stays, stay-none, stay-none-slice, walkOf, goes-none, goes-none-slice, ends-at, walked, walk-meets}
 use denote.Exit.{yes}
 use denote.Triple.Clauses.{lasts}
-use Rattle.frame.specs.Header.{header-of}
+use Rattle.frame.specs.Header.{header-of, RunReads}
 use Rattle.frame.specs.declared.RunRead.{RunRead}
 use Rattle.frame.proofs.Answers.{Bytes, lowered, owned-bytes, all-given, again, answered}
 use Rattle.frame.proofs.Header as head
@@ -121,7 +121,7 @@ module _ {M : Type 1} (𝓤 : URA M) (H : Heap 𝓤) (A : Atoms 𝓤) (W : Given
       Post = walkOf 𝓤 H A decide.ended stayed (decide.clauses 𝓤 H A mem run) .post entry
 
       abbrev Told : RunRead → Type 0
-      Told r = (r .header ≡ header-of (now s) n) × (now (r .field) ≡ drop 20 (now s))
+      Told r = RunReads (now s) n (r .header) (now (r .field))
 
       -- ==== what each callee is given
 
@@ -218,7 +218,7 @@ module _ {M : Type 1} (𝓤 : URA M) (H : Heap 𝓤) (A : Atoms 𝓤) (W : Given
           forget ! 14 refl $ forget ! 16 refl $ forget ! 18 refl $ move ! (18 ∷ 19 ∷ []) $ free1 ! $ move ! (16 ∷ 17 ∷ []) $ free1 ! $
           move ! (14 ∷ 15 ∷ []) $ free1 ! $ move ! (12 ∷ 13 ∷ []) $ free1 ! $ move ! (10 ∷ 11 ∷ []) $ free1 ! $
           move ! (8 ∷ 9 ∷ []) $ free1 ! $ move ! (6 ∷ 7 ∷ []) $ free1 ! $ move ! (4 ∷ 5 ∷ []) $ free1 ! $ free0 ! $
-          keep ! (0 ∷ 1 ∷ 3 ∷ []) $ by ! (exits d u′ is-x is-y fits (e′ ∙ rw (e .0, e .1))))))))))))))))
+          keep ! (0 ∷ 1 ∷ 3 ∷ []) $ by ! (exits d u′ is-x is-y fits (e′ ∙ rw (e .header, e .field))))))))))))))))
 
     decide-meets : Meets 𝓤 H A decide.signature (WpFn 𝓤 H (𝓣 .C) (𝓣 .Λ) code.function) (decide.spec 𝓤 H A mem run)
     decide-meets =

@@ -22,7 +22,7 @@ say-one-requires : tie.Need-say-one-requires
 say-one-requires c κs =
     let y = c .before .before .before in
     let p = y .before .before .before .before .before .before .before .before .before .pre in
-    say-lent p (y .put-reply .ensures .0) (y .put-reply .ensures .1)
+    say-lent p (y .put-reply .ensures .within) (y .put-reply .ensures .put)
 
 returns : tie.Need-returns
 returns c =
@@ -32,7 +32,7 @@ returns c =
     let g = e .before .before in
     let p = g .before .before .before .before .pre in
     answered p (y .before .settings .ensures .0) (run-is p (g .region-of .ensures) (e .before .run-bytes .ensures) (e .ended-in .ensures))
-    (y .put-reply .ensures .0) (y .put-reply .ensures .1) (o .say-one .ensures)
+    (y .put-reply .ensures .within) (y .put-reply .ensures .put) (o .say-one .ensures)
 
 pub answer-spec : {M : Type 1} → statement M
 answer-spec =

@@ -31,7 +31,7 @@ returns-2 : tie.Need-returns-2
 returns-2 c =
     let y = c .before .before in
     let w = rw (y .before .settings .ensures .0) at (y .put-copy .ensures) in
-    record { within = w .0; bytes = w .1 }
+    record { within = w .within; bytes = w .put }
 
 pub put-event-spec : {M : Type 1} → statement M
 put-event-spec =

@@ -20,7 +20,7 @@ loop-again : tie.Need-loop-again Inv-loop μ-loop
 loop-again c =
     let k = c .before .before .before .before in
     let t = k .before .before .before in
-    turns-next (t .before .loop .inv) (t .loop-test .taken) (k .tick-session .ensures .0) (k .tick-session .ensures .1)
+    turns-next (t .before .loop .inv) (t .loop-test .taken) (k .tick-session .ensures .within) (k .tick-session .ensures .went)
 
 pub tick-spec : {M : Type 1} → statement M
 tick-spec =
@@ -36,4 +36,5 @@ tick-spec =
     loop-again
     (λ c. c .before .loop .inv .size)
     (λ c. c .before .loop .inv .long)
-    (λ c. let e = turns-all (c .before .loop .inv) (c .loop-test .left) in (e .0, went-one {m = ticks} (e .1) (e .2))))
+    (λ c. let e = turns-all (c .before .loop .inv) (c .loop-test .left) in
+    record { within = e .0; went = went-one {m = ticks} (e .1) (e .2) }))

@@ -13,11 +13,12 @@ returns : tie.Need-returns
 returns c =
     let y = c .before .before in
     let k = y .before .before .before .before .before in
-    let l = y .put-close .ensures .0 in (
-      omega arith,
-      tick-passed (k .before .before .before .before .pre) (k .tick .ensures)
-          (rw (y .before .before .if1 .taken) (put-as (sym (append-nil _)) (y .put-close .ensures .1))),
-    )
+    let l = y .put-close .ensures .place in
+    record {
+      within = omega arith;
+      went = tick-passed (k .before .before .before .before .pre) (k .tick .ensures)
+          (rw (y .before .before .if1 .taken) (put-as (sym (append-nil _)) (y .put-close .ensures .put)));
+    }
 
 say-requires : tie.Need-say-requires
 say-requires c κs =
@@ -26,11 +27,12 @@ say-requires c κs =
 returns-2 : tie.Need-returns-2
 returns-2 c =
     let y = c .before .before in
-    let k = y .before .before .before .before .before .before .before in (
-      y .say .ensures .within,
-      tick-passed (k .before .before .before .before .pre) (k .tick .ensures)
-          (rw (y .before .before .before .before .if1 .left) (y .say .ensures .bytes)),
-    )
+    let k = y .before .before .before .before .before .before .before in
+    record {
+      within = y .say .ensures .within;
+      went = tick-passed (k .before .before .before .before .pre) (k .tick .ensures)
+          (rw (y .before .before .before .before .if1 .left) (y .say .ensures .bytes));
+    }
 
 pub tick-session-spec : {M : Type 1} → statement M
 tick-session-spec =
