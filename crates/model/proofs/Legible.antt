@@ -2,7 +2,7 @@
 -- the items there are. So the data of our frames reads back as the values that they were made of.
 use Prim.Native.Nat.{ℕ, zero, suc, _≤_, _<_, _^_}
 use mathlib.Core.Path.{_≡_, refl, sym, ap, _∙_}
-use mathlib.Core.Bool.{Bool, true, false, cond, and-eq-true-iff, true≢false}
+use mathlib.Core.Bool.{Bool, true, false, cond, true≢false}
 use mathlib.Core.List.{List, [], _∷_, _++_, append-nil}
 use native.Mathlib.Omega.{arith}
 use lib.Dec.{leb, eqb}
@@ -75,7 +75,7 @@ module _ (ss ts : List Item) (b : Sources) (s : all-within ss (b .settings) ≡ 
   all-legible [] f = refl
   all-legible (row ∷ rows) f =
       let g = both (row-fits ss ts row) (all (row-fits ss ts) rows) f in
-      and-eq-true-iff (legible b row) (all (legible b) rows) .1 (fit-legible row (g .0), all-legible rows (g .1))
+      rw (fit-legible row (g .0)) (all-legible rows (g .1))
 
   -- so a frame that has them reads back
   pub frame-back : (mid revision byte-12 : ℕ) (l : Layout) → all (row-fits ss ts) (l .rows) ≡ true
@@ -146,7 +146,7 @@ all-within-append [] (v ∷ vs) fs ws h k = absurd (true≢false (sym h))
 all-within-append (e ∷ es) [] fs ws h k = absurd (true≢false (sym h))
 all-within-append (e ∷ es) (v ∷ vs) fs ws h k =
     let t = both (is-within e v) (all-within es vs) h in
-    and-eq-true-iff (is-within e v) (all-within (es ++ fs) (vs ++ ws)) .1 (t .0, all-within-append es vs fs ws (t .1) k)
+    rw (t .0) (all-within-append es vs fs ws (t .1) k)
 
 pub tightened-clean : (r : Result) → Identifier (r .identifier) → Every Fit (r .tightening)
     → all-within reported-items (r .tightening) ≡ true → r .number ≤ number-greatest → CleanEvent (tightened r)
@@ -156,11 +156,8 @@ tightened-clean r h k w n =
     record {
       texts = (h .clean, every-append Fit (r .tightening) numbers k (tt, tt));
       within =
-          and-eq-true-iff (eqb (length (r .identifier)) identifier-length)
-          (all-within (reported-items ++ number-items) (r .tightening ++ numbers)) .1 (
-            eq-eqb (length (r .identifier)) identifier-length (h .whole),
-            all-within-append reported-items (r .tightening) number-items numbers w (rw (le-leb (r .number) number-greatest n)),
-          );
+          rw (eq-eqb (length (r .identifier)) identifier-length (h .whole))
+          (all-within-append reported-items (r .tightening) number-items numbers w (rw (le-leb (r .number) number-greatest n)));
       last = λ m l. n;
       in-force = λ y l. l;
     }

@@ -9,7 +9,7 @@ use native.Mathlib.Omega.{arith}
 use native.Mathlib.Decide.{ℕ-discrete}
 use lib.Dec.{eqb}
 use lib.ListN.{length, length-append}
-use borrow.Author.Tests.{eqb-true, eqb-false, eq-eqb, ne-eqb}
+use borrow.Author.Tests.{eq-eqb, ne-eqb}
 use Rattle.model.specs.Limits.{copy-every, given-up-at, most-repeats, most-copies, longest-wait}
 use Rattle.watch.specs.Marks.{Seen, copies-among, Every}
 use Rattle.watch.specs.Course.{PendingSeen, empty, busy, Eff, rest, lone, first, keep, wait, swap, wipe, over, pass, beat, again}
