@@ -125,9 +125,7 @@ digits-test n = rw (digit-test n, digit-test (n / 10), digit-test (n / 10 / 10),
 module _ (mid revision byte-12 : ℕ) (bs : List ℕ) where
   nul-frame : Shown byte-12 → NoNUL bs → NoNUL (frame mid revision byte-12 bs)
   unfolding frame header
-  nul-frame h k =
-      let size = header-length + length bs in
-      search (nul-append, nul-digits, nul-spaces)
+  nul-frame h k = search (nul-append, nul-digits, nul-spaces)
 
   framed : Shown byte-12 → NoNUL bs → length bs < 9_980 → Framed (frame mid revision byte-12 bs)
   unfolding frame header digits
