@@ -8,7 +8,7 @@ use native.Mathlib.Omega.{arith}
 use lib.Dec.{leb, eqb}
 use lib.ListN.{length, drop}
 use borrow.Author.Tests.{leb-true, ltb-true, eqb-true, le-leb, lt-ltb, eq-eqb}
-use Rattle.model.specs.Limits.{header-length, identifier-length, number-length, number-greatest}
+use Rattle.model.specs.Limits.{identifier-length, number-length, number-greatest}
 use Rattle.model.specs.Bytes.{space, digit-0, digit-1, all, digits}
 use Rattle.model.specs.Records.{Item, number as number-item, text as text-item, time, Value, counted, said, number-at, text-at}
 use Rattle.model.specs.Records.{Settings, settings-items, tightening-items, result-items, scanned-items}
@@ -49,11 +49,6 @@ text-within w (time ∷ es) (counted n ∷ vs) zero a f = absurd (true≢false (
 text-within w (time ∷ es) (said bs ∷ vs) zero a f =
     eq-eqb (length bs) w (eqb-true (length bs) _ (both _ (all-within es vs) a .0) ∙ eqb-true _ w f)
 
--- the data of a frame stands behind its header
-data-behind : (mid revision byte-12 : ℕ) (bs : List ℕ) → drop header-length (frame mid revision byte-12 bs) ≡ bs
-unfolding frame header digits
-data-behind mid revision byte-12 bs = refl
-
 -- sources whose values are within these items
 module _ (ss ts : List Item) (b : Sources) (s : all-within ss (b .settings) ≡ true) (t : all-within ts (b .told) ≡ true) where
   source-within : (from : ℕ) → all-within (cond (eqb from settings) ss ts) (source b from) ≡ true
@@ -80,9 +75,9 @@ module _ (ss ts : List Item) (b : Sources) (s : all-within ss (b .settings) ≡ 
   -- so a frame that has them reads back
   pub frame-back : (mid revision byte-12 : ℕ) (l : Layout) → all (row-fits ss ts) (l .rows) ≡ true
       → read-frame l (frame mid revision byte-12 (data-of l b)) ≡ values-in b l
+  unfolding frame header digits
   frame-back mid revision byte-12 l f =
-      let d = data-of l b in
-      ap (read-fields (l .numbered) (l .rows)) (data-behind mid revision byte-12 d ∙ sym (append-nil d))
+      ap (read-fields (l .numbered) (l .rows)) (sym (append-nil (data-of l b)))
       ∙ read-back b (l .numbered) (l .rows) 1 [] (all-legible (l .rows) f)
 
 -- what a tool reports besides the identifier
