@@ -239,7 +239,8 @@ framed-0002 st h =
 
 pub framed-0004 : (mid error : ℕ) → Framed (frame-0004 mid error)
 unfolding frame-0004
-framed-0004 mid error = framed-layout nothing (record { settings = tt; told = tt }) 4 1 space (layout-0004 mid error) (λ e. omega arith) refl
+framed-0004 mid error =
+    framed-layout nothing (record { settings = tt; told = tt }) 4 1 space (layout-0004 mid error) (λ e. omega arith) refl
 
 pub framed-0005 : (mid : ℕ) → Framed (frame-0005 mid)
 unfolding frame-0005
@@ -254,9 +255,9 @@ module _ (st : Settings) (clean : CleanSettings st) (revision : ℕ) (no-acknowl
   unfolding event-frame
   framed-event e h =
       let shown = either Shown no-acknowledge digit-1 digit-0 (λ z. omega arith) (λ z. omega arith) in
-      framed-layout (sources st (told-of e)) (record { settings = clean .texts; told = h .texts }) ((kind-at (kind-of e)) .notice) revision
-      (cond no-acknowledge digit-1 digit-0) (layout-at ((kind-at (kind-of e)) .layouts) revision) shown
-      (slim-notice e revision)
+      let kind = kind-at (kind-of e) in
+      framed-layout (sources st (told-of e)) (record { settings = clean .texts; told = h .texts }) (kind .notice) revision
+      (cond no-acknowledge digit-1 digit-0) (layout-at (kind .layouts) revision) shown (slim-notice e revision)
 
   pub notice-event : (e : Event) → is-notice (event-frame st revision no-acknowledge e) ≡ true
   unfolding event-frame frame header digits
