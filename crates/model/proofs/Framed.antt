@@ -9,7 +9,7 @@ use native.Mathlib.Omega.{arith}
 use lib.Dec.{leb, eqb}
 use lib.ListN.{length, getD, take, length-append, length-replicate}
 use borrow.Author.Tests.{le-leb, leb-true}
-use Rattle.model.specs.Limits.{header-length, identifier-length, number-greatest}
+use Rattle.model.specs.Limits.{identifier-length, number-greatest}
 use Rattle.model.specs.Bytes.{NUL, space, digit-0, digit-1, is-digit, is-text, all, spaces, decimal, digits}
 use Rattle.model.specs.Records.{Value, counted, said, text-in, value-at, number-at, text-at, Settings}
 use Rattle.model.specs.Layouts.{Sources, settings, source, Row, number, text, blank, known, width-of, characters, label-length}
@@ -125,9 +125,7 @@ digits-test n = rw (digit-test n, digit-test (n / 10), digit-test (n / 10 / 10),
 module _ (mid revision byte-12 : ℕ) (bs : List ℕ) where
   nul-frame : Shown byte-12 → NoNUL bs → NoNUL (frame mid revision byte-12 bs)
   unfolding frame header
-  nul-frame h k =
-      let size = header-length + length bs in
-      search (nul-append, nul-digits, nul-spaces)
+  nul-frame h k = search (nul-append, nul-digits, nul-spaces)
 
   framed : Shown byte-12 → NoNUL bs → length bs < 9_980 → Framed (frame mid revision byte-12 bs)
   unfolding frame header digits
@@ -234,9 +232,6 @@ pub record CleanEvent (e : Event) : Type 0 where
   pub last : (n : ℕ) → n ≤ number-greatest → last-after n e ≤ number-greatest
   pub in-force : (x : List ℕ) → Identifier x → Identifier (in-force-after x e)
 
-nothing-fits : Fits nothing
-nothing-fits = record { settings = tt; told = tt }
-
 pub framed-0002 : (st : Settings) → CleanSettings st → Framed (frame-0002 st)
 unfolding frame-0002
 framed-0002 st h =
@@ -244,14 +239,12 @@ framed-0002 st h =
 
 pub framed-0004 : (mid error : ℕ) → Framed (frame-0004 mid error)
 unfolding frame-0004
-framed-0004 mid error = framed-layout nothing nothing-fits 4 1 space (layout-0004 mid error) (λ e. omega arith) refl
+framed-0004 mid error =
+    framed-layout nothing (record { settings = tt; told = tt }) 4 1 space (layout-0004 mid error) (λ e. omega arith) refl
 
 pub framed-0005 : (mid : ℕ) → Framed (frame-0005 mid)
 unfolding frame-0005
-framed-0005 mid = framed-layout nothing nothing-fits 5 1 space (layout-0005 mid) (λ e. omega arith) refl
-
-byte-12-shown : (b : Bool) → Shown (cond b digit-1 digit-0)
-byte-12-shown b = either Shown b digit-1 digit-0 (λ e. omega arith) (λ e. omega arith)
+framed-0005 mid = framed-layout nothing (record { settings = tt; told = tt }) 5 1 space (layout-0005 mid) (λ e. omega arith) refl
 
 slim-notice : (e : Event) (revision : ℕ) → slim (layout-at ((kind-at (kind-of e)) .layouts) revision) ≡ true
 slim-notice (identified x) revision = at-every slim layouts-0052 refl revision
@@ -261,9 +254,10 @@ module _ (st : Settings) (clean : CleanSettings st) (revision : ℕ) (no-acknowl
   pub framed-event : (e : Event) → CleanEvent e → Framed (event-frame st revision no-acknowledge e)
   unfolding event-frame
   framed-event e h =
-      framed-layout (sources st (told-of e)) (record { settings = clean .texts; told = h .texts }) ((kind-at (kind-of e)) .notice) revision
-      (cond no-acknowledge digit-1 digit-0) (layout-at ((kind-at (kind-of e)) .layouts) revision) (byte-12-shown no-acknowledge)
-      (slim-notice e revision)
+      let shown = either Shown no-acknowledge digit-1 digit-0 (λ z. omega arith) (λ z. omega arith) in
+      let kind = kind-at (kind-of e) in
+      framed-layout (sources st (told-of e)) (record { settings = clean .texts; told = h .texts }) (kind .notice) revision
+      (cond no-acknowledge digit-1 digit-0) (layout-at (kind .layouts) revision) shown (slim-notice e revision)
 
   pub notice-event : (e : Event) → is-notice (event-frame st revision no-acknowledge e) ≡ true
   unfolding event-frame frame header digits

@@ -2,13 +2,13 @@
 -- the items there are. So the data of our frames reads back as the values that they were made of.
 use Prim.Native.Nat.{ℕ, zero, suc, _≤_, _<_, _^_}
 use mathlib.Core.Path.{_≡_, refl, sym, ap, _∙_}
-use mathlib.Core.Bool.{Bool, true, false, cond, and-eq-true-iff, true≢false}
+use mathlib.Core.Bool.{Bool, true, false, cond, true≢false}
 use mathlib.Core.List.{List, [], _∷_, _++_, append-nil}
 use native.Mathlib.Omega.{arith}
 use lib.Dec.{leb, eqb}
 use lib.ListN.{length, drop}
 use borrow.Author.Tests.{leb-true, ltb-true, eqb-true, le-leb, lt-ltb, eq-eqb}
-use Rattle.model.specs.Limits.{header-length, identifier-length, number-length, number-greatest}
+use Rattle.model.specs.Limits.{identifier-length, number-length, number-greatest}
 use Rattle.model.specs.Bytes.{space, digit-0, digit-1, all, digits}
 use Rattle.model.specs.Records.{Item, number as number-item, text as text-item, time, Value, counted, said, number-at, text-at}
 use Rattle.model.specs.Records.{Settings, settings-items, tightening-items, result-items, scanned-items}
@@ -49,11 +49,6 @@ text-within w (time ∷ es) (counted n ∷ vs) zero a f = absurd (true≢false (
 text-within w (time ∷ es) (said bs ∷ vs) zero a f =
     eq-eqb (length bs) w (eqb-true (length bs) _ (both _ (all-within es vs) a .0) ∙ eqb-true _ w f)
 
--- the data of a frame stands behind its header
-data-behind : (mid revision byte-12 : ℕ) (bs : List ℕ) → drop header-length (frame mid revision byte-12 bs) ≡ bs
-unfolding frame header digits
-data-behind mid revision byte-12 bs = refl
-
 -- sources whose values are within these items
 module _ (ss ts : List Item) (b : Sources) (s : all-within ss (b .settings) ≡ true) (t : all-within ts (b .told) ≡ true) where
   source-within : (from : ℕ) → all-within (cond (eqb from settings) ss ts) (source b from) ≡ true
@@ -75,14 +70,14 @@ module _ (ss ts : List Item) (b : Sources) (s : all-within ss (b .settings) ≡ 
   all-legible [] f = refl
   all-legible (row ∷ rows) f =
       let g = both (row-fits ss ts row) (all (row-fits ss ts) rows) f in
-      and-eq-true-iff (legible b row) (all (legible b) rows) .1 (fit-legible row (g .0), all-legible rows (g .1))
+      rw (fit-legible row (g .0)) (all-legible rows (g .1))
 
   -- so a frame that has them reads back
   pub frame-back : (mid revision byte-12 : ℕ) (l : Layout) → all (row-fits ss ts) (l .rows) ≡ true
       → read-frame l (frame mid revision byte-12 (data-of l b)) ≡ values-in b l
+  unfolding frame header digits
   frame-back mid revision byte-12 l f =
-      let d = data-of l b in
-      ap (read-fields (l .numbered) (l .rows)) (data-behind mid revision byte-12 d ∙ sym (append-nil d))
+      ap (read-fields (l .numbered) (l .rows)) (sym (append-nil (data-of l b)))
       ∙ read-back b (l .numbered) (l .rows) 1 [] (all-legible (l .rows) f)
 
 -- what a tool reports besides the identifier
@@ -146,7 +141,7 @@ all-within-append [] (v ∷ vs) fs ws h k = absurd (true≢false (sym h))
 all-within-append (e ∷ es) [] fs ws h k = absurd (true≢false (sym h))
 all-within-append (e ∷ es) (v ∷ vs) fs ws h k =
     let t = both (is-within e v) (all-within es vs) h in
-    and-eq-true-iff (is-within e v) (all-within (es ++ fs) (vs ++ ws)) .1 (t .0, all-within-append es vs fs ws (t .1) k)
+    rw (t .0) (all-within-append es vs fs ws (t .1) k)
 
 pub tightened-clean : (r : Result) → Identifier (r .identifier) → Every Fit (r .tightening)
     → all-within reported-items (r .tightening) ≡ true → r .number ≤ number-greatest → CleanEvent (tightened r)
@@ -156,11 +151,8 @@ tightened-clean r h k w n =
     record {
       texts = (h .clean, every-append Fit (r .tightening) numbers k (tt, tt));
       within =
-          and-eq-true-iff (eqb (length (r .identifier)) identifier-length)
-          (all-within (reported-items ++ number-items) (r .tightening ++ numbers)) .1 (
-            eq-eqb (length (r .identifier)) identifier-length (h .whole),
-            all-within-append reported-items (r .tightening) number-items numbers w (rw (le-leb (r .number) number-greatest n)),
-          );
+          rw (eq-eqb (length (r .identifier)) identifier-length (h .whole))
+          (all-within-append reported-items (r .tightening) number-items numbers w (rw (le-leb (r .number) number-greatest n)));
       last = λ m l. n;
       in-force = λ y l. l;
     }

@@ -14,15 +14,12 @@ use Rattle.model.proofs.Sessions.{session-next, session-emits}
 
 -- ==== moments one after another
 
-after-append : (w : World) (ms ns : List Moment) → after w (ms ++ ns) ≡ after (after w ms) ns
-after-append w [] ns = refl
-after-append w (m ∷ ms) ns = after-append (next w m) ms ns
-
-emitted-append : (w : World) (ms ns : List Moment) → emitted w (ms ++ ns) ≡ emitted w ms ++ emitted (after w ms) ns
-emitted-append w [] ns = refl
-emitted-append w (m ∷ ms) ns =
-    ap (emits w m ++_) (emitted-append (next w m) ms ns)
-    ∙ sym (append-assoc (emits w m) (emitted (next w m) ms) (emitted (after w (m ∷ ms)) ns))
+append-is : (w : World) (ms ns : List Moment)
+    → (after w (ms ++ ns) ≡ after (after w ms) ns) × (emitted w (ms ++ ns) ≡ emitted w ms ++ emitted (after w ms) ns)
+append-is w [] ns = (refl, refl)
+append-is w (m ∷ ms) ns =
+    let ih = append-is (next w m) ms ns in
+    (ih .0, rw (ih .1) (sym (append-assoc (emits w m) (emitted (next w m) ms) (emitted (after w (m ∷ ms)) ns))))
 
 -- a run of calls is its moments
 answered-is : (w : World) (c : Call) (n : ℕ)
@@ -37,10 +34,10 @@ run-is w (c ∷ cs) =
     let n = refusal (c .0) w (c .1) in
     let v = (step (c .0) w (c .1)) .0 in
     let a = answered-is w (c .1) n in
-    let ih = run-is v cs in (
-      ih .0 ∙ ap (λ (u : World). after u (moments-in v cs)) (a .0) ∙ sym (after-append w (moments-done n w (c .1)) (moments-in v cs)),
-      ap₂ _++_ (a .1) (ih .1 ∙ ap (λ (u : World). emitted u (moments-in v cs)) (a .0))
-          ∙ sym (emitted-append w (moments-done n w (c .1)) (moments-in v cs)),
+    let ih = run-is v cs in
+    let p = append-is w (moments-done n w (c .1)) (moments-in v cs) in (
+      ih .0 ∙ ap (λ (u : World). after u (moments-in v cs)) (a .0) ∙ sym (p .0),
+      ap₂ _++_ (a .1) (ih .1 ∙ ap (λ (u : World). emitted u (moments-in v cs)) (a .0)) ∙ sym (p .1),
     )
 
 -- ==== one session

@@ -79,22 +79,23 @@ pub record Coherent (w : World) (c : Call) : Type 0 where
   pub leaves : starts c ≡ false → (after w (at-most-one ((does w c) .moment))) .shared ≡ w .shared
 
 module _ (l : Lent) (w : World) where
-  -- no opening, and nobody speaks
-  no-opening : (s : ℕ) → false ≡ true → is-closed (session-at w s) ≡ true
-  no-opening s e = absurd (true≢false (sym e))
-
-  nobody : (t : ℕ) → none ≡ some t → t < session-count
-  nobody t e = absurd (there (sym e))
+  -- a call that opens nothing, and by which nobody speaks
+  silent : (c : Call) → ((s : ℕ) → Sees (sight s c) (its-part s ((does w c) .moment))) → ((s : ℕ) → (sight s c) .opens ≡ false)
+      → Source w c → speaker c ≡ none → ((s : ℕ) → (sight s c) .starts ≡ starts c)
+      → (starts c ≡ false → (after w (at-most-one ((does w c) .moment))) .shared ≡ w .shared) → Coherent w c
+  silent c sees shut source none-speaks alike leaves = record {
+    sees = sees;
+    opens = λ s e. absurd (true≢false (sym e ∙ shut s));
+    event = source;
+    speaks = λ t e. absurd (there (sym e ∙ none-speaks));
+    alike = alike;
+    leaves = leaves;
+  }
 
   pub coherent : (c : Call) → refusal l w c ≡ 0 → Coherent w c
-  coherent (start slice) h = record {
-    sees = λ s. go s (read-settings slice) (past (is-none (read-settings slice)) 8 0 (done l w (start slice) h .1) .0);
-    opens = no-opening;
-    event = no-event refl refl refl;
-    speaks = nobody;
-    alike = λ s. refl;
-    leaves = λ e. absurd (true≢false e);
-  }
+  coherent (start slice) h =
+      silent (start slice) (λ s. go s (read-settings slice) (past (is-none (read-settings slice)) 8 0 (done l w (start slice) h .1) .0))
+      (λ s. refl) (no-event refl refl refl) refl (λ s. refl) (λ e. absurd (true≢false e))
     where
       go : (s : ℕ) (o : Option Settings) → is-none o ≡ false → Sees (sight s (start slice)) (its-part s (option-map begins o))
       go s none e = absurd (true≢false e)
@@ -106,7 +107,7 @@ module _ (l : Lent) (w : World) where
         (not-false (is-closed (session-at w t))
         (past (not (is-closed (session-at w t))) 5 0 (past (leb session-count t) 3 _ (done l w (open-session t) h .1) .1) .0));
     event = no-event refl refl refl;
-    speaks = nobody;
+    speaks = λ s e. absurd (there (sym e));
     alike = λ s. refl;
     leaves = λ e. refl;
   }
@@ -114,21 +115,15 @@ module _ (l : Lent) (w : World) where
       go : (b : Bool) → Sees (sighted b false b false false none none none) (cond b opening elsewhere)
       go true = its-opening
       go false = nothing
-  coherent (hang-up-session t) h = record {
-    sees = λ s. go (eqb s t);
-    opens = no-opening;
-    event = no-event refl refl refl;
-    speaks = nobody;
-    alike = λ s. refl;
-    leaves = λ e. refl;
-  }
+  coherent (hang-up-session t) h =
+      silent (hang-up-session t) (λ s. go (eqb s t)) (λ s. refl) (no-event refl refl refl) refl (λ s. refl) (λ e. refl)
     where
       go : (b : Bool) → Sees (sighted b false false b false none none none) (cond b hang-up elsewhere)
       go true = its-hang-up
       go false = nothing
   coherent (bytes t bs) h = record {
     sees = λ s. go (eqb s t);
-    opens = no-opening;
+    opens = λ s e. absurd (true≢false (sym e));
     event = from-session t (cut bs) refl refl refl refl;
     speaks = λ s e.
         let q : t ≡ s = cc in
@@ -141,22 +136,8 @@ module _ (l : Lent) (w : World) where
           → Sees (sighted b false false false false (cond b (some (cut bs)) none) none (some t)) (cond b (receives (cut bs)) elsewhere)
       go true = its-bytes
       go false = nothing
-  coherent one-tick h = record {
-    sees = λ s. a-tick;
-    opens = no-opening;
-    event = no-event refl refl refl;
-    speaks = nobody;
-    alike = λ s. refl;
-    leaves = λ e. refl;
-  }
-  coherent (tool slice) h = record {
-    sees = λ s. nothing;
-    opens = no-opening;
-    event = go (read-tool slice) refl;
-    speaks = nobody;
-    alike = λ s. refl;
-    leaves = λ e. refl;
-  }
+  coherent one-tick h = silent one-tick (λ s. a-tick) (λ s. refl) (no-event refl refl refl) refl (λ s. refl) (λ e. refl)
+  coherent (tool slice) h = silent (tool slice) (λ s. nothing) (λ s. refl) (go (read-tool slice) refl) refl (λ s. refl) (λ e. refl)
     where
       go : (o : Option Tool) → read-tool slice ≡ o → Source w (tool slice)
       go none e = no-event e refl (rw e)

@@ -86,14 +86,10 @@ next-clean w h m c = go (m .leaves) (c .leaves)
 abbrev pub Silent : Settings → List (Tagged Emission) → Type 0
 Silent st es = Every (λ t. Follows st (t .what)) es
 
-module _ (st : Settings) where
-  silent-append : (xs ys : List (Tagged Emission)) → Silent st xs → Silent st ys → Silent st (xs ++ ys)
-  silent-append xs ys h k = every-append (λ t. Follows st (t .what)) xs ys h k
-
-  -- to whom no message is heard, no reply goes
-  unheard : {o : Option Message} {es : List Emission} → o ≡ none → Says st o es → Every (Follows st) es
-  unheard n (quiet h) = h
-  unheard n (answers e a f b h) = absurd (there (sym e ∙ n))
+-- to whom no message is heard, no reply goes
+unheard : {st : Settings} {o : Option Message} {es : List Emission} → o ≡ none → Says st o es → Every (Follows st) es
+unheard n (quiet h) = h
+unheard n (answers e a f b h) = absurd (there (sym e ∙ n))
 
 -- a moment of which no session hears a message
 abbrev Unheard : Moment → Type 0
@@ -114,9 +110,9 @@ one-silent : (w : World) → CleanWorld w → (m : Moment) → CleanMoment m →
 one-silent w h m c u =
     let st = w .shared .settings in (
       (c, tt),
-      silent-append st (emits w m) []
+      every-append (λ t. Follows st (t .what)) (emits w m) []
           (said-every (each w m) CleanSession (Follows st)
-          (λ s x k. unheard st (u s x) (step-clean (w .shared) (h .settings) (m .sees s) x (c .sees s) k .1)) 0 (w .sessions) (h .sessions))
+          (λ s x k. unheard (u s x) (step-clean (w .shared) (h .settings) (m .sees s) x (c .sees s) k .1)) 0 (w .sessions) (h .sessions))
           tt,
     )
 
@@ -169,10 +165,9 @@ pub data Sends (w : World) (c : Call) : List (Tagged Emission) → Type 0 where
 -- what goes out to one session, and after it what is silent
 sends-to : {w : World} {c : Call} (s : ℕ) {o : Option Message} {es : List Emission} (more : List (Tagged Emission))
     → Says (w .shared .settings) o es → completed w c s ≡ o → Silent (w .shared .settings) more → Sends w c (tag s es ++ more)
-sends-to {w = w} s more (quiet {es = es} h) e k =
-    let st = w .shared .settings in none-replies (silent-append st (tag s es) more (tag-every (Follows st) s es h) k)
-sends-to {w = w} s more (answers {es = es} f a b r h) e k =
-    let st = w .shared .settings in replies (e ∙ f) a b r (silent-append st (tag s es) more (tag-every (Follows st) s es h) k)
+sends-to s more (quiet {es = es} h) e k = none-replies (every-append (λ t. Follows _ (t .what)) (tag s es) more (tag-every _ s es h) k)
+sends-to s more (answers {es = es} f a b r h) e k =
+    replies (e ∙ f) a b r (every-append (λ t. Follows _ (t .what)) (tag s es) more (tag-every _ s es h) k)
 
 module _ (w : World) (h : CleanWorld w) where
   one-sends : (c : Call) (m : Moment) → CleanMoment m → Unheard m → Every CleanMoment (m ∷ []) × Sends w c (emitted w (m ∷ []))
