@@ -1,7 +1,7 @@
 -- DEMAND 3, OF THE PRODUCT: whatever calls are made after a start that is done, whatever they are lent, and only they write the table.
 use Prim.Native.Nat.{ℕ, _≤_, _<_}
-use mathlib.Core.Path.{_≡_, refl, sym, _∙_, ap, ap₂, subst}
-use mathlib.Core.Bool.{Bool, true, false, cond, _&&_, _||_}
+use mathlib.Core.Path.{_≡_, refl, sym, _∙_, ap, ap₂}
+use mathlib.Core.Bool.{Bool, true, false, cond, _&&_, _||_, and-false}
 use mathlib.Core.List.{List, [], _∷_, _++_, map}
 use mathlib.Core.Option.{none}
 use native.Mathlib.Omega.{arith}
@@ -52,8 +52,7 @@ told {t = t} w all-there h e (and {t₁ = t₁} {m = m} {ms = ms} out rest) =
         frames = λ s u. sym (frames-back s u (q .2) below);
         closes = λ s u. sym (closes-back s u (q .2) below);
       },
-      subst (λ (n : ℕ). Tells ms (turns (q .0) (lendings n ms))) (out .size)
-          (told (q .0) (step-many session-count l w (m .call) all-there) (table-left h out) (k .world) rest),
+      rw (out .size) at (told (q .0) (step-many session-count l w (m .call) all-there) (table-left h out) (k .world) rest),
     )
 
 -- no second start
@@ -83,10 +82,6 @@ demand-3-of-the-product {t = t} {ms = ms} h o =
     }
 
 -- ==== the story of the server that came back, of any turns that meet demand 3
-
-and-false : (b : Bool) → (b && false) ≡ false
-and-false true = refl
-and-false false = refl
 
 -- a hang-up, a time-out, an accepted stop and an accepted unsubscribe each leave the session not started and subscribed
 pub ends-subscription : (s kind : ℕ) (past : List Turn) (x : Turn)

@@ -30,7 +30,8 @@ use Rattle.watch.specs.Marks.{Demand3, InTime}
 use Rattle.watch.specs.Course.{PendingSeen, empty as none-waits, Course, end, call}
 use Rattle.watch.proofs.Theorem.{demand-3, goes-out-in-time}
 use Rattle.history.specs.Turns.{Turn, turn, turns, is-start}
-use Rattle.history.specs.Past.{run-with, run, ended, message, wish, is-some, identifier-event, spoken, event, shared, of-kind, takes-it}
+use Rattle.history.specs.Past.{run-with, run, ended, message, wish, is-some, identifier-event, spoken, event, shared, of-kind}
+use Rattle.history.specs.Past.{takes-it}
 use Rattle.history.specs.Demand.{seen-in, marks, NoStart}
 use Rattle.history.proofs.Subscriptions.{wish-in, view}
 use Rattle.history.proofs.Signals.{Signals, signals, silent-after}
@@ -220,8 +221,8 @@ module _ (w : World) (past : List Turn) (size : length (w .sessions) ≡ session
 
   done-moves : Moves (g .settings) g w past x w′
   done-moves =
-      moves-by w past like x w′ (after-length w moment ((does w c) .event) ∙ size) y tells call-steps ((does w c) .event) event-is leaves goes
-      beside
+      let o = (does w c) .event in
+      moves-by w past like x w′ (after-length w moment o ∙ size) y tells call-steps o event-is leaves goes beside
 
   done-sent : (s : ℕ) → s < session-count → Sent (is-some (message s past x)) (pick s (x .out))
   done-sent s h =

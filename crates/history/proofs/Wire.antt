@@ -225,8 +225,8 @@ on-the-wire h =
     let st = settings-of (payload (h .settings)) in
     let given = (start-passes (h .before) (h .settings) (sym (number-is (h .begins)) ∙ h .done)) .1 in
     on-the-wire-from (begun st 0) [] refl (begun-clean st 0 (settings-clean (h .settings) given))
-    (λ s u. rw (getD-replicate session-count s closed closed u) (false, λ kind. none, (refl, λ kind. refl))) (table-begun (h .begins) (h .done))
-    (begun-meaning (h .begins) (h .done)) (h .then)
+    (λ s u. rw (getD-replicate session-count s closed closed u) (false, λ kind. none, (refl, λ kind. refl)))
+    (table-begun (h .begins) (h .done)) (begun-meaning (h .begins) (h .done)) (h .then)
 
 -- the same of the six functions that C calls: of those of their calls that are made; the others leave the output as it was
 pub on-the-wire-of-the-exports : {t t′ : List ℕ} {ps : List Export} → ExportHistory t ps t′
