@@ -17,6 +17,7 @@ use Rattle.model.specs.Frames.{frame-record-kind, close-record-kind, frame-reco
 use Rattle.model.specs.Row.{Tagged, pick}
 use Rattle.model.specs.Session.{Emission, reply, copy, close}
 use Rattle.model.specs.Calls.{output-record, output}
+use Rattle.model.proofs.Framed.{either}
 use Rattle.watch.specs.Marks.{Every}
 use Rattle.controller.proofs.Outputs.{Below}
 use Rattle.history.specs.Turns.{frames-in, orders-close}
@@ -144,20 +145,16 @@ module _ (s : ℕ) (h : s < session-count) where
         → frames-read s (as-read t e ∷ rs) ≡ frames-in (cond (eqb t s) (e ∷ picked) picked)
     frames-more t (reply frame) u ih = a-frame t frame (reply frame) refl ih
     frames-more t (copy c) u ih = a-frame t (c .what .frame) (copy c) refl ih
-    frames-more t close u ih = rw (ne-eqb (close-record-kind t) (frame-record-kind s) (λ z. omega arith)) (go (eqb t s))
-      where
-        go : (b : Bool) → frames-read s rs ≡ frames-in (cond b (close ∷ picked) picked)
-        go true = ih
-        go false = ih
+    frames-more t close u ih =
+        rw (ne-eqb (close-record-kind t) (frame-record-kind s) (λ z. omega arith))
+        (either (λ (es : List Emission). frames-read s rs ≡ frames-in es) (eqb t s) (close ∷ picked) picked ih ih)
 
     no-close : (t : ℕ) (e : Emission) → t < session-count → orders-close (e ∷ picked) ≡ orders-close picked
         → close-read s rs ≡ orders-close picked → (bs : List ℕ)
         → close-read s (record { record-kind = frame-record-kind t; payload = bs } ∷ rs) ≡ orders-close (cond (eqb t s) (e ∷ picked) picked)
-    no-close t e u q ih bs = rw (ne-eqb (frame-record-kind t) (close-record-kind s) (λ z. omega arith)) (go (eqb t s))
-      where
-        go : (b : Bool) → close-read s rs ≡ orders-close (cond b (e ∷ picked) picked)
-        go true = ih ∙ sym q
-        go false = ih
+    no-close t e u q ih bs =
+        rw (ne-eqb (frame-record-kind t) (close-record-kind s) (λ z. omega arith))
+        (either (λ (es : List Emission). close-read s rs ≡ orders-close es) (eqb t s) (e ∷ picked) picked (ih ∙ sym q) ih)
 
     closes-more : (t : ℕ) (e : Emission) → t < session-count → close-read s rs ≡ orders-close picked
         → close-read s (as-read t e ∷ rs) ≡ orders-close (cond (eqb t s) (e ∷ picked) picked)
