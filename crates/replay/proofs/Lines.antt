@@ -70,11 +70,14 @@ pub lines-none : (bs : List ℕ) (size : ℕ) → size ≡ whole-size bs → siz
 unfolding lines-in
 lines-none bs size e z = rw (slices-none bs (length bs) (sym e ∙ z))
 
-module _ (r : Answer) (o : List ℕ) where
-  pub refused-text : (r .number ≡ 0 → ⊥) → ((0x52 ∷ space ∷ []) ++ digits 1 (r .number)) ++ 0x0A ∷ [] ≡ text-of r o
+-- what a call has printed: a refusal's number, or the lines of its records
+module _ (r : Answer) (o : List ℕ) {l : List ℕ} {at : ℕ} where
+  pub refused-text : {l₁ l₂ l₃ : List ℕ} {r₁ r₂ r₃ : ℕ} → (r .number ≡ 0 → ⊥) → Put l at (0x52 ∷ space ∷ []) r₁ l₁
+      → Put l₁ r₁ (digits 1 (r .number)) r₂ l₂ → Put l₂ r₂ (0x0A ∷ []) r₃ l₃ → Put l at (text-of r o) r₃ l₃
   unfolding text-of
-  refused-text h = rw (ne-eqb (r .number) 0 h)
+  refused-text h a b c = rw (ne-eqb (r .number) 0 h) (put-then (put-then a b) c)
 
-  pub done-text : r .number ≡ 0 → printed (lines-in (take (r .written) o)) ≡ text-of r o
+  pub done-text : {l₁ : List ℕ} {r₁ : ℕ} → r .number ≡ 0 → Put l at (printed (lines-in (take (r .written) o))) r₁ l₁
+      → Put l at (text-of r o) r₁ l₁
   unfolding text-of
-  done-text h = rw (eq-eqb (r .number) 0 h)
+  done-text h a = rw (eq-eqb (r .number) 0 h) a
