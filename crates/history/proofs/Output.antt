@@ -7,7 +7,7 @@ use mathlib.Core.List.{List, [], _∷_, _++_, map}
 use mathlib.Core.Option.{none, some}
 use native.Mathlib.Omega.{arith}
 use lib.Dec.{leb, eqb}
-use lib.ListN.{length, take, drop, length-append}
+use lib.ListN.{length, take, drop, length-append, length-take}
 use lib.Seq.{take-at, drop-at}
 use borrow.Author.Tests.{eqb-true, eqb-false, eq-eqb, ne-eqb, le-leb}
 use Rattle.model.specs.Limits.{session-count, output-least}
@@ -112,9 +112,11 @@ fits-all (x ∷ xs) b n =
     let a = length-append (bytes-of (record-of x)) (joined (map record-of xs)) in
     (fits-one (x .who) (x .what) (b .0) (omega arith), fits-all xs (b .1) (omega arith))
 
-pub read-written : (es : List (Tagged Emission)) → Below session-count es → length (output es) ≤ output-least
-    → read-output (output es) ≡ some (map record-of es)
-read-written es b n = read-back es (fits-all es b (rw (output-bytes es) at n))
+pub read-written : (es : List (Tagged Emission)) → Below session-count es → (n : ℕ) (o : List ℕ) → take n o ≡ output es
+    → n ≤ output-least → read-output (take n o) ≡ some (map record-of es)
+read-written es b n o e h =
+    let few : length (output es) ≤ output-least = omega (arith, ap length e, length-take n o) in
+    ap read-output e ∙ read-back es (fits-all es b (rw (output-bytes es) at few))
 
 -- ==== what a session is sent, read from the records
 

@@ -1,13 +1,12 @@
 -- DEMAND 3, OF THE PRODUCT: whatever calls are made after a start that is done, whatever they are lent, and only they write the table.
-use Prim.Native.Nat.{ℕ, _≤_, _<_}
+use Prim.Native.Nat.{ℕ, _<_}
 use mathlib.Core.Path.{_≡_, refl, sym, _∙_, ap, ap₂}
 use mathlib.Core.Bool.{Bool, true, false, cond, _&&_, _||_, and-false}
 use mathlib.Core.List.{List, [], _∷_, _++_, map}
 use mathlib.Core.Option.{none}
-use native.Mathlib.Omega.{arith}
 use lib.Dec.{eqb}
-use lib.ListN.{length, length-take}
-use Rattle.model.specs.Limits.{session-count, output-least}
+use lib.ListN.{length}
+use Rattle.model.specs.Limits.{session-count}
 use Rattle.model.specs.Records.{Settings, payload, settings-of}
 use Rattle.model.specs.World.{World, begun}
 use Rattle.model.specs.Calls.{Call, Answer as ModelAnswer, step}
@@ -22,7 +21,7 @@ use Rattle.controller.proofs.Modelled.{lending, one-call, begun-meaning}
 use Rattle.watch.specs.Marks.{copies, Demand3}
 use Rattle.history.specs.Turns.{Turn, turns, stops, subscribes, unsubscribes}
 use Rattle.history.specs.Past.{message, parts, started, wish-of, wish, is-some, subscribed, shared}
-use Rattle.history.specs.Output.{read-output, record-of}
+use Rattle.history.specs.Output.{record-of}
 use Rattle.history.specs.Demand.{mark, marks, past-after, NoStart}
 use Rattle.history.specs.Product.{Tells, Once, Meets}
 use Rattle.history.proofs.Output.{read-written, frames-back, closes-back}
@@ -39,16 +38,13 @@ told {t = t} w all-there h e (and {t₁ = t₁} {m = m} {ms = ms} out rest) =
     let k = one-call w h e out in
     let l = lending (length t) (length (m .output)) in
     let q = step l w (m .call) in
-    let below = step-below session-count l w (m .call) all-there in
-    let long = ap length (k .bytes) in
-    let taken = length-take (m .answer .written) (m .output-left) in
-    let most : m .answer .written ≤ output-least = out .fits in (
+    let below = step-below session-count l w (m .call) all-there in (
       record {
         call = refl;
         answer = sym (k .answer);
         bytes = sym (k .bytes);
         records = map record-of (q .2);
-        read = ap read-output (k .bytes) ∙ read-written (q .2) below (omega arith);
+        read = read-written (q .2) below (m .answer .written) (m .output-left) (k .bytes) (out .fits);
         frames = λ s u. sym (frames-back s u (q .2) below);
         closes = λ s u. sym (closes-back s u (q .2) below);
       },
