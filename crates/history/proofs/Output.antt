@@ -4,9 +4,9 @@ use Prim.Native.Nat.{ℕ, zero, suc, _+_, _-_, _*_, _/_, _%_, _≤_, _<_}
 use mathlib.Core.Path.{_≡_, refl, sym, _∙_, ap, ap₂}
 use mathlib.Core.Bool.{Bool, true, false, cond}
 use mathlib.Core.List.{List, [], _∷_, _++_, map}
-use mathlib.Core.Option.{none, some}
+use mathlib.Core.Option.{some}
 use native.Mathlib.Omega.{arith}
-use lib.Dec.{leb, eqb}
+use lib.Dec.{eqb}
 use lib.ListN.{length, take, drop, length-append, length-take}
 use lib.Seq.{take-at, drop-at}
 use borrow.Author.Tests.{eqb-true, eqb-false, eq-eqb, ne-eqb, le-leb}
@@ -45,13 +45,7 @@ two-bytes n h = omega arith
 read-next : (more b : ℕ) (bs rest : List ℕ) (r : RecordRead) → first-size (b ∷ bs) ≤ length (b ∷ bs) → first-read (b ∷ bs) ≡ r
     → drop (first-size (b ∷ bs)) (b ∷ bs) ≡ rest → read-within (suc more) (b ∷ bs) ≡ and-more r (read-within more rest)
 read-next more b bs rest r h e d =
-    go (leb (first-size (b ∷ bs)) (length (b ∷ bs))) (le-leb (first-size (b ∷ bs)) (length (b ∷ bs)) h)
-  where
-    go : (t : Bool) → t ≡ true
-        → elim t [ true ↦ and-more (first-read (b ∷ bs)) (read-within more (drop (first-size (b ∷ bs)) (b ∷ bs))) | false ↦ none ]
-        ≡ and-more r (read-within more rest)
-    go true q = ap₂ and-more e (ap (read-within more) d)
-    go false q = absurd (let z : _≡_ {A = ℕ} 0 1 = cc in omega arith)
+    rw (le-leb (first-size (b ∷ bs)) (length (b ∷ bs)) h, read-within) (ap₂ and-more e (ap (read-within more) d))
 
 record-next : (more : ℕ) (r : RecordRead) (rest : List ℕ) → Fits r
     → read-within (suc more) (bytes-of r ++ rest) ≡ and-more r (read-within more rest)
