@@ -4,10 +4,10 @@ use Prim.Native.Nat.{ℕ, zero, suc, _+_, _-_, _*_, _/_, _%_, _≤_, _<_}
 use mathlib.Core.Path.{_≡_, refl, sym, _∙_, ap, ap₂}
 use mathlib.Core.Bool.{Bool, true, false, cond}
 use mathlib.Core.List.{List, [], _∷_, _++_, map}
-use mathlib.Core.Option.{none, some}
+use mathlib.Core.Option.{some}
 use native.Mathlib.Omega.{arith}
-use lib.Dec.{leb, eqb}
-use lib.ListN.{length, take, drop, length-append}
+use lib.Dec.{eqb}
+use lib.ListN.{length, take, drop, length-append, length-take}
 use lib.Seq.{take-at, drop-at}
 use borrow.Author.Tests.{eqb-true, eqb-false, eq-eqb, ne-eqb, le-leb}
 use Rattle.model.specs.Limits.{session-count, output-least}
@@ -17,6 +17,7 @@ use Rattle.model.specs.Frames.{frame-record-kind, close-record-kind, frame-reco
 use Rattle.model.specs.Row.{Tagged, pick}
 use Rattle.model.specs.Session.{Emission, reply, copy, close}
 use Rattle.model.specs.Calls.{output-record, output}
+use Rattle.model.proofs.Framed.{either}
 use Rattle.watch.specs.Marks.{Every}
 use Rattle.controller.proofs.Outputs.{Below}
 use Rattle.history.specs.Turns.{frames-in, orders-close}
@@ -44,13 +45,7 @@ two-bytes n h = omega arith
 read-next : (more b : ℕ) (bs rest : List ℕ) (r : RecordRead) → first-size (b ∷ bs) ≤ length (b ∷ bs) → first-read (b ∷ bs) ≡ r
     → drop (first-size (b ∷ bs)) (b ∷ bs) ≡ rest → read-within (suc more) (b ∷ bs) ≡ and-more r (read-within more rest)
 read-next more b bs rest r h e d =
-    go (leb (first-size (b ∷ bs)) (length (b ∷ bs))) (le-leb (first-size (b ∷ bs)) (length (b ∷ bs)) h)
-  where
-    go : (t : Bool) → t ≡ true
-        → elim t [ true ↦ and-more (first-read (b ∷ bs)) (read-within more (drop (first-size (b ∷ bs)) (b ∷ bs))) | false ↦ none ]
-        ≡ and-more r (read-within more rest)
-    go true q = ap₂ and-more e (ap (read-within more) d)
-    go false q = absurd (let z : _≡_ {A = ℕ} 0 1 = cc in omega arith)
+    rw (le-leb (first-size (b ∷ bs)) (length (b ∷ bs)) h, read-within) (ap₂ and-more e (ap (read-within more) d))
 
 record-next : (more : ℕ) (r : RecordRead) (rest : List ℕ) → Fits r
     → read-within (suc more) (bytes-of r ++ rest) ≡ and-more r (read-within more rest)
@@ -111,9 +106,11 @@ fits-all (x ∷ xs) b n =
     let a = length-append (bytes-of (record-of x)) (joined (map record-of xs)) in
     (fits-one (x .who) (x .what) (b .0) (omega arith), fits-all xs (b .1) (omega arith))
 
-pub read-written : (es : List (Tagged Emission)) → Below session-count es → length (output es) ≤ output-least
-    → read-output (output es) ≡ some (map record-of es)
-read-written es b n = read-back es (fits-all es b (rw (output-bytes es) at n))
+pub read-written : (es : List (Tagged Emission)) → Below session-count es → (n : ℕ) (o : List ℕ) → take n o ≡ output es
+    → n ≤ output-least → read-output (take n o) ≡ some (map record-of es)
+read-written es b n o e h =
+    let few : length (output es) ≤ output-least = omega (arith, ap length e, length-take n o) in
+    ap read-output e ∙ read-back es (fits-all es b (rw (output-bytes es) at few))
 
 -- ==== what a session is sent, read from the records
 
@@ -144,20 +141,16 @@ module _ (s : ℕ) (h : s < session-count) where
         → frames-read s (as-read t e ∷ rs) ≡ frames-in (cond (eqb t s) (e ∷ picked) picked)
     frames-more t (reply frame) u ih = a-frame t frame (reply frame) refl ih
     frames-more t (copy c) u ih = a-frame t (c .what .frame) (copy c) refl ih
-    frames-more t close u ih = rw (ne-eqb (close-record-kind t) (frame-record-kind s) (λ z. omega arith)) (go (eqb t s))
-      where
-        go : (b : Bool) → frames-read s rs ≡ frames-in (cond b (close ∷ picked) picked)
-        go true = ih
-        go false = ih
+    frames-more t close u ih =
+        rw (ne-eqb (close-record-kind t) (frame-record-kind s) (λ z. omega arith))
+        (either (λ (es : List Emission). frames-read s rs ≡ frames-in es) (eqb t s) (close ∷ picked) picked ih ih)
 
     no-close : (t : ℕ) (e : Emission) → t < session-count → orders-close (e ∷ picked) ≡ orders-close picked
         → close-read s rs ≡ orders-close picked → (bs : List ℕ)
         → close-read s (record { record-kind = frame-record-kind t; payload = bs } ∷ rs) ≡ orders-close (cond (eqb t s) (e ∷ picked) picked)
-    no-close t e u q ih bs = rw (ne-eqb (frame-record-kind t) (close-record-kind s) (λ z. omega arith)) (go (eqb t s))
-      where
-        go : (b : Bool) → close-read s rs ≡ orders-close (cond b (e ∷ picked) picked)
-        go true = ih ∙ sym q
-        go false = ih
+    no-close t e u q ih bs =
+        rw (ne-eqb (frame-record-kind t) (close-record-kind s) (λ z. omega arith))
+        (either (λ (es : List Emission). close-read s rs ≡ orders-close es) (eqb t s) (e ∷ picked) picked (ih ∙ sym q) ih)
 
     closes-more : (t : ℕ) (e : Emission) → t < session-count → close-read s rs ≡ orders-close picked
         → close-read s (as-read t e ∷ rs) ≡ orders-close (cond (eqb t s) (e ∷ picked) picked)

@@ -95,13 +95,9 @@ Numbered kind xs = Every (λ (x : Seen). mid-of (x .frame) ≡ notice kind) xs
 abbrev AllNumbered : (ℕ → List Seen) → Type 0
 AllNumbered xs = (kind : ℕ) → kind < length kinds → Numbered kind (xs kind)
 
-numbered-front : (kind : ℕ) (xs ys : List Seen) → Numbered kind (xs ++ ys) → Numbered kind xs
-numbered-front kind [] ys h = tt
-numbered-front kind (x ∷ xs) ys h = (h .0, numbered-front kind xs ys (h .1))
-
-numbered-back : (kind : ℕ) (xs ys : List Seen) → Numbered kind (xs ++ ys) → Numbered kind ys
-numbered-back kind [] ys h = h
-numbered-back kind (x ∷ xs) ys h = numbered-back kind xs ys (h .1)
+numbered-parts : (kind : ℕ) (xs ys : List Seen) → Numbered kind (xs ++ ys) → Numbered kind xs × Numbered kind ys
+numbered-parts kind [] ys h = (tt, h)
+numbered-parts kind (x ∷ xs) ys h = let k = numbered-parts kind xs ys (h .1) in ((h .0, k .0), k .1)
 
 abbrev AreFrames : ℕ → List Emission → Type 0
 AreFrames kind es = map (λ (x : Seen). x .frame) (seen-in kind es) ≡ of-number (notice kind) (frames-in es)
@@ -146,8 +142,8 @@ turns-are-frames st s kind u past [] q n = tt
 turns-are-frames st s kind u past (x ∷ xs) q n =
     let es = pick s (x .out) in
     let more : ℕ → List Seen = λ j. all-sent (marks st s j (x ∷ past) xs) in (
-      are-frames kind u es (q .0) (λ j v. numbered-front j (seen-in j es) (more j) (n j v)),
-      turns-are-frames st s kind u (x ∷ past) xs (q .1) (λ j v. numbered-back j (seen-in j es) (more j) (n j v)),
+      are-frames kind u es (q .0) (λ j v. numbered-parts j (seen-in j es) (more j) (n j v) .0),
+      turns-are-frames st s kind u (x ∷ past) xs (q .1) (λ j v. numbered-parts j (seen-in j es) (more j) (n j v) .1),
     )
 
 -- THE COPIES COUNTED, of every run of the model's calls after a start

@@ -48,7 +48,7 @@ use Rattle.history.specs.Past.{run-with, ended, Wish, wish-of, is-some, 
 use Rattle.history.specs.Past.{identifier-event, frame-for, of-kind}
 use Rattle.history.specs.Demand.{copies-in, seen, seen-in}
 use Rattle.history.proofs.Subscriptions.{wish-in, as-seen, view, is-newest, Done, unchanged, wiped, beats-does, news-does, asks-does}
-use Rattle.history.proofs.Subscriptions.{drops-does, acks-does, beats-wish, news-wish, acks-wish, asks-wish}
+use Rattle.history.proofs.Subscriptions.{drops-does, acks-does, asks-wish}
 use Rattle.history.proofs.Signals.{Signals, signals, silence, copies-silent, reply-first, silent-0004, welcome-0002, silent-other}
 use Rattle.history.proofs.Signals.{accepting, accepting-0005}
 use Rattle.history.proofs.Sendings.{Sent, sent-dealt, own-0002, own-0004, own-0005}
@@ -359,10 +359,10 @@ module _ (g : Shared) (R : SessionRead) (i : ℕ) (run : Run) (subs : List Subsc
       let good = passed standing e (m .size) (m .revision) (m .data-field) h .0 in
       dealt-steps (only j acks) (map copy (said (deal (g .settings) (only j acks)) 0 subs)) silence
       (copies-silent (g .settings) (only j acks) subs) (λ kind. refl) (like .1)
-      (λ kind u. like .2 kind u ∙ sym (acks-wish (room-of kind) (eqb kind j) (sub kind)))
+      (λ kind u. like .2 kind u ∙ sym (acks-does (newest kind) (g .settings) (g .events) (room-of kind) (eqb kind j) (sub kind) .1))
       (λ kind.
       rw (acks-if real e known (acknowledging j) q kind, good, and-true (eqb kind j))
-      (acks-does (newest kind) (g .settings) (g .events) (room-of kind) (eqb kind j) (sub kind))) refl
+      (acks-does (newest kind) (g .settings) (g .events) (room-of kind) (eqb kind j) (sub kind) .0)) refl
       (sent-dealt (g .settings) true (only j acks) subs (like .3))
   carry-steps real e known h mirrors q =
       let c = mirrored real e known mirrors q in
@@ -476,12 +476,13 @@ module _ (g : Shared) (R : SessionRead) where
         l .1,
         λ kind h.
             l .2 kind h
-            ∙ sym (ap wish-in (dealt-at g D subs (l .3) kind h) ∙ beats-wish (room-of kind) (getD subs kind unsubscribed)),
+            ∙ sym (ap wish-in (dealt-at g D subs (l .3) kind h)
+            ∙ beats-does (newest kind) (g .settings) (g .events) (room-of kind) (getD subs kind unsubscribed) .1),
         length-row (deal (g .settings) D) 0 subs ∙ l .3,
       )
       (λ kind h.
       dealt-does g D subs (l .3) kind h (g .events) (suc i) run
-      (beats-does (newest kind) (g .settings) (g .events) (room-of kind) (getD subs kind unsubscribed)))
+      (beats-does (newest kind) (g .settings) (g .events) (room-of kind) (getD subs kind unsubscribed) .0))
       (sent-dealt (g .settings) false D subs (l .3)) refl)
 
   -- bytes; b: a NUL ends the run
@@ -607,21 +608,18 @@ event-steps g (some e) R (opened i run) l = record {
 }
 event-steps g (some e) R (started i run subs) l =
     let D = only (kind-of e) (news (notice-of g e)) in
+    let new : (kind : ℕ) → kind < length kinds → _ = λ kind h.
+    news-does (newest kind) (g .settings) (g .events) (room-of kind) (rooms-small kind h) refl e kind (getD subs kind unsubscribed) in
     record {
       silent = copies-silent (g .settings) D subs;
       like = (
         l .0,
         l .1,
-        λ kind h.
-            l .2 kind h
-            ∙ sym (ap wish-in (dealt-at g D subs (l .3) kind h)
-            ∙ news-wish (room-of kind) (eqb kind (kind-of e)) (notice-of g e) (getD subs kind unsubscribed)),
+        λ kind h. l .2 kind h ∙ sym (ap wish-in (dealt-at g D subs (l .3) kind h) ∙ new kind h .1),
         length-row (deal (g .settings) D) 0 subs ∙ l .3,
       );
       sent = sent-dealt (g .settings) false D subs (l .3);
-      does = λ kind h.
-          dealt-does g D subs (l .3) kind h (suc (g .events)) i run
-          (news-does (newest kind) (g .settings) (g .events) (room-of kind) (rooms-small kind h) refl e kind (getD subs kind unsubscribed));
+      does = λ kind h. dealt-does g D subs (l .3) kind h (suc (g .events)) i run (new kind h .0);
     }
 
 -- after a step

@@ -1,7 +1,7 @@
 -- Every call of the model does, to the notices of each kind to each session, one of the things that a call can do. No call is looked at
 -- for itself: what it does is read off the model's two tables of calls.
 use Prim.Native.Nat.{ℕ, zero, suc, _<_}
-use mathlib.Core.Path.{_≡_, refl, sym, _∙_, ap, ap₂, subst}
+use mathlib.Core.Path.{_≡_, refl, sym, _∙_, ap, subst}
 use mathlib.Core.Bool.{Bool, true, false, cond, _&&_}
 use mathlib.Core.List.{List, [], _∷_, _++_}
 use mathlib.Core.Option.{Option, none, some, Option·map as option-map}
@@ -27,10 +27,10 @@ use Rattle.model.proofs.Takers.{in-takers}
 use Rattle.model.proofs.Sights.{its-part, Sees, nothing, its-bytes, coherent}
 use Rattle.model.proofs.Sights.{Source, no-event, a-report, from-session, told, goes-to, after-length, after-shared}
 use Rattle.watch.specs.Marks.{Demand3, InTime}
-use Rattle.watch.specs.Course.{PendingSeen, empty as none-waits, Course, end, call}
+use Rattle.watch.specs.Course.{empty as none-waits, Course, end, call}
 use Rattle.watch.proofs.Theorem.{demand-3, goes-out-in-time}
 use Rattle.history.specs.Turns.{Turn, turn, turns, is-start}
-use Rattle.history.specs.Past.{run-with, run, ended, message, wish, is-some, identifier-event, spoken, event, shared, of-kind, takes-it}
+use Rattle.history.specs.Past.{run-with, run, ended, message, wish, is-some, spoken, event, shared}
 use Rattle.history.specs.Demand.{seen-in, marks, NoStart}
 use Rattle.history.proofs.Subscriptions.{wish-in, view}
 use Rattle.history.proofs.Signals.{Signals, signals, silent-after}
@@ -109,9 +109,7 @@ module _ (w : World) (past : List Turn) (size : length (w .sessions) ≡ session
   goes s h = rw (coherent l w c done .leaves no-start) at (goes-to w s (omega arith) moment ((does w c) .event))
 
   pub leaves : (after w (moments w c)) .shared ≡ shared-with g ((does w c) .event)
-  leaves =
-      after-shared w moment ((does w c) .event) ∙ ap (λ (v : Shared). shared-with v ((does w c) .event))
-      (coherent l w c done .leaves no-start)
+  leaves = after-shared w moment ((does w c) .event) ∙ rw (coherent l w c done .leaves no-start)
 
   -- ---- what is read of the event
 
@@ -133,10 +131,8 @@ module _ (w : World) (past : List Turn) (size : length (w .sessions) ≡ session
       let shows : signals (pick t (x .out)) ≡ signals ((y t) .1) =
       ap signals (goes t inside .1)
       ∙ silent-after ((y t) .1) ((told g o ((y t) .0)) .1) (then-steps o (call-steps t inside) .silent) in
-      ap₂ (λ (b : Bool) (q : Option Piece). cond b (identifier-event (ended (run t past) q)) none)
-      (ap (λ (sg : Signals). sg .accepts (λ m. m .identifies)) shows ∙ (call-steps t inside) .tells
-      ∙ ap (λ (q : Option Piece). tells-of g (session-read t past) q (session-at w t)) given) given
-      ∙ sym (told-steps g (session-read t past) p (session-at w t) (like t inside)) ∙ sym ev
+      let told-so = ap (λ (sg : Signals). sg .accepts (λ m. m .identifies)) shows ∙ (call-steps t inside) .tells in
+      rw (told-so, given, ev) (sym (told-steps g (session-read t past) p (session-at w t) (like t inside)))
 
   event-is : event g past x ≡ (does w c) .event
   event-is = go (coherent l w c done .event)
@@ -159,10 +155,9 @@ module _ (w : World) (past : List Turn) (size : length (w .sessions) ≡ session
           mild = λ kind u. rw mom (q .1 kind);
           no-tick = q .0;
           taken = λ kind u.
-              ap₂ (λ (o : Option Event) (t : Option Tool). of-kind kind o && takes-it s x t (is-some (wish s kind past)))
-              (event-is ∙ is) rep
-              ∙ at-kind (λ j. in-sum s ((does w c) .taken)) (λ j. takes-in j ((y s) .0)) kind (kind-of e)
-              (ap (in-sum s) tk ∙ in-takers (kind-of (reported g r)) s (w .sessions) ∙ rw (mom, same));
+              rw (event-is ∙ is, rep)
+              (at-kind (λ j. in-sum s ((does w c) .taken)) (λ j. takes-in j ((y s) .0)) kind (kind-of e)
+              (ap (in-sum s) tk ∙ in-takers (kind-of (reported g r)) s (w .sessions) ∙ rw (mom, same)));
         }
 
     -- the identifier that a session's bytes make known
@@ -176,8 +171,8 @@ module _ (w : World) (past : List Turn) (size : length (w .sessions) ≡ session
       mild = λ kind u. known .1 kind u;
       no-tick = known .0;
       taken = λ kind u.
-          ap₂ (λ (o : Option Event) (q : Option Tool). of-kind kind o && takes-it s x q (is-some (wish s kind past))) (event-is ∙ is) rep
-          ∙ at-kind (λ j. is-some (wish s j past)) (λ j. takes-in j ((y s) .0)) kind (kind-of e) (rw (told-as .1) taken-so);
+          rw (event-is ∙ is, rep)
+          (at-kind (λ j. is-some (wish s j past)) (λ j. takes-in j ((y s) .0)) kind (kind-of e) (rw (told-as .1) taken-so));
     }
       where
         told-as : (is-some (announces g p (session-at w t)) ≡ true) × (kind-of e ≡ identifiers)
@@ -189,9 +184,7 @@ module _ (w : World) (past : List Turn) (size : length (w .sessions) ≡ session
         by true q z =
             let k = heard z in (
               k .1,
-              (call-steps s h) .mild
-                  (ap (λ (o : Option Piece). tells-of g (session-read s past) o (session-at w s)) (k .0)
-                  ∙ ap (λ (n : ℕ). is-some (announces g p (session-at w n))) (eqb-true s t q) ∙ told-as .0),
+              (call-steps s h) .mild (rw (k .0, eqb-true s t q) (told-as .0)),
             )
         by false q z = let k = unseen g (run s past) (session-at w s) z in (k .0, λ kind u. rw (mom, q) (k .1 kind))
 
@@ -220,8 +213,8 @@ module _ (w : World) (past : List Turn) (size : length (w .sessions) ≡ session
 
   done-moves : Moves (g .settings) g w past x w′
   done-moves =
-      moves-by w past like x w′ (after-length w moment ((does w c) .event) ∙ size) y tells call-steps ((does w c) .event) event-is leaves goes
-      beside
+      let o = (does w c) .event in
+      moves-by w past like x w′ (after-length w moment o ∙ size) y tells call-steps o event-is leaves goes beside
 
   done-sent : (s : ℕ) → s < session-count → Sent (is-some (message s past x)) (pick s (x .out))
   done-sent s h =
@@ -267,7 +260,7 @@ module _ (st : Settings) (w : World) (past : List Turn) (l : Lent) (c : Call) (a
 
   pub moves : is-start (turn c (step l w c)) ≡ false → Moves st (shared st past) w past (turn c (step l w c)) ((step l w c) .0)
   moves ns =
-      subst (λ (v : Settings). Moves v (shared st past) w past (turn c (step l w c)) ((step l w c) .0)) (settings-stay st past)
+      rw (settings-stay st past) at
       (subst (λ (v : Shared). Moves (v .settings) v w past (turn c (step l w c)) ((step l w c) .0)) (a .sharing) (call-moves ns))
 
   -- what goes out to session s
@@ -291,7 +284,7 @@ module _ (st : Settings) where
   agrees-begun = record {
     sharing = refl;
     size = refl;
-    like = λ s h. subst (Like (session-read s [])) (sym (getD-replicate session-count s closed closed h)) (refl, λ kind. refl);
+    like = λ s h. rw (getD-replicate session-count s closed closed h) (refl, λ kind. refl);
   }
 
   pub course-of : (w : World) (past : List Turn) (cs : List (Lent × Call)) → Agrees st w past → NoStart (turns w cs)
@@ -309,9 +302,7 @@ module _ (st : Settings) where
   -- DEMAND 3, of every run of the model's calls after a start
   module _ (cs : List (Lent × Call)) (ns : NoStart (turns (begun st 0) cs)) (s : ℕ) (h : s < session-count) where
     begun-course : (kind : ℕ) → kind < length kinds → Course (newest kind) 0 none-waits (marks st s kind [] (turns (begun st 0) cs))
-    begun-course kind u =
-        subst (λ (q : PendingSeen). Course (newest kind) 0 q (marks st s kind [] (turns (begun st 0) cs))) (view-begun s h kind)
-        (course-of (begun st 0) [] cs agrees-begun ns s h kind u)
+    begun-course kind u = rw (view-begun s h kind) at (course-of (begun st 0) [] cs agrees-begun ns s h kind u)
 
     pub demand-3-of-runs : (kind : ℕ) → kind < length kinds → Demand3 (marks st s kind [] (turns (begun st 0) cs))
     demand-3-of-runs kind u = demand-3 (begun-course kind u)

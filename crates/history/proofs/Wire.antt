@@ -1,16 +1,16 @@
 -- WHAT A LINE SERVER SEES, OF THE PRODUCT: whatever calls are made after a start that is done, whatever they are lent, and only they write
 -- the table. Each frame is read alike by its NUL and by its length; a reply is the first that its call wrote, and answers the message that
 -- this call completed, to the session that sent it.
-use Prim.Native.Nat.{ℕ, zero, suc, _≤_, _<_}
+use Prim.Native.Nat.{ℕ, zero, suc, _<_}
 use mathlib.Core.Path.{_≡_, refl, sym, _∙_, ap, subst}
 use mathlib.Core.Bool.{Bool, true, false, cond, true≢false}
 use mathlib.Core.List.{List, [], _∷_, _++_, map}
 use mathlib.Core.Option.{Option, none, some}
 use native.Mathlib.Omega.{arith}
 use lib.Dec.{eqb, eqb·suc-zero}
-use lib.ListN.{length, take, getD-replicate, length-take}
+use lib.ListN.{length, take, getD-replicate}
 use borrow.Author.Tests.{eqb-true}
-use Rattle.model.specs.Limits.{session-count, output-least}
+use Rattle.model.specs.Limits.{session-count}
 use Rattle.model.specs.Bytes.{NUL}
 use Rattle.model.specs.Records.{payload, Settings, settings-of}
 use Rattle.model.specs.Runs.{Run, empty-run, longer, Piece, cut, consumed-by, Message, read-run}
@@ -39,7 +39,7 @@ use Rattle.controller.proofs.Traces.{number-is, table-left, table-begun}
 use Rattle.controller.proofs.Modelled.{lending, one-call, begun-meaning}
 use Rattle.history.specs.Turns.{Turn}
 use Rattle.history.specs.Past.{run-with, run, Wish}
-use Rattle.history.specs.Output.{read-output, as-read, record-of}
+use Rattle.history.specs.Output.{as-read, record-of}
 use Rattle.history.specs.Exports.{Export, ExportHistory, CallsOf}
 use Rattle.history.specs.Wire.{Whole, a-frame, an-order, asked, Completes, NoReply, a-notice, to-close, Replies, none-replies}
 use Rattle.history.specs.Wire.{replies}
@@ -128,28 +128,24 @@ ended-by (started i run subs) bs p m k e = read-by run bs (p .bytes) m (k .2 .0)
 -- ==== the records of what goes out
 
 module _ (st : Settings) where
-  no-reply : (s : ℕ) (e : Emission) → Follows st e → NoReply (as-read s e)
-  no-reply s (reply frame) h = absurd h
-  no-reply s (copy c) h = a-notice s (c .what .frame) (h .1)
-  no-reply s close h = to-close s
+  -- what follows is no reply, and whole
+  follows-read : (s : ℕ) (e : Emission) → s < session-count → Follows st e → NoReply (as-read s e) × Whole (as-read s e)
+  follows-read s (reply frame) u h = absurd h
+  follows-read s (copy c) u h = (a-notice s (c .what .frame) (h .1), a-frame s (c .what .frame) u (h .0))
+  follows-read s close u h = (to-close s, an-order s u)
 
-  no-replies : (es : List (Tagged Emission)) → Silent st es → Every NoReply (map record-of es)
-  no-replies [] h = tt
-  no-replies (x ∷ xs) h = (no-reply (x .who) (x .what) (h .0), no-replies xs (h .1))
-
-  whole : (s : ℕ) (e : Emission) → s < session-count → Follows st e → Whole (as-read s e)
-  whole s (reply frame) u h = absurd h
-  whole s (copy c) u h = a-frame s (c .what .frame) u (h .0)
-  whole s close u h = an-order s u
-
-  all-whole : (es : List (Tagged Emission)) → Below session-count es → Silent st es → Every Whole (map record-of es)
-  all-whole [] b h = tt
-  all-whole (x ∷ xs) b h = (whole (x .who) (x .what) (b .0) (h .0), all-whole xs (b .1) (h .1))
+  all-read : (es : List (Tagged Emission)) → Below session-count es → Silent st es
+      → Every NoReply (map record-of es) × Every Whole (map record-of es)
+  all-read [] b h = (tt, tt)
+  all-read (x ∷ xs) b h =
+      let a = follows-read (x .who) (x .what) (b .0) (h .0) in
+      let r = all-read xs (b .1) (h .1) in
+      ((a .0, r .0), (a .1, r .1))
 
 sends-whole : {w : World} {c : Call} {es : List (Tagged Emission)} → Below session-count es → Sends w c es → Every Whole (map record-of es)
-sends-whole {w = w} b (none-speaks {es = es} h) = all-whole (w .shared .settings) es b h
+sends-whole {w = w} b (none-speaks {es = es} h) = all-read (w .shared .settings) es b h .1
 sends-whole {w = w} b (speaks {s = s} {frame = frame} {es = es} e a f r h) =
-    (a-frame s frame (b .0) f, all-whole (w .shared .settings) es (b .1) h)
+    (a-frame s frame (b .0) f, all-read (w .shared .settings) es (b .1) h .1)
 
 module _ (past : List Made) (m : Made) (w : World) (k : Runs w (λ t. run t (map asked past))) where
   -- a message that a call completes came in bytes
@@ -185,8 +181,8 @@ module _ (past : List Made) (m : Made) (w : World) (k : Runs w (λ t. run t (map
     where
       by : {es : List (Tagged Emission)} → model-answer (m .answer) ≡ (answered w (m .call) 0) .1 → Below session-count es
           → Sends w (m .call) es → Replies past m (map record-of es)
-      by a b (none-speaks {es = es} h) = none-replies (no-replies (w .shared .settings) es h)
-      by a b (speaks {s = s} {m = x} {es = es} e f g r h) = replies (completes-it s (b .0) a x e) f (no-replies (w .shared .settings) es h)
+      by a b (none-speaks {es = es} h) = none-replies (all-read (w .shared .settings) es b h .0)
+      by a b (speaks {s = s} {m = x} {es = es} e f g r h) = replies (completes-it s (b .0) a x e) f (all-read (w .shared .settings) es (b .1) h .0)
 
       go : (n : ℕ) → let q = answered w (m .call) n in
           model-answer (m .answer) ≡ q .1 → Below session-count (q .2) → Sends w (m .call) (q .2) → Replies past m (map record-of (q .2))
@@ -203,13 +199,10 @@ on-the-wire-from {t = t} w past all-there clean k h e (and {m = m} out rest) =
     let q = step l w (m .call) in
     let call = one-call w h e out in
     let sends = step-sends l w (m .call) clean in
-    let below = step-below session-count l w (m .call) all-there in
-    let long = ap length (call .bytes) in
-    let taken = length-take (m .answer .written) (m .output-left) in
-    let most : m .answer .written ≤ output-least = out .fits in (
+    let below = step-below session-count l w (m .call) all-there in (
       record {
         records = map record-of (q .2);
-        read = ap read-output (call .bytes) ∙ read-written (q .2) below (omega arith);
+        read = read-written (q .2) below (m .answer .written) (m .output-left) (call .bytes) (out .fits);
         whole = sends-whole below (sends .1);
         replies = call-replies past m w k l (call .answer) below (sends .1);
       },
@@ -225,8 +218,8 @@ on-the-wire h =
     let st = settings-of (payload (h .settings)) in
     let given = (start-passes (h .before) (h .settings) (sym (number-is (h .begins)) ∙ h .done)) .1 in
     on-the-wire-from (begun st 0) [] refl (begun-clean st 0 (settings-clean (h .settings) given))
-    (λ s u. rw (getD-replicate session-count s closed closed u) (false, λ kind. none, (refl, λ kind. refl))) (table-begun (h .begins) (h .done))
-    (begun-meaning (h .begins) (h .done)) (h .then)
+    (λ s u. rw (getD-replicate session-count s closed closed u) (false, λ kind. none, (refl, λ kind. refl)))
+    (table-begun (h .begins) (h .done)) (begun-meaning (h .begins) (h .done)) (h .then)
 
 -- the same of the six functions that C calls: of those of their calls that are made; the others leave the output as it was
 pub on-the-wire-of-the-exports : {t t′ : List ℕ} {ps : List Export} → ExportHistory t ps t′

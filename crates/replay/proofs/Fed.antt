@@ -24,17 +24,8 @@ pub fed-next : (m s : ℕ) (y : State) (left rest : List ℕ) (a : model.Answer)
     → (step (lent y) (y .world) (bytes s left)) .1 ≡ a
     → rest ≡ drop (a .consumed) left → going ≡ (eqb (a .number) 0 && not (eqb (length rest) 0))
     → fed (suc m) y s left ≡ cond going (fed m (called y (bytes s left)) s rest) (called y (bytes s left))
-fed-next m s y left rest a going e d g =
-    let z : State = called y (bytes s left) in
-    ap (λ (b : model.Answer).
-    let l : List ℕ = drop (b .consumed) left in
-    elim (eqb (b .number) 0 && not (eqb (length l) 0)) [ true ↦ fed m z s l | false ↦ z ]) e
-    ∙ ap (λ (l : List ℕ). elim (eqb (a .number) 0 && not (eqb (length l) 0)) [ true ↦ fed m z s l | false ↦ z ]) (sym d)
-    ∙ chosen (eqb (a .number) 0 && not (eqb (length rest) 0)) (fed m z s rest) z ∙ ap (λ (b : Bool). cond b (fed m z s rest) z) (sym g)
-  where
-    chosen : (b : Bool) (x z : State) → elim b [ true ↦ x | false ↦ z ] ≡ cond b x z
-    chosen true x z = refl
-    chosen false x z = refl
+fed-next m s y left rest a true e d g = cc
+fed-next m s y left rest a false e d g = cc
 
 -- some bytes were handed on, and the table has become t′; what is left is to be handed on, or, where it does not go on, is not
 pub record Feeding (s : ℕ) (bs : List ℕ) (room : ℕ) (t waited t′ waits left : List ℕ) (going : Bool) : Type 0 where

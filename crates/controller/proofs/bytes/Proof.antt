@@ -31,4 +31,5 @@ bytes-spec =
     (λ c. let d = c .before .before .before .before .before .before in let i = d .before .before .before .before in
     let a = i .before .before .before .before .before .before .args in
     let n = bytes-refused (a .table .now) (length (a .output .now)) (a .session) (a .slice .now) (i .before .hang-up .ensures) in
-    finish _ _ _ _ _ 0 n (i .if1 .left) (c .done .ensures) (c .before .consumed .ensures) refl (d .receive .ensures .went) (omega (arith, d .receive .ensures .within))))
+    finish _ _ _ _ _ 0 n (i .if1 .left) (c .done .ensures) (c .before .consumed .ensures) refl
+    (d .receive .ensures .went) (omega (arith, d .receive .ensures .within))))

@@ -3,24 +3,19 @@ use borrow.Author.Needs.{needs}
 use mathlib.Core.Path.{sym}
 use native.Mathlib.Omega.{arith}
 use lib.Seq.{length-take-le}
-use Rattle.text.proofs.Puts.{put-then, put-as}
 use Rattle.replay.proofs.Lines.{refused-text, done-text}
 use Rattle.replay.proofs.tell.Statement.{statement}
 use Rattle.replay.proofs.tell.Tie as tie
 
 returns : tie.Need-returns
 returns c =
-    let a = c .before .before .before .before .before .before .before .before .before .before .before .before .before .before .before
-    .before .before .before .args in
-    let first = c .before .before .before .before .before .before .before .before .before .before .before .copy .ensures in
-    let second = c .before .before .before .before .before .before .before .put-digits .ensures in
-    let third = c .before .before .copy2 .ensures in
-    let r = third .place in
+    let digits = c .before .before .before .before .before .before .before in
+    let first = digits .before .before .before .before in
+    let last = c .before .before .copy2 .ensures in
+    let r = last .place in
     record {
       within = omega arith;
-      put = put-as (refused-text (a .answer) (a .output .now)
-          (c .before .before .before .before .before .before .before .before .before .before .before .before .before .before .if1 .taken))
-          (put-then (put-then first (second .1)) third);
+      put = refused-text _ _ (first .before .before .before .if1 .taken) (first .copy .ensures) (digits .put-digits .ensures .1) last;
     }
 
 slice-aggregate-show : tie.Need-slice-aggregate-show
@@ -40,10 +35,7 @@ returns-2 c =
     let a = s .args in
     let n = length-take-le (a .answer .written) (a .output .now) (s .pre .0 .within) in
     let k = c .before .before .show .ensures in
-    record {
-      within = omega arith;
-      put = put-as (done-text (a .answer) (a .output .now) (c .before .before .before .before .before .if1 .left)) (k .put);
-    }
+    record { within = omega arith; put = done-text _ _ (c .before .before .before .before .before .if1 .left) (k .put) }
 
 pub tell-spec : {M : Type 1} → statement M
 tell-spec =
