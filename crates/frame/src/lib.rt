@@ -255,6 +255,8 @@ fn identifier_row(k: usize) -> Placed
 {
     match k {
         0 => Placed::Text(IDENTIFIER_LENGTH, TOLD, 0),
+        1 => Placed::Blank(IDENTIFIER_LENGTH),
+        2 => Placed::Blank(IDENTIFIER_LENGTH),
         _ => Placed::Blank(IDENTIFIER_LENGTH),
     }
 }
