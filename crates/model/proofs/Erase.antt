@@ -2,7 +2,7 @@
 -- each call gives the same answer and the same output bytes, and goes on to the same world but for the numbers; so what is proved
 -- of the numbered run speaks of the program's own.
 use Prim.Native.Nat.{ℕ, zero, suc, _%_}
-use mathlib.Core.Path.{_≡_, refl, sym, _∙_, ap, fun-ext}
+use mathlib.Core.Path.{_≡_, refl, _∙_, ap, fun-ext}
 use mathlib.Core.Bool.{Bool, true, false, cond}
 use mathlib.Core.List.{List, [], _∷_, _++_, map, map-append, append-assoc, map-map}
 use mathlib.Core.Option.{Option, none, some, Option·map as option-map}
@@ -180,8 +180,7 @@ module _ (g : Shared) where
       go (some m) = begin-erased (eqb (m .mid) 0001) i m (message-error (opened-standing g) m)
 
   tick-at-erased : (i : ℕ) (a b : Session × List Emission) → a ≡ both b → tick-at i a ≡ both (tick-at i b)
-  tick-at-erased i a b h =
-      ap (cond (eqb i idle-limit) (closed, close ∷ [])) h ∙ chosen both (eqb i idle-limit) (closed, close ∷ []) b
+  tick-at-erased i a b h = rw h (chosen both (eqb i idle-limit) (closed, close ∷ []) b)
 
   step-erased : (l : Local) (x : Session) → session-step (unnumbered g) l (erase-session x) ≡ both (session-step g l x)
   step-erased elsewhere x = refl
@@ -239,8 +238,7 @@ output-erased (x ∷ xs) = rw (record-erased (x .who) (x .what), output-erased x
 
 pub output-append : (xs ys : List (Tagged Emission)) → output (xs ++ ys) ≡ output xs ++ output ys
 output-append [] ys = refl
-output-append (x ∷ xs) ys =
-    ap (output-record x ++_) (output-append xs ys) ∙ sym (append-assoc (output-record x) (output xs) (output ys))
+output-append (x ∷ xs) ys = rw (output-append xs ys, append-assoc)
 
 -- ==== the world
 

@@ -170,44 +170,35 @@ module _ (b : Sources) (h : Fits b) where
       let texts = either (Every Fit) (eqb from settings) (b .settings) (b .told) (h .settings) (h .told) in
       fit-text (value-at (source b from) i) (every-at Fit (source b from) i (counted 0) tt texts)
 
-  nul-characters : (row : Row) → NoNUL (characters b row)
+  field-fits : (row : Row) → NoNUL (characters b row) × (slim-row row ≡ true → length (characters b row) ≤ identifier-length)
   unfolding characters
-  nul-characters (number width from i) = nul-digits width _
-  nul-characters (text width from i) = fit-source from i .no-NUL
-  nul-characters (blank width) = nul-spaces width
-  nul-characters (known width n) = nul-digits width n
+  field-fits (number width from i) =
+      let n = number-at (source b from) i in
+      (nul-digits width n, λ e. omega (arith, length-digits width n, leb-true width identifier-length e))
+  field-fits (text width from i) = let f = fit-source from i in (f .no-NUL, λ e. f .short)
+  field-fits (blank width) = (nul-spaces width, λ e. omega (arith, length-replicate width space, leb-true width identifier-length e))
+  field-fits (known width n) = (nul-digits width n, λ e. omega (arith, length-digits width n, leb-true width identifier-length e))
 
-  length-characters : (row : Row) → slim-row row ≡ true → length (characters b row) ≤ identifier-length
-  unfolding characters
-  length-characters (number width from i) e =
-      omega (arith, length-digits width (number-at (source b from) i), leb-true width identifier-length e)
-  length-characters (text width from i) e = fit-source from i .short
-  length-characters (blank width) e = omega (arith, length-replicate width space, leb-true width identifier-length e)
-  length-characters (known width n) e = omega (arith, length-digits width n, leb-true width identifier-length e)
-
-  module _ (numbered : Bool) where
-    nul-data : (i : ℕ) (rows : List Row) → NoNUL (data-from numbered i rows b)
-    unfolding data-from
-    nul-data i [] = tt
-    nul-data i (row ∷ rows) =
-        let more = nul-data (suc i) rows in
-        search (nul-append, nul-digits, nul-characters)
-
-    length-data : (i : ℕ) (rows : List Row) → all slim-row rows ≡ true → length (data-from numbered i rows b) ≤ 27 * length rows
-    unfolding data-from
-    length-data i [] e = omega arith
-    length-data i (row ∷ rows) e =
-        let t = and-eq-true-iff (slim-row row) (all slim-row rows) .0 e in
-        let ih = length-data (suc i) rows (t .1) in
-        let few = either (λ (n : ℕ). n ≤ 2) numbered 2 0 (omega arith) (omega arith) in
-        simp length-append (omega (arith, length-digits (label-length numbered) i, length-characters row (t .0)))
+  data-fits : (numbered : Bool) (i : ℕ) (rows : List Row)
+      → NoNUL (data-from numbered i rows b) × (all slim-row rows ≡ true → length (data-from numbered i rows b) ≤ 27 * length rows)
+  unfolding data-from
+  data-fits numbered i [] = (tt, λ e. omega arith)
+  data-fits numbered i (row ∷ rows) =
+      let f = field-fits row in
+      let more = data-fits numbered (suc i) rows in
+      let few = either (λ (n : ℕ). n ≤ 2) numbered 2 0 (omega arith) (omega arith) in (
+        search (nul-append, nul-digits),
+        λ e.
+            let t = both (slim-row row) (all slim-row rows) e in
+            simp length-append (omega (arith, length-digits (label-length numbered) i, f .1 (t .0), more .1 (t .1))),
+      )
 
   framed-layout : (mid revision byte-12 : ℕ) (l : Layout) → Shown byte-12 → slim l ≡ true
       → Framed (frame mid revision byte-12 (data-of l b))
   framed-layout mid revision byte-12 l k e =
-      let t = and-eq-true-iff (leb (length (l .rows)) 300) (all slim-row (l .rows)) .0 e in
-      framed mid revision byte-12 (data-of l b) k (nul-data (l .numbered) 1 (l .rows))
-      (omega (arith, length-data (l .numbered) 1 (l .rows) (t .1), leb-true (length (l .rows)) 300 (t .0)))
+      let t = both (leb (length (l .rows)) 300) (all slim-row (l .rows)) e in
+      let d = data-fits (l .numbered) 1 (l .rows) in
+      framed mid revision byte-12 (data-of l b) k (d .0) (omega (arith, d .1 (t .1), leb-true (length (l .rows)) 300 (t .0)))
 
 -- ==== the frames
 

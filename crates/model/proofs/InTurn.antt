@@ -17,10 +17,7 @@ use Rattle.model.specs.World.{World, session-at, to, to-all, ticks, each
 use Rattle.model.proofs.RowLaws.{passed, row-alone}
 
 module _ (g : Shared) (l : Local) (s : ℕ) where
-  abbrev alone : ℕ → Session → Session × List Emission
-  alone j = step g ((to s l) .sees j)
-
-  pass : (j : ℕ) (x : Session) → (j ≡ s → ⊥) → alone j x ≡ (x, [])
+  pass : (j : ℕ) (x : Session) → (j ≡ s → ⊥) → step g ((to s l) .sees j) x ≡ (x, [])
   pass j x h = rw (ne-eqb j s h)
 
 -- ==== ONE SESSION: its step takes its place
@@ -29,8 +26,8 @@ module _ (w : World) (s : ℕ) (l : Local) (h : s < length (w .sessions)) where
   abbrev stepped : Session × List Emission
   stepped = step (w .shared) l (session-at w s)
 
-  whole : (row (each w (to s l)) 0 (w .sessions) ≡ set (w .sessions) s ((alone (w .shared) l s s (session-at w s)) .0))
-      × (emits w (to s l) ≡ tag s ((alone (w .shared) l s s (session-at w s)) .1))
+  whole : (row (each w (to s l)) 0 (w .sessions) ≡ set (w .sessions) s ((each w (to s l) s (session-at w s)) .0))
+      × (emits w (to s l) ≡ tag s ((each w (to s l) s (session-at w s)) .1))
   whole = row-alone (each w (to s l)) s (pass (w .shared) l s) (w .sessions) closed h
 
   pub next-to : next w (to s l) ≡ record { shared = w .shared; sessions = set (w .sessions) s (stepped .0) }

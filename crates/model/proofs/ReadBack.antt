@@ -33,20 +33,15 @@ decimal-digits (suc w) n h =
 -- ==== one field
 
 module _ (b : Sources) where
-  -- what is legible has the row's width
-  width-kept : (row : Row) → legible b row ≡ true → length (characters b row) ≡ width-of row
+  -- what is legible has the row's width, and reads back
+  field-back : (row : Row) → legible b row ≡ true
+      → (length (characters b row) ≡ width-of row) × (read-field row (characters b row) ≡ value-in b row)
   unfolding characters
-  width-kept (number w f i) e = length-digits w (number-at (source b f) i)
-  width-kept (text w f i) e = eqb-true (length (text-at (source b f) i)) w e
-  width-kept (blank w) e = length-replicate w space
-  width-kept (known w n) e = length-digits w n
-
-  pub field-back : (row : Row) → legible b row ≡ true → read-field row (characters b row) ≡ value-in b row
-  unfolding characters
-  field-back (number w f i) e = ap counted (decimal-digits w _ (ltb-true (number-at (source b f) i) (10 ^ w) e))
-  field-back (text w f i) e = refl
-  field-back (blank w) e = refl
-  field-back (known w n) e = ap counted (decimal-digits w n (ltb-true n (10 ^ w) e))
+  field-back (number w f i) e =
+      let n = number-at (source b f) i in (length-digits w n, ap counted (decimal-digits w n (ltb-true n (10 ^ w) e)))
+  field-back (text w f i) e = (eqb-true (length (text-at (source b f) i)) w e, refl)
+  field-back (blank w) e = (length-replicate w space, refl)
+  field-back (known w n) e = (length-digits w n, ap counted (decimal-digits w n (ltb-true n (10 ^ w) e)))
 
   -- ==== all of them
 
@@ -60,14 +55,14 @@ module _ (b : Sources) where
         let t = and-eq-true-iff (legible b row) (all (legible b) rows) .0 ok in
         let v = characters b row in
         let d = data-from numbered (suc i) rows b in
-        let w = width-kept row (t .0) in
+        let w = field-back row (t .0) in
         let e : label numbered i ++ v ++ d ++ more ≡ label numbered i ++ (v ++ (d ++ more)) = simp append-assoc in
         rw (
           e,
           drop-at (label numbered i) (v ++ (d ++ more)) _ (length-digits (label-length numbered) i),
-          take-at v (d ++ more) (width-of row) w,
-          drop-at v (d ++ more) (width-of row) w,
-          field-back row (t .0),
+          take-at v (d ++ more) (width-of row) (w .0),
+          drop-at v (d ++ more) (width-of row) (w .0),
+          w .1,
           read-back rows (suc i) more (t .1),
         )
 
