@@ -1,7 +1,5 @@
 -- `lane::put` meets its contract: the notice first, and then the control before it.
 use borrow.Author.Needs.{needs}
-use mathlib.Core.Path.{ap, _∙_}
-use lib.ListN.{length}
 use Rattle.lane.proofs.Events.{place-fits, still-long, pushes}
 use Rattle.lane.proofs.put.Statement.{statement}
 use Rattle.lane.proofs.put.Tie as tie
@@ -12,17 +10,6 @@ copy-requires c κs =
     let s = z .before .before .before in
     let h = place-fits _ _ _ _ _ (s .pre) _ (z .place-size .ensures) in
     rw (s .pre .place, ← z .place-size .ensures) (search needs)
-
-store-requires : tie.Need-store-requires
-store-requires c κs =
-    let y = c .before .before .before in
-    let z = y .before .before in
-    let s = z .before .before .before in
-    record {
-      known = s .pre .known;
-      size = ap length (y .copy .ensures .output) ∙ still-long _ _ _ _ _ (s .pre) _ (z .place-size .ensures);
-      control = s .pre .control;
-    }
 
 returns : tie.Need-returns
 returns c =
@@ -39,6 +26,6 @@ put-spec =
     (λ c. let h = place-fits _ _ _ _ _ (c .before .before .before .pre) _ (c .place-size .ensures) in search needs)
     (λ c. let h = place-fits _ _ _ _ _ (c .before .before .before .pre) _ (c .place-size .ensures) in search needs)
     copy-requires
-    store-requires
+    (λ c κs. search (needs, still-long))
     (λ c. search needs)
     returns)

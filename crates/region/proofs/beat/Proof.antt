@@ -28,13 +28,6 @@ loop-again c =
     (dealt-to few (l .inv .changes .becomes .good) (z .before .lane-at .ensures) (z .size .ensures)
     (d .beat .ensures (notice-in (l .kind))))
 
-beat-requires : tie.Need-beat-requires Inv-loop μ-loop
-beat-requires c κs =
-    let z = c .before in
-    let t = z .before .before in
-    let few = t .loop-test .taken in
-    (few, lane-lent _ few (z .before .lane-at .ensures) (z .size .ensures) (t .before .loop .inv .changes .becomes .good))
-
 pub beat-spec : {M : Type 1} → statement M
 beat-spec =
     tie.close
@@ -48,7 +41,7 @@ beat-spec =
     (λ c. search needs)
     (λ c. search needs)
     (λ c. let e = lane-ends _ (c .before .before .loop-test .taken) in search needs)
-    beat-requires
+    (λ c κs. search (needs, lane-lent))
     (λ c. let n = c .before .before .before .before .before .before .before .loop .inv .count in search needs)
     (λ c. search needs)
     (λ c. search needs)

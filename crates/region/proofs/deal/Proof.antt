@@ -18,12 +18,6 @@ returns c =
     subst (λ (d : Deed). DealtTo (s .args .kind) (deed-of d) r _ r) (sym (c .enum-told .given .1))
     (nothing-dealt r (s .args .kind) (s .pre .1) (s .pre .0))
 
-deal-requires : tie.Need-deal-requires
-deal-requires c κs =
-    let z = c .before in
-    let p = z .before .before .before .before .pre in
-    (p .1, lane-lent _ (p .1) (z .before .lane-at .ensures) (z .size .ensures) (p .0))
-
 returns-2 : tie.Need-returns-2
 returns-2 c =
     let d = c .before .before in
@@ -43,6 +37,6 @@ deal-spec =
     (λ c. search needs)
     (λ c. search needs)
     (λ c. let e = lane-ends _ (c .before .before .before .before .pre .1) in search needs)
-    deal-requires
+    (λ c κs. search (needs, lane-lent))
     (λ c. search needs)
     returns-2)

@@ -20,10 +20,6 @@ returns c =
           (rw (y .before .before .if1 .taken) (put-as (sym (append-nil _)) (y .put-close .ensures .put)));
     }
 
-say-requires : tie.Need-say-requires
-say-requires c κs =
-    let k = c .before .before .before .before .before .before in due-lent (k .before .before .before .before .pre) (k .tick .ensures)
-
 returns-2 : tie.Need-returns-2
 returns-2 c =
     let y = c .before .before in
@@ -38,4 +34,4 @@ pub tick-session-spec : {M : Type 1} → statement M
 tick-session-spec =
     tie.close (tie.spec (λ c. search needs) (λ c. search needs) (λ c. search needs) (λ c. search needs) (λ c. search needs)
     (λ c. search needs) (λ c κs. let p = c .before .before .before .pre in part-good _ _ (p .table) (p .session)) (λ c κs. search needs)
-    (λ c. search needs) (λ c. search needs) returns say-requires (λ c. search needs) (λ c. search needs) returns-2)
+    (λ c. search needs) (λ c. search needs) returns (λ c κs. search (needs, due-lent)) (λ c. search needs) (λ c. search needs) returns-2)
