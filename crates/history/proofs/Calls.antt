@@ -33,8 +33,7 @@ use Rattle.history.specs.Past.{event, frame-for, takes}
 use Rattle.history.specs.Demand.{copies-in, seen, seen-in}
 use Rattle.history.proofs.Subscriptions.{wish-in, is-some-wish, view}
 use Rattle.history.proofs.Signals.{Signals, signals, silent-after}
-use Rattle.history.proofs.Sessions.{SessionRead, next, closing, Like, sub-at, StepOfKind, newest, StepAsRead, frame-none}
-use Rattle.history.proofs.Sessions.{then-steps}
+use Rattle.history.proofs.Sessions.{SessionRead, next, closing, Like, sub-at, StepOfKind, newest, StepAsRead, frame-none, then-steps}
 
 -- ==== what is read of a session
 

@@ -26,8 +26,7 @@ use Rattle.model.specs.Wire.{Every}
 use Rattle.model.specs.Erased.{erase-world}
 use Rattle.model.proofs.Clean.{nul-cut, there}
 use Rattle.model.proofs.Sent.{Follows, completes}
-use Rattle.model.proofs.Sights.{Sees, nothing, a-start, its-opening, its-hang-up, a-tick, its-bytes, coherent}
-use Rattle.model.proofs.Sights.{given-by, told, goes-to}
+use Rattle.model.proofs.Sights.{Sees, nothing, a-start, its-opening, its-hang-up, a-tick, its-bytes, coherent, given-by, told, goes-to}
 use Rattle.model.proofs.Wire.{CleanWorld, begun-clean, settings-clean, Silent, completes-given, completed}
 use Rattle.model.proofs.Wire.{Sends, none-replies as none-speaks, replies as speaks, step-sends}
 use Rattle.table.specs.Table.{decode, Table}

@@ -14,8 +14,7 @@ use Rattle.model.specs.Records.{Settings, read-settings}
 use Rattle.model.specs.Session.{Emission}
 use Rattle.model.specs.Row.{Tagged}
 use Rattle.model.specs.World.{World, uncounted, begins, emitted}
-use Rattle.model.specs.Calls.{Call, start, open-session, hang-up-session, bytes, one-tick, tool}
-use Rattle.model.specs.Calls.{Lent, output, refusal, answered, step}
+use Rattle.model.specs.Calls.{Call, start, open-session, hang-up-session, bytes, one-tick, tool, Lent, output, refusal, answered, step}
 use Rattle.model.specs.Calls as model
 use Rattle.model.specs.Program.{State, lent, called, lines-of, printed}
 use Rattle.model.proofs.Sessions.{begins-begun}
