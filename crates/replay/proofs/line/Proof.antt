@@ -19,7 +19,8 @@ returns-2 c =
     let mark = text .before .before .before .before .before in
     let digit = mark .before .before .before .before .before .before in
     frame-line _ (digit .before .before .little .ensures .0) (digit .put-digits .ensures .1)
-    (mark .before .before .before .if1 .left) (digit .before .before .before .before .before .pre .0) (mark .copy2 .ensures) (text .shown .ensures) (c .before .before .copy3 .ensures)
+    (mark .before .before .before .if1 .left) (digit .before .before .before .before .before .pre .0)
+    (mark .copy2 .ensures) (text .shown .ensures) (c .before .before .copy3 .ensures)
 
 pub line-spec : {M : Type 1} → statement M
 line-spec =
