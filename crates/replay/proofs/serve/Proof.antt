@@ -9,7 +9,6 @@ use native.Mathlib.Omega.{arith}
 use lib.ListN.{length, take, drop, length-drop}
 use lib.Seq.{length-take-le, take-all}
 use Rattle.replay.specs.Whole.{Measured, too-long}
-use Rattle.replay.proofs.Follows.{follows-room}
 use Rattle.replay.proofs.Records.{Serving, serving-begins, serving-on, serving-ends}
 use Rattle.replay.proofs.serve.Statement.{statement}
 use Rattle.replay.proofs.serve.Tie as tie
@@ -64,7 +63,7 @@ loop-again c =
       omega arith,
       omega arith,
       c .whole2 .ensures,
-      serving-on (i .6) (i .5 .whole) some few (follows-room same (g .ensures .0)) rest,
+      serving-on (i .6) (i .5 .whole) some few (rw same at (g .ensures .0)) rest,
     )
 
 returns : tie.Need-returns Inv-loop μ-loop
