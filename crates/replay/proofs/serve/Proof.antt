@@ -26,12 +26,6 @@ Inv-loop table₀ output₀ lines₀ input to₀ left₀ size₀ table output li
 abbrev μ-loop : tie.MeasureT-loop
 μ-loop table₀ output₀ lines₀ input to₀ left₀ size₀ table output lines to left size = length left
 
-loop-holds : tie.Need-loop-holds Inv-loop μ-loop
-loop-holds c =
-    let a = c .before .before .before .before .before .args in
-    let begins = serving-begins (a .input .now) (length (a .lines .now)) (a .table .now) [] in
-    (refl, refl, refl, omega arith, omega arith, c .whole .ensures, begins)
-
 given-requires : tie.Need-given-requires Inv-loop μ-loop
 given-requires c κs =
     let l = c .before .before .before .before .before .loop in
@@ -81,7 +75,7 @@ serve-spec =
     Inv-loop
     μ-loop
     (λ c κs. search needs)
-    loop-holds
+    (λ c. (refl, refl, refl, omega arith, omega arith, c .whole .ensures, serving-begins _ _ _ _))
     (λ c. let l = c .before .before .before .before .before .loop in sym (length-take-le (l .size) (l .left .now) (l .inv .5 .within)))
     given-requires
     (λ c. let l = c .before .before .before .before .before .before .before .before .before .before .before .before .loop in
