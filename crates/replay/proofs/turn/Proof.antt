@@ -7,5 +7,6 @@ use Rattle.replay.proofs.turn.Tie as tie
 
 pub turn-spec : {M : Type 1} → statement M
 turn-spec =
-    tie.close (tie.spec (λ c κs. search needs) (λ c. search needs) (λ c. search (needs, turned-none)) (λ c. search needs) (λ c κs. search needs) (λ c κs. search needs)
+    tie.close (tie.spec (λ c κs. search needs) (λ c. search needs) (λ c. search (needs, turned-none))
+    (λ c. search needs) (λ c κs. search needs) (λ c κs. search needs)
     (λ c. search needs) (λ c. search needs) (λ c. search needs) (λ c. search needs) (λ c. (search (needs, turned-served), omega arith)))
