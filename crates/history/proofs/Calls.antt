@@ -1,8 +1,8 @@
 -- What a call does, as it is read off the calls: the reading of every session stays true, and to the notices of each kind to each
 -- session one of the things is done that a call can do.
-use Prim.Native.Nat.{ℕ, suc, _<_}
+use Prim.Native.Nat.{ℕ, zero, suc, _<_}
 use mathlib.Core.Path.{_≡_, refl, sym, _∙_, ap, ap₂, subst}
-use mathlib.Core.Bool.{Bool, true, false, cond, _&&_}
+use mathlib.Core.Bool.{Bool, false, _&&_}
 use mathlib.Core.List.{List, [], _∷_, _++_, map, map-append, append-nil}
 use mathlib.Core.Option.{Option, none, some}
 use native.Mathlib.Omega.{arith}
@@ -20,8 +20,11 @@ use Rattle.model.specs.Row.{Tagged, pick}
 use Rattle.model.specs.Session.{Session, closed, opened, started, Copy, Emission, reply, copy, close}
 use Rattle.model.specs.Local.{takes as takes-in}
 use Rattle.model.specs.World.{World, session-at}
+use Rattle.model.specs.Calls.{Call, Lent, refusal, answered, step}
+use Rattle.model.proofs.Framed.{either}
 use Rattle.model.proofs.RowLaws.{pick-append}
 use Rattle.model.proofs.Sights.{told}
+use Rattle.controller.specs.Contract.{Said}
 use Rattle.watch.specs.Marks.{Seen}
 use Rattle.watch.specs.Course.{PendingSeen, Eff, Rises}
 use Rattle.history.specs.Turns.{Turn, hangs-up, ticks}
@@ -30,8 +33,7 @@ use Rattle.history.specs.Past.{event, frame-for, takes}
 use Rattle.history.specs.Demand.{copies-in, seen, seen-in}
 use Rattle.history.proofs.Subscriptions.{wish-in, is-some-wish, view}
 use Rattle.history.proofs.Signals.{Signals, signals, silent-after}
-use Rattle.history.proofs.Sessions.{SessionRead, next, closing, Like, sub-at, StepOfKind, newest, StepAsRead, frame-none}
-use Rattle.history.proofs.Sessions.{then-steps}
+use Rattle.history.proofs.Sessions.{SessionRead, next, closing, Like, sub-at, StepOfKind, newest, StepAsRead, frame-none, then-steps}
 
 -- ==== what is read of a session
 
@@ -68,6 +70,16 @@ seen-append kind xs ys =
     ∙ map-append seen (pick kind (copies-in xs)) (pick kind (copies-in ys))
 
 -- ==== one call
+
+-- it is done, or refused
+pub by-refusal : (l : Lent) (w : World) (c : Call) (P : Said → Type 0) → (refusal l w c ≡ 0 → P (answered w c 0))
+    → ((n : ℕ) → P (answered w c (suc n))) → P (step l w c)
+unfolding step
+by-refusal l w c P done refused = go (refusal l w c) refl
+  where
+    go : (n : ℕ) → refusal l w c ≡ n → P (answered w c n)
+    go zero e = done e
+    go (suc n) e = refused n
 
 -- the world w, after those turns, becomes w′ by the turn x; the settings are st, and what was shared is g
 pub record Moves (st : Settings) (g : Shared) (w : World) (past : List Turn) (x : Turn) (w′ : World) : Type 0 where
@@ -123,11 +135,9 @@ module _ (w : World) (past : List Turn) (like : (s : ℕ) → s < session-count 
   event-rises : (kind : ℕ) (v : Option Wish) (n : Option Event) → Rises (g .events) ((shared-with g n) .events) (frame-for st kind v n)
   event-rises kind v none = rw (frame-none st kind v) (le-refl (g .events))
   event-rises kind none (some e) = omega arith
-  event-rises kind (some v) (some e) = go (eqb kind (kind-of e))
-    where
-      go : (b : Bool) → Rises (g .events) (suc (g .events)) (cond b (some (event-frame st (v .revision) (v .no-acknowledge) e)) none)
-      go true = refl
-      go false = omega arith
+  event-rises kind (some v) (some e) =
+      either (Rises (g .events) (suc (g .events))) (eqb kind (kind-of e)) (some (event-frame st (v .revision) (v .no-acknowledge) e)) none
+      refl (omega arith)
 
   -- what is done by the step, or by the event where there is one
   done : (n : Option Event) → o ≡ n → (s : ℕ) → s < session-count → (kind : ℕ) → kind < length kinds

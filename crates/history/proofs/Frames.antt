@@ -18,7 +18,7 @@ use Rattle.model.specs.Row.{Tagged, pick}
 use Rattle.model.specs.Session.{Session, closed, opened, started, is-closed, Copy, Emission, reply, copy, close}
 use Rattle.model.specs.Local.{Local, step}
 use Rattle.model.specs.World.{World, session-at, begun}
-use Rattle.model.specs.Calls.{Call, Lent, does, refusal, answered, step as call-step}
+use Rattle.model.specs.Calls.{Call, Lent, does, step as call-step}
 use Rattle.model.specs.Sights.{Sight}
 use Rattle.model.proofs.Sights.{Sees, nothing, a-start, its-opening, its-hang-up, a-tick, its-bytes, told, coherent}
 use Rattle.watch.specs.Marks.{taken, all-sent}
@@ -31,7 +31,7 @@ use Rattle.history.specs.Demand.{copies-in, seen, seen-in, mark, marks, 
 use Rattle.history.specs.Demand.{FewFrames, NoStart}
 use Rattle.history.proofs.Subscriptions.{view}
 use Rattle.history.proofs.Sessions.{sub-at, newest}
-use Rattle.history.proofs.Calls.{sub-of}
+use Rattle.history.proofs.Calls.{sub-of, by-refusal}
 use Rattle.history.proofs.Sendings.{Sent}
 use Rattle.history.proofs.Turns.{goes, Agrees, moves, agrees-on, agrees-begun, course-of, sent-turn}
 
@@ -53,23 +53,18 @@ sum-few (suc n) f h e = let q = e n (omega arith) in let ih = sum-few n f h (λ 
 abbrev among : ℕ → List (Tagged Copy) → ℕ
 among n xs = over-kinds n (λ kind. length (map seen (pick kind xs)))
 
-no-fewer : (x : Tagged Copy) (xs : List (Tagged Copy)) (n : ℕ) → among n xs ≤ among n (x ∷ xs)
-no-fewer x xs zero = omega arith
-no-fewer x xs (suc n) = go (eqb (x .who) n) (no-fewer x xs n)
+-- one more is no fewer, and one more where it is of these kinds
+more-among : (x : Tagged Copy) (xs : List (Tagged Copy)) (n : ℕ)
+    → (among n xs ≤ among n (x ∷ xs)) × (x .who < n → suc (among n xs) ≤ among n (x ∷ xs))
+more-among x xs zero = (omega arith, λ h. absurd (omega arith))
+more-among x xs (suc n) = go (eqb (x .who) n) refl (more-among x xs n)
   where
-    go : (b : Bool) → among n xs ≤ among n (x ∷ xs)
-        → among n xs + length (map seen (pick n xs)) ≤ among n (x ∷ xs) + length (map seen (cond b (x .what ∷ pick n xs) (pick n xs)))
-    go true ih = omega arith
-    go false ih = omega arith
-
-one-more : (x : Tagged Copy) (xs : List (Tagged Copy)) (n : ℕ) → x .who < n → suc (among n xs) ≤ among n (x ∷ xs)
-one-more x xs zero h = absurd (omega arith)
-one-more x xs (suc n) h = go (eqb (x .who) n) refl (no-fewer x xs n) (λ u. one-more x xs n u)
-  where
-    go : (b : Bool) → eqb (x .who) n ≡ b → among n xs ≤ among n (x ∷ xs) → (x .who < n → suc (among n xs) ≤ among n (x ∷ xs))
-        → suc (among n xs + length (map seen (pick n xs))) ≤ among n (x ∷ xs) + length (map seen (cond b (x .what ∷ pick n xs) (pick n xs)))
-    go true e u ih = omega arith
-    go false e u ih = let k = eqb-false (x .who) n e in let v : x .who < n = omega arith in let w = ih v in omega arith
+    go : (b : Bool) → eqb (x .who) n ≡ b → (among n xs ≤ among n (x ∷ xs)) × (x .who < n → suc (among n xs) ≤ among n (x ∷ xs))
+        → let before = among n xs + length (map seen (pick n xs)) in
+        let after = among n (x ∷ xs) + length (map seen (cond b (x .what ∷ pick n xs) (pick n xs))) in
+        (before ≤ after) × (x .who < suc n → suc before ≤ after)
+    go true e ih = omega arith
+    go false e ih = (omega arith, λ h. let k = eqb-false (x .who) n e in let m = ih .1 (omega arith) in omega arith)
 
 abbrev FewIn : Bool → List Emission → Type 0
 FewIn b es = length (frames-in es) ≤ cond b 1 0 + among (length kinds) (copies-in es)
@@ -77,7 +72,7 @@ FewIn b es = length (frames-in es) ≤ cond b 1 0 + among (length kinds) (copies
 few-sent : (b : Bool) (es : List Emission) → Sent b es → FewIn b es
 few-sent b [] h = omega arith
 few-sent b (reply f ∷ es) h = rw (h .0) (let ih = few-sent false es (h .2) in omega arith)
-few-sent b (copy c ∷ es) h = let ih = few-sent b es (h .1) in let n = one-more c (copies-in es) (length kinds) (h .0) in omega arith
+few-sent b (copy c ∷ es) h = let ih = few-sent b es (h .1) in let n = more-among c (copies-in es) (length kinds) .1 (h .0) in omega arith
 few-sent b (close ∷ es) h = few-sent b es h
 
 -- the session that a call opens is subscribed to nothing
@@ -96,15 +91,12 @@ opened-fresh g its-bytes e x c o kind = absurd (true≢false (sym e))
 opens-fresh : {st : Settings} (w : World) (past : List Turn) → Agrees st w past → (s : ℕ) → s < session-count → (l : Lent) (c : Call)
     → is-start (turn c (call-step l w c)) ≡ false → opens s (turn c (call-step l w c)) ≡ true → (kind : ℕ)
     → sub-of s kind ((call-step l w c) .0) ≡ unsubscribed
-unfolding call-step
-opens-fresh w past a s h l c ns f kind = go (refusal l w c) refl ns f
-  where
-    go : (n : ℕ) → refusal l w c ≡ n → is-start (turn c (answered w c n)) ≡ false → opens s (turn c (answered w c n)) ≡ true
-        → sub-of s kind ((answered w c n) .0) ≡ unsubscribed
-    go (suc n) e ns f = absurd (true≢false (sym (rw (eqb·suc-zero n) at f)))
-    go zero e ns f =
-        ap (sub-at kind) (goes w past (a .size) (a .like) l c e ns s h .0)
-        ∙ opened-fresh (w .shared) (coherent l w c e .sees s) f (session-at w s) (coherent l w c e .opens s f) ((does w c) .event) kind
+opens-fresh w past a s h l c ns f kind =
+    by-refusal l w c (λ q. is-start (turn c q) ≡ false → opens s (turn c q) ≡ true → sub-of s kind (q .0) ≡ unsubscribed)
+    (λ e ns f.
+    ap (sub-at kind) (goes w past (a .size) (a .like) l c e ns s h .0)
+    ∙ opened-fresh (w .shared) (coherent l w c e .sees s) f (session-at w s) (coherent l w c e .opens s f) ((does w c) .event) kind)
+    (λ n ns f. absurd (true≢false (sym (rw (eqb·suc-zero n) at f)))) ns f
 
 -- ==== an opening
 

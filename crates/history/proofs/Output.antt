@@ -17,7 +17,6 @@ use Rattle.model.specs.Frames.{frame-record-kind, close-record-kind, frame-reco
 use Rattle.model.specs.Row.{Tagged, pick}
 use Rattle.model.specs.Session.{Emission, reply, copy, close}
 use Rattle.model.specs.Calls.{output-record, output}
-use Rattle.model.proofs.Framed.{either}
 use Rattle.watch.specs.Marks.{Every}
 use Rattle.controller.proofs.Outputs.{Below}
 use Rattle.history.specs.Turns.{frames-in, orders-close}
@@ -126,46 +125,38 @@ without-NUL frame = let n = length-append frame (NUL ∷ []) in take-at frame (N
 
 module _ (s : ℕ) (h : s < session-count) where
   -- one record more
-  module _ (rs : List RecordRead) (picked : List Emission) where
-    a-frame : (t : ℕ) (frame : List ℕ) (e : Emission) → frames-in (e ∷ picked) ≡ frame ∷ frames-in picked
-        → frames-read s rs ≡ frames-in picked
-        → frames-read s (record { record-kind = frame-record-kind t; payload = frame ++ NUL ∷ [] } ∷ rs)
-        ≡ frames-in (cond (eqb t s) (e ∷ picked) picked)
-    a-frame t frame e q ih = rw (same-test t s (frame-record-kind 0), without-NUL frame) (go (eqb t s))
+  module _ (rs : List RecordRead) (picked : List Emission) (f : frames-read s rs ≡ frames-in picked)
+      (k : close-read s rs ≡ orders-close picked) where
+    abbrev Back : RecordRead → List Emission → Type 0
+    Back r es = (frames-read s (r ∷ rs) ≡ frames-in es) × (close-read s (r ∷ rs) ≡ orders-close es)
+
+    a-frame : (t : ℕ) (frame : List ℕ) (e : Emission) → t < session-count → frames-in (e ∷ picked) ≡ frame ∷ frames-in picked
+        → orders-close (e ∷ picked) ≡ orders-close picked
+        → Back (record { record-kind = frame-record-kind t; payload = frame ++ NUL ∷ [] }) (cond (eqb t s) (e ∷ picked) picked)
+    a-frame t frame e u p q =
+        let no-order = ne-eqb (frame-record-kind t) (close-record-kind s) (λ z. omega arith) in
+        rw (same-test t s (frame-record-kind 0), without-NUL frame, no-order) (go (eqb t s))
       where
-        go : (b : Bool) → cond b (frame ∷ frames-read s rs) (frames-read s rs) ≡ frames-in (cond b (e ∷ picked) picked)
-        go true = ap (frame ∷_) ih ∙ sym q
-        go false = ih
+        go : (b : Bool) → let es = cond b (e ∷ picked) picked in
+            (cond b (frame ∷ frames-read s rs) (frames-read s rs) ≡ frames-in es) × (close-read s rs ≡ orders-close es)
+        go true = (ap (frame ∷_) f ∙ sym p, k ∙ sym q)
+        go false = (f, k)
 
-    frames-more : (t : ℕ) (e : Emission) → t < session-count → frames-read s rs ≡ frames-in picked
-        → frames-read s (as-read t e ∷ rs) ≡ frames-in (cond (eqb t s) (e ∷ picked) picked)
-    frames-more t (reply frame) u ih = a-frame t frame (reply frame) refl ih
-    frames-more t (copy c) u ih = a-frame t (c .what .frame) (copy c) refl ih
-    frames-more t close u ih =
-        rw (ne-eqb (close-record-kind t) (frame-record-kind s) (λ z. omega arith))
-        (either (λ (es : List Emission). frames-read s rs ≡ frames-in es) (eqb t s) (close ∷ picked) picked ih ih)
-
-    no-close : (t : ℕ) (e : Emission) → t < session-count → orders-close (e ∷ picked) ≡ orders-close picked
-        → close-read s rs ≡ orders-close picked → (bs : List ℕ)
-        → close-read s (record { record-kind = frame-record-kind t; payload = bs } ∷ rs) ≡ orders-close (cond (eqb t s) (e ∷ picked) picked)
-    no-close t e u q ih bs =
-        rw (ne-eqb (frame-record-kind t) (close-record-kind s) (λ z. omega arith))
-        (either (λ (es : List Emission). close-read s rs ≡ orders-close es) (eqb t s) (e ∷ picked) picked (ih ∙ sym q) ih)
-
-    closes-more : (t : ℕ) (e : Emission) → t < session-count → close-read s rs ≡ orders-close picked
-        → close-read s (as-read t e ∷ rs) ≡ orders-close (cond (eqb t s) (e ∷ picked) picked)
-    closes-more t (reply frame) u ih = no-close t (reply frame) u refl ih (frame ++ NUL ∷ [])
-    closes-more t (copy c) u ih = no-close t (copy c) u refl ih (c .what .frame ++ NUL ∷ [])
-    closes-more t close u ih = rw (same-test t s (close-record-kind 0)) (go (eqb t s))
+    more-back : (t : ℕ) (e : Emission) → t < session-count → Back (as-read t e) (cond (eqb t s) (e ∷ picked) picked)
+    more-back t (reply frame) u = a-frame t frame (reply frame) u refl refl
+    more-back t (copy c) u = a-frame t (c .what .frame) (copy c) u refl refl
+    more-back t close u =
+        let no-frame = ne-eqb (close-record-kind t) (frame-record-kind s) (λ z. omega arith) in
+        rw (no-frame, same-test t s (close-record-kind 0)) (go (eqb t s))
       where
-        go : (b : Bool) → cond b true (close-read s rs) ≡ orders-close (cond b (close ∷ picked) picked)
-        go true = refl
-        go false = ih
+        go : (b : Bool) → let es = cond b (close ∷ picked) picked in
+            (frames-read s rs ≡ frames-in es) × (cond b true (close-read s rs) ≡ orders-close es)
+        go true = (f, refl)
+        go false = (f, k)
 
-  pub frames-back : (es : List (Tagged Emission)) → Below session-count es → frames-read s (map record-of es) ≡ frames-in (pick s es)
-  frames-back [] b = refl
-  frames-back (x ∷ xs) b = frames-more (map record-of xs) (pick s xs) (x .who) (x .what) (b .0) (frames-back xs (b .1))
-
-  pub closes-back : (es : List (Tagged Emission)) → Below session-count es → close-read s (map record-of es) ≡ orders-close (pick s es)
-  closes-back [] b = refl
-  closes-back (x ∷ xs) b = closes-more (map record-of xs) (pick s xs) (x .who) (x .what) (b .0) (closes-back xs (b .1))
+  -- the frames, and the order to close
+  pub sent-back : (es : List (Tagged Emission)) → Below session-count es
+      → (frames-read s (map record-of es) ≡ frames-in (pick s es)) × (close-read s (map record-of es) ≡ orders-close (pick s es))
+  sent-back [] b = (refl, refl)
+  sent-back (x ∷ xs) b =
+      let r = sent-back xs (b .1) in more-back (map record-of xs) (pick s xs) (r .0) (r .1) (x .who) (x .what) (b .0)

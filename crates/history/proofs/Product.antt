@@ -24,7 +24,7 @@ use Rattle.history.specs.Past.{message, parts, started, wish-of, wish, i
 use Rattle.history.specs.Output.{record-of}
 use Rattle.history.specs.Demand.{mark, marks, past-after, NoStart}
 use Rattle.history.specs.Product.{Tells, Once, Meets}
-use Rattle.history.proofs.Output.{read-written, frames-back, closes-back}
+use Rattle.history.proofs.Output.{read-written, sent-back}
 use Rattle.history.proofs.Turns.{demand-3-of-runs, in-time-of-runs}
 use Rattle.history.proofs.Frames.{marks-append, few-frames-of-runs}
 use Rattle.history.proofs.Replies.{told-apart-in-runs}
@@ -45,8 +45,8 @@ told {t = t} w all-there h e (and {t₁ = t₁} {m = m} {ms = ms} out rest) =
         bytes = sym (k .bytes);
         records = map record-of (q .2);
         read = read-written (q .2) below (m .answer .written) (m .output-left) (k .bytes) (out .fits);
-        frames = λ s u. sym (frames-back s u (q .2) below);
-        closes = λ s u. sym (closes-back s u (q .2) below);
+        frames = λ s u. sym (sent-back s u (q .2) below .0);
+        closes = λ s u. sym (sent-back s u (q .2) below .1);
       },
       rw (out .size) at (told (q .0) (step-many session-count l w (m .call) all-there) (table-left h out) (k .world) rest),
     )

@@ -298,11 +298,10 @@ module _ (g : Shared) (R : SessionRead) (i : ℕ) (run : Run) (subs : List Subsc
 
   error-steps : Real m → (e : Entry) → entry-of (m .mid) ≡ some e → (x : Error) → tests (some e) ≡ some x
       → Goal false (started 0 empty-run subs, error-reply m (some e) x)
-  error-steps real e known x h = go (gets-reply (e .effect))
-    where
-      go : (b : Bool) → Goal false (started 0 empty-run subs, cond b (reply (frame-0004 (m .mid) (code x)) ∷ []) [])
-      go true = refused (code x) (unmade real e known (e .effect) refl x h)
-      go false = idle [] refl (λ kind. refl) (unmade real e known (e .effect) refl x h) tt
+  error-steps real e known x h =
+      let a = unmade real e known (e .effect) refl x h in
+      either (λ (es : List Emission). Goal false (started 0 empty-run subs, es)) (gets-reply (e .effect))
+      (reply (frame-0004 (m .mid) (code x)) ∷ []) [] (refused (code x) a) (idle [] refl (λ kind. refl) a tt)
 
   -- none: what it does
   carry-steps : Real m → (e : Entry) → entry-of (m .mid) ≡ some e → tests (some e) ≡ none → (f : Effect) → e .effect ≡ f

@@ -1,6 +1,6 @@
 -- Every call of the model does, to the notices of each kind to each session, one of the things that a call can do. No call is looked at
 -- for itself: what it does is read off the model's two tables of calls.
-use Prim.Native.Nat.{ℕ, zero, suc, _<_}
+use Prim.Native.Nat.{ℕ, suc, _<_}
 use mathlib.Core.Path.{_≡_, refl, sym, _∙_, ap, subst}
 use mathlib.Core.Bool.{Bool, true, false, cond, _&&_}
 use mathlib.Core.List.{List, [], _∷_, _++_}
@@ -37,7 +37,7 @@ use Rattle.history.proofs.Signals.{Signals, signals, silent-after}
 use Rattle.history.proofs.Sendings.{Sent, sent-append}
 use Rattle.history.proofs.Sessions.{closing, Like, sub-at, newest, StepAsRead, elsewhere-steps, tells-of, sees-steps, told-steps}
 use Rattle.history.proofs.Sessions.{then-steps}
-use Rattle.history.proofs.Calls.{session-read, sub-of, like-wish, Moves, Beside, moves-by}
+use Rattle.history.proofs.Calls.{session-read, sub-of, like-wish, by-refusal, Moves, Beside, moves-by}
 
 -- ==== what a session does not see, and what it hears
 
@@ -250,13 +250,9 @@ module _ (st : Settings) (w : World) (past : List Turn) (l : Lent) (c : Call) (a
       refl (λ s h. (refl, refl)) (λ e q. absurd (there (sym q)))
 
   call-moves : is-start (turn c (step l w c)) ≡ false → Moves (here .settings) here w past (turn c (step l w c)) ((step l w c) .0)
-  unfolding step
-  call-moves ns = go (refusal l w c) refl ns
-    where
-      go : (n : ℕ) → refusal l w c ≡ n → is-start (turn c (answered w c n)) ≡ false
-          → Moves (here .settings) here w past (turn c (answered w c n)) ((answered w c n) .0)
-      go zero e f = done-moves w past (a .size) (a .like) l c e f
-      go (suc n) e f = refused-moves n
+  call-moves =
+      by-refusal l w c (λ q. is-start (turn c q) ≡ false → Moves (here .settings) here w past (turn c q) (q .0))
+      (done-moves w past (a .size) (a .like) l c) (λ n f. refused-moves n)
 
   pub moves : is-start (turn c (step l w c)) ≡ false → Moves st (shared st past) w past (turn c (step l w c)) ((step l w c) .0)
   moves ns =
@@ -266,13 +262,9 @@ module _ (st : Settings) (w : World) (past : List Turn) (l : Lent) (c : Call) (a
   -- what goes out to session s
   pub sent-turn : (s : ℕ) → s < session-count → is-start (turn c (step l w c)) ≡ false
       → Sent (is-some (message s past (turn c (step l w c)))) (pick s ((step l w c) .2))
-  unfolding step
-  sent-turn s h ns = go (refusal l w c) refl ns
-    where
-      go : (n : ℕ) → refusal l w c ≡ n → is-start (turn c (answered w c n)) ≡ false
-          → Sent (is-some (message s past (turn c (answered w c n)))) (pick s ((answered w c n) .2))
-      go (suc n) e f = tt
-      go zero e f = done-sent w past (a .size) (a .like) l c e f s h
+  sent-turn s h =
+      by-refusal l w c (λ q. is-start (turn c q) ≡ false → Sent (is-some (message s past (turn c q))) (pick s (q .2)))
+      (λ e f. done-sent w past (a .size) (a .like) l c e f s h) (λ n f. tt)
 
 -- ==== whole histories
 

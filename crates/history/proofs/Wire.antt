@@ -1,7 +1,7 @@
 -- WHAT A LINE SERVER SEES, OF THE PRODUCT: whatever calls are made after a start that is done, whatever they are lent, and only they write
 -- the table. Each frame is read alike by its NUL and by its length; a reply is the first that its call wrote, and answers the message that
 -- this call completed, to the session that sent it.
-use Prim.Native.Nat.{ℕ, zero, suc, _<_}
+use Prim.Native.Nat.{ℕ, suc, _<_}
 use mathlib.Core.Path.{_≡_, refl, sym, _∙_, ap, subst}
 use mathlib.Core.Bool.{Bool, true, false, cond, true≢false}
 use mathlib.Core.List.{List, [], _∷_, _++_, map}
@@ -20,14 +20,13 @@ use Rattle.model.specs.Row.{Tagged}
 use Rattle.model.specs.Session.{Session, closed, opened, started, is-closed, Emission, reply, copy, close}
 use Rattle.model.specs.Local.{Local, step as session-step}
 use Rattle.model.specs.World.{World, session-at, begun, after}
-use Rattle.model.specs.Calls.{Call, Lent, does, refusal, at-most-one, Answer as ModelAnswer, answered, step}
+use Rattle.model.specs.Calls.{Call, Lent, does, at-most-one, Answer as ModelAnswer, answered, step}
 use Rattle.model.specs.Sights.{Sight, sight}
 use Rattle.model.specs.Wire.{Every}
 use Rattle.model.specs.Erased.{erase-world}
 use Rattle.model.proofs.Clean.{nul-cut, there}
 use Rattle.model.proofs.Sent.{Follows, completes}
-use Rattle.model.proofs.Sights.{its-part, Sees, nothing, a-start, its-opening, its-hang-up, a-tick, its-bytes, coherent}
-use Rattle.model.proofs.Sights.{given-by, told, goes-to}
+use Rattle.model.proofs.Sights.{Sees, nothing, a-start, its-opening, its-hang-up, a-tick, its-bytes, coherent, given-by, told, goes-to}
 use Rattle.model.proofs.Wire.{CleanWorld, begun-clean, settings-clean, Silent, completes-given, completed}
 use Rattle.model.proofs.Wire.{Sends, none-replies as none-speaks, replies as speaks, step-sends}
 use Rattle.table.specs.Table.{decode, Table}
@@ -47,6 +46,7 @@ use Rattle.history.specs.Wire.{OnTheWire, InTurn}
 use Rattle.history.proofs.Output.{read-written}
 use Rattle.history.proofs.Sessions.{SessionRead, Like, longer-read, opening-steps, hang-up-steps, tick-steps, receives-steps}
 use Rattle.history.proofs.Sessions.{event-steps}
+use Rattle.history.proofs.Calls.{by-refusal}
 use Rattle.history.proofs.Exports.{called-so}
 
 -- ==== a session's run is what is read off the calls
@@ -82,18 +82,14 @@ with-call c a past = record { call = c; answer = a; out = [] } ∷ past
 
 call-runs : (l : Lent) (w : World) (c : Call) (past : List Turn) → length (w .sessions) ≡ session-count → Runs w (λ s. run s past)
     → Runs ((step l w c) .0) (λ s. run s (with-call c ((step l w c) .1) past))
-unfolding step
-call-runs l w c past all-there k = go (refusal l w c) refl
-  where
-    go : (n : ℕ) → refusal l w c ≡ n → Runs ((answered w c n) .0) (λ s. run s (with-call c ((answered w c n) .1) past))
-    go (suc n) e = rw (eqb·suc-zero n) k
-    go zero e = λ s u.
-        let o = (does w c) .moment in
-        let y = session-step (w .shared) (its-part s o) (session-at w s) in
-        let bs = run-with ((sight s c) .given) ((sight s c) .opens) (run s past) in
-        subst (Kept bs) (sym (goes-to w s (omega arith) o ((does w c) .event) .0))
-        (told-kept ((after w (at-most-one o)) .shared) bs ((does w c) .event) (y .0)
-        (sees-kept (w .shared) (coherent l w c e .sees s) (run s past) (session-at w s) (coherent l w c e .opens s) (k s u)))
+call-runs l w c past all-there k =
+    by-refusal l w c (λ q. Runs (q .0) (λ s. run s (with-call c (q .1) past)))
+    (λ e s u.
+    let o = (does w c) .moment in
+    rw (goes-to w s (omega arith) o ((does w c) .event) .0)
+    (told-kept ((after w (at-most-one o)) .shared) (run-with ((sight s c) .given) ((sight s c) .opens) (run s past)) ((does w c) .event) _
+    (sees-kept (w .shared) (coherent l w c e .sees s) (run s past) (session-at w s) (coherent l w c e .opens s) (k s u))))
+    (λ n. rw (eqb·suc-zero n) k)
 
 -- ==== the message that a call completes
 
@@ -176,18 +172,16 @@ module _ (past : List Made) (m : Made) (w : World) (k : Runs w (λ t. run t (map
 
   call-replies : (l : Lent) → let q = step l w (m .call) in
       model-answer (m .answer) ≡ q .1 → Below session-count (q .2) → Sends w (m .call) (q .2) → Replies past m (map record-of (q .2))
-  unfolding step
-  call-replies l a b h = go (refusal l w (m .call)) a b h
+  call-replies l =
+      by-refusal l w (m .call)
+      (λ q. model-answer (m .answer) ≡ q .1 → Below session-count (q .2) → Sends w (m .call) (q .2) → Replies past m (map record-of (q .2)))
+      (λ e. by) (λ n a b h. none-replies tt)
     where
       by : {es : List (Tagged Emission)} → model-answer (m .answer) ≡ (answered w (m .call) 0) .1 → Below session-count es
           → Sends w (m .call) es → Replies past m (map record-of es)
       by a b (none-speaks {es = es} h) = none-replies (all-read (w .shared .settings) es b h .0)
-      by a b (speaks {s = s} {m = x} {es = es} e f g r h) = replies (completes-it s (b .0) a x e) f (all-read (w .shared .settings) es (b .1) h .0)
-
-      go : (n : ℕ) → let q = answered w (m .call) n in
-          model-answer (m .answer) ≡ q .1 → Below session-count (q .2) → Sends w (m .call) (q .2) → Replies past m (map record-of (q .2))
-      go zero a b h = by a b h
-      go (suc n) a b h = none-replies tt
+      by a b (speaks {s = s} {m = x} {es = es} e f g r h) =
+          replies (completes-it s (b .0) a x e) f (all-read (w .shared .settings) es (b .1) h .0)
 
 -- ==== histories
 

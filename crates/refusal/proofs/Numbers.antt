@@ -1,6 +1,6 @@
 -- What is lent is tested first: the number that this gives, or the number that the call's own tests give; and what is known where
 -- nothing is refused.
-use mathlib.Core.Path.{_≡_, refl, sym, ap, _∙_}
+use mathlib.Core.Path.{_≡_, refl, sym, _∙_}
 use Prim.Native.Nat.{ℕ, suc, _≤_, _<_}
 use native.Mathlib.Omega.{arith}
 use mathlib.Core.Bool.{Bool, true, false, not, cond, and-eq-true-iff}
@@ -8,7 +8,7 @@ use mathlib.Core.List.{List, [], _∷_}
 use mathlib.Core.Option.{none, some}
 use lib.Dec.{leb, ltb, eqb}
 use lib.ListN.{length}
-use borrow.Author.Tests.{le-ltb, ltb-false, leb-false, eqb-true, not-false, eq-eqb, ne-eqb}
+use borrow.Author.Tests.{le-ltb, ltb-false, leb-false, eqb-true, not-false, eq-eqb}
 use Rattle.model.specs.Limits.{session-count, table-least, output-least, number-greatest}
 use Rattle.model.specs.Tests.{Test, _gives_, first}
 use Rattle.model.specs.Records.{payload, Item, is-record, payload-length, parts, good-parts, good-payload, good-record, settings-of}
@@ -102,19 +102,6 @@ tool-refused t n Bad slice q e = rw (sym e) q
 tool-refused t n Tightening slice q e = rw (sym e) q
 tool-refused t n Scanned slice q e = rw (sym e) q
 
-module _ (t : List ℕ) {record-kind : RecordKind} where
-  pub a-bad-one : record-kind ≡ Bad → 7 ≡ first 0 (tool-own t record-kind)
-  a-bad-one e = ap (λ (k : RecordKind). first 0 (tool-own t k)) (sym e)
-
-  pub a-scan : record-kind ≡ Scanned → 0 ≡ first 0 (tool-own t record-kind)
-  a-scan e = ap (λ (k : RecordKind). first 0 (tool-own t k)) (sym e)
-
-  pub last-one : record-kind ≡ Tightening → decode t .shared .last ≡ number-greatest → 8 ≡ first 0 (tool-own t record-kind)
-  last-one e h = ap (λ (b : Bool). cond b 8 0) (sym (eq-eqb _ _ h)) ∙ ap (λ (k : RecordKind). first 0 (tool-own t k)) (sym e)
-
-  pub one-more : record-kind ≡ Tightening → (decode t .shared .last ≡ number-greatest → ⊥) → 0 ≡ first 0 (tool-own t record-kind)
-  one-more e h = ap (λ (b : Bool). cond b 8 0) (sym (ne-eqb _ _ h)) ∙ ap (λ (k : RecordKind). first 0 (tool-own t k)) (sym e)
-
 -- received bytes are refused as a hang-up is
 pub bytes-refused : {r : ℕ} (t : List ℕ) (n s : ℕ) (bs : List ℕ) → r ≡ number t n (hang-up-session s) → r ≡ number t n (bytes s bs)
 unfolding refusal
@@ -152,10 +139,7 @@ pub tool-passes : (t : List ℕ) (n : ℕ) (record-kind : RecordKind) → tool-n
 unfolding tool-number
 tool-passes t n record-kind e =
     let p = none-applies t n (tool-own t record-kind) e in
-    (p .0, λ b. nonzero 6 (a-bad-one t b ∙ p .1), λ k h. nonzero 7 (last-one t k h ∙ p .1))
-  where
-    nonzero : (k : ℕ) → suc k ≡ 0 → ⊥
-    nonzero k z = omega arith
+    (p .0, λ b. let z = rw b at (p .1) in omega arith, λ k h. let z = rw (k, eq-eqb _ _ h) at (p .1) in omega arith)
 
 -- good settings, and a table that is long enough
 pub start-passes : (t slice : List ℕ) → number t 0 (start slice) ≡ 0

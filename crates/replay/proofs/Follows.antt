@@ -99,6 +99,3 @@ follows-then p q = record {
 pub follows-as : {f g : State → State} {room : ℕ} {t a t′ b : List ℕ}
     → ((x : State) → Means t x → f x ≡ g x) → Follows f room t a t′ b → Follows g room t a t′ b
 follows-as e p = record { new = p .new; leads = leads-as e (p .leads); behind = p .behind }
-
-pub follows-room : {f : State → State} {m n : ℕ} {t a t′ b : List ℕ} → m ≡ n → Follows f m t a t′ b → Follows f n t a t′ b
-follows-room e p = record { new = p .new; leads = p .leads; behind = behind-room e (p .behind) }

@@ -12,8 +12,7 @@ use Rattle.model.specs.Bytes.{within}
 use Rattle.model.specs.Runs.{cut, consumed-by}
 use Rattle.model.specs.World.{World}
 use Rattle.model.specs.Calls.{Call, start, bytes, does, answered, output, refusal, step}
-use Rattle.model.specs.Program.{session-greatest}
-use Rattle.model.specs.Program.{call-of, is-of}
+use Rattle.model.specs.Program.{session-greatest, call-of, is-of}
 use Rattle.model.specs.Records.{settings-record-kind}
 use Rattle.model.proofs.Cuts.{consumes}
 use Rattle.table.specs.Table.{decode}

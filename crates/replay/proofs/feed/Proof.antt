@@ -23,12 +23,6 @@ Inv-loop table₀ output₀ lines₀ bytes session at₀ left₀ going₀ table 
 abbrev μ-loop : tie.MeasureT-loop
 μ-loop table₀ output₀ lines₀ bytes session at₀ left₀ going₀ table output lines at left going = cond going (suc (length left)) 0
 
-print-requires : tie.Need-print-requires Inv-loop μ-loop
-print-requires c κs =
-    let called = c .before .before .before .before .before .before in
-    let i = called .before .before .before .before .loop .inv in
-    (fits-in (called .bytes .ensures), record { within = omega arith; room = omega arith })
-
 loop-less : tie.Need-loop-less Inv-loop μ-loop
 loop-less c =
     let called = c .before .before .before .before .before .before .before .before .before .before .before .before in
@@ -81,7 +75,7 @@ feed-spec =
     μ-loop
     (λ c. (refl, refl, refl, c .before .before .before .before .pre .within, feeding-begins _ _ _ _ _))
     (λ c κs. search needs)
-    print-requires
+    (λ c κs. search (needs, fits-in))
     (λ c κs. search needs)
     loop-less
     loop-again

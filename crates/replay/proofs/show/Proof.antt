@@ -23,11 +23,6 @@ Inv-loop output lines₀ at to₀ left₀ size₀ lines to left size =
 abbrev μ-loop : tie.MeasureT-loop
 μ-loop output lines₀ at to₀ left₀ size₀ lines to left size = length left
 
-loop-holds : tie.Need-loop-holds Inv-loop μ-loop
-loop-holds c =
-    let a = c .before .before .before .args in
-    (left-all (a .lines .now) (a .at) (printed (lines-in (a .output .now))), omega arith, c .whole .ensures)
-
 line-requires : tie.Need-line-requires Inv-loop μ-loop
 line-requires c κs =
     let l = c .before .before .before .loop in
@@ -64,7 +59,7 @@ show-spec =
     Inv-loop
     μ-loop
     (λ c κs. search needs)
-    loop-holds
+    (λ c. (left-all _ _ _, omega arith, c .whole .ensures))
     (λ c. let l = c .before .before .loop in sym (length-take-le (l .size) (l .left .now) (l .inv .2 .within)))
     line-requires
     (λ c. omega (arith, c .before .before .before .before .before .before .loop .inv .2 .within))

@@ -1,6 +1,5 @@
 -- `replay::tell` meets its contract.
 use borrow.Author.Needs.{needs}
-use mathlib.Core.Path.{sym}
 use native.Mathlib.Omega.{arith}
 use lib.Seq.{length-take-le}
 use Rattle.replay.proofs.Lines.{refused-text, done-text}
@@ -17,11 +16,6 @@ returns c =
       within = omega arith;
       put = refused-text _ _ (first .before .before .before .if1 .taken) (first .copy .ensures) (digits .put-digits .ensures .1) last;
     }
-
-slice-aggregate-show : tie.Need-slice-aggregate-show
-slice-aggregate-show c =
-    let s = c .before .before .before .before .before in
-    sym (length-take-le (s .args .answer .written) (s .args .output .now) (s .pre .0 .within))
 
 show-requires : tie.Need-show-requires
 show-requires c κs =
@@ -40,4 +34,4 @@ returns-2 c =
 pub tell-spec : {M : Type 1} → statement M
 tell-spec =
     tie.close (tie.spec (λ c. search needs) (λ c κs. search needs) (λ c κs. search needs) (λ c. search needs) (λ c κs. search needs)
-    (λ c. search needs) returns slice-aggregate-show show-requires (λ c. search needs) returns-2)
+    (λ c. search needs) returns (λ c. search (needs, length-take-le)) show-requires (λ c. search needs) returns-2)
