@@ -53,18 +53,6 @@ pub sets-sets : (a b o : List ℕ) (i : ℕ) → sets (sets o i a) (i + length a
 sets-sets [] b o i = rw add-zero
 sets-sets (x ∷ a) b o i = rw (add-suc, ← suc-add) (sets-sets a b (set o i x) (suc i))
 
--- so many stores, of what stands in s from `from` on, from `at` on: the i-th and those behind it
-abbrev stores : List ℕ → ℕ → ℕ → ℕ → ℕ → List ℕ → List ℕ
-stores s from at i zero o = o
-stores s from at i (suc n) o = stores s from at (suc i) n (set o (at + i) (getD s (from + i) 0))
-
-pub stores-sets : (s : List ℕ) (from at i n : ℕ) (o : List ℕ) → from + i + n ≤ length s
-    → stores s from at i n o ≡ sets o (at + i) (take n (drop (from + i) s))
-stores-sets s from at i zero o h = refl
-stores-sets s from at i (suc n) o h =
-    stores-sets s from at (suc i) n (set o (at + i) (getD s (from + i) 0)) (omega arith)
-    ∙ rw (drop-cons s (from + i) 0 (omega arith), add-suc at i, add-suc from i)
-
 -- a store behind a run of stores, and the run: in either order
 sets-set : (a o : List ℕ) (i j x : ℕ) → i + length a ≤ j → sets (set o j x) i a ≡ set (sets o i a) j x
 sets-set [] o i j x h = refl

@@ -4,8 +4,8 @@ use Prim.Native.Nat.{ℕ, _+_, _-_, _≤_, _<_}
 use native.Mathlib.Nat.{add-zero, zero-add, add-assoc}
 use native.Mathlib.Omega.{arith}
 use mathlib.Core.List.{List, [], _++_, append-nil, _∷_}
-use lib.ListN.{length, getD, take, drop, length-append, length-drop, drop-of-length-le, take-append-drop, set, length-set}
-use lib.Seq.{sets, length-sets, sets-eq, take-set-le, getD-take, getD-drop, length-take-le, drop-drop}
+use lib.ListN.{length, getD, take, drop, length-append, length-drop, drop-of-length-le, set, length-set}
+use lib.Seq.{sets, length-sets, sets-eq, take-set-le, getD-take, getD-drop, length-take-le}
 use Rattle.text.specs.Put.{Put, Stands}
 use Rattle.text.proofs.Lists.{drop-next, sets-sets, sets-swap, sets-over, written, drop-sets, take-sets}
 
@@ -113,19 +113,6 @@ left-none {o} {bs} {o′} {at} {to} l = record { output = l .content; place = sy
 -- what is left, by another name
 pub left-as : {o bs o′ xs ys : List ℕ} {at to : ℕ} → xs ≡ ys → Left o at bs o′ to xs → Left o at bs o′ to ys
 left-as {o} {bs} {o′} {xs} {ys} {at} {to} e l = subst (λ (z : List ℕ). Left o at bs o′ to z) e l
-
--- the next eight bytes are written
-pub left-eight : {o bs o₁ o₂ : List ℕ} {at : ℕ} (s : List ℕ) (from i : ℕ) → i + 8 ≤ length s → Left o at bs o₁ (from + i) (drop i s)
-    → o₂ ≡ sets o₁ (from + i) (take 8 (drop i s)) → Left o at bs o₂ (from + (i + 8)) (drop (i + 8) s)
-left-eight s from i h l e =
-    let n = length-take-le 8 (drop i s) (rw length-drop (omega arith)) in
-    left-put {xs = take 8 (drop i s)}
-    (left-as (sym (take-append-drop 8 (drop i s)) ∙ ap (λ (z : List ℕ). take 8 (drop i s) ++ z) (drop-drop 8 i s)) l)
-    (record { output = e; place = omega arith })
-
--- all that is left is written
-pub left-last : {o bs o₁ o₂ xs : List ℕ} {at to r : ℕ} → Left o at bs o₁ to xs → Put o₁ to xs r o₂ → Put o at bs r o₂
-left-last l p = left-none (left-put (left-as (sym (append-nil _)) l) p)
 
 -- ==== a loop that repeats what stands before it: what is left to repeat, and that nothing before it was touched
 

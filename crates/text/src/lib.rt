@@ -126,39 +126,12 @@ pub fn rest(s: &[u8], from: usize) -> &[u8]
 
 // ---- writers: each returns the place behind what it wrote
 
-// Eight bytes. All are read before the first is written, so that the compiler moves them at once.
-fn copy_8(s: &[u8], from: usize, out: &mut [u8], at: usize)
-    requires { ⌜ (from + 8 ≤ length (now s)) × (at + 8 ≤ length (now out)) ⌝ }
-    ensures { λ _. ⌜ now (out .exit) ≡ sets (now (out .entry)) at (take 8 (drop from (now (s .entry)))) ⌝ }
-{
-    let a = s[from];
-    let b = s[from + 1];
-    let c = s[from + 2];
-    let d = s[from + 3];
-    let e = s[from + 4];
-    let f = s[from + 5];
-    let g = s[from + 6];
-    let h = s[from + 7];
-    out[at] = a;
-    out[at + 1] = b;
-    out[at + 2] = c;
-    out[at + 3] = d;
-    out[at + 4] = e;
-    out[at + 5] = f;
-    out[at + 6] = g;
-    out[at + 7] = h;
-}
-
 // The bytes of s.
 pub fn copy(s: &[u8], out: &mut [u8], at: usize) -> usize
     requires { ⌜ at + length (now s) ≤ length (now out) ⌝ }
     ensures { λ r. ⌜ Put (now (out .entry)) at (now (s .entry)) r (now (out .exit)) ⌝ }
 {
     let mut i = 0;
-    while s.len() - i >= 8 {
-        copy_8(s, i, out, at + i);
-        i += 8;
-    }
     while i < s.len() {
         out[at + i] = s[i];
         i += 1;
