@@ -1,6 +1,6 @@
 -- An event's copy that was written last: what stands there, and that it can go to another session once more.
-use mathlib.Core.Path.{_≡_, ap₂}
-use Prim.Native.Nat.{ℕ, _+_, _-_, _≤_}
+use mathlib.Core.Path.{ap₂}
+use Prim.Native.Nat.{ℕ, _+_, _≤_}
 use native.Mathlib.Omega.{arith}
 use mathlib.Core.Bool.{Bool}
 use mathlib.Core.List.{List}
@@ -9,7 +9,6 @@ use Rattle.model.specs.Bytes.{in-bytes}
 use Rattle.model.specs.Records.{Settings, record-head}
 use Rattle.model.specs.Kinds.{kind-at, copy-most}
 use Rattle.model.specs.Frames.{event-frame, frame-record}
-use Rattle.text.specs.Put.{Put}
 use Rattle.text.proofs.Puts.{put-as, put-stands}
 use Rattle.frame.specs.Places.{event-in}
 use Rattle.frame.specs.Output.{WrittenAgain, Repeatable}

@@ -43,7 +43,7 @@ use denote.Triple.Clauses.{lasts}
 use denote.Triple.Table.{entered, cited}
 use denote.Triple.Walked.{says, Stays, stay-none, walkOf, goes-none, ends-at, walked, walk-meets}
 use denote.Exit.{yes}
-use Rattle.session.specs.Control.{Advances, beat-at, clock-after, due-by, by-beat, step-at}
+use Rattle.session.specs.Control.{Advances, beat-at, by-beat, step-at}
 use Rattle.session.specs.declared.Subscription.{Subscription}
 use Rattle.session.specs.declared.Clock.{Clock}
 use Rattle.session.specs.declared.Due.{Due}
