@@ -1,5 +1,5 @@
 -- How the outcome of a call is put together: of a refusal, and of what was done.
-use mathlib.Core.Path.{_≡_, refl, sym, ap, subst, _∙_}
+use mathlib.Core.Path.{_≡_, refl, sym, ap, _∙_}
 use Prim.Native.Nat.{ℕ, zero, suc, _≤_}
 use native.Mathlib.Nat.{zero-add}
 use native.Mathlib.Omega.{arith}
@@ -21,7 +21,7 @@ use Rattle.table.proofs.Regions.{so-many-sessions}
 use Rattle.table.proofs.Alone.{opens-silent, hangs-up-silent}
 use Rattle.refusal.specs.Numbers.{number}
 use Rattle.controller.specs.declared.Answer.{Answer}
-use Rattle.controller.specs.Contract.{Said, said, numbers, Outcome}
+use Rattle.controller.specs.Contract.{Said, said, Outcome}
 
 -- the table keeps no count of events
 still : (t : List ℕ) → decode t ≡ uncounted (decode t)
@@ -43,9 +43,9 @@ module _ (c : Call) (t o : List ℕ) where
   refuse {n = suc n} {r = r} e ne p =
       let s = said-is (suc n) e in
       record {
-        answer = p ∙ sym (ap (λ (x : Said). numbers (x .1)) s);
-        meaning = still t ∙ sym (ap (λ (x : Said). uncounted (x .0)) s);
-        output = sym (ap (λ (x : Said). sets o 0 (output (x .2))) s);
+        answer = rw s p;
+        meaning = rw s (still t);
+        output = rw s;
         fits = rw p (omega arith);
         size = refl;
         past = refl;
@@ -62,10 +62,9 @@ module _ (c : Call) (t o : List ℕ) where
       let s = said-is 0 (sym z ∙ e) in
       let ew : at ≡ length (output (emitted (decode t) (moments (decode t) c))) = w .bytes .place ∙ zero-add _ in
       record {
-        answer =
-            p ∙ (λ i. record { number = 0; consumed = ec i; written = ew i; taken = et i }) ∙ sym (ap (λ (x : Said). numbers (x .1)) s);
-        meaning = w .table .meaning ∙ sym (ap (λ (x : Said). uncounted (x .0)) s);
-        output = w .bytes .output ∙ sym (ap (λ (x : Said). sets o 0 (output (x .2))) s);
+        answer = rw (s, ← ec, ← et, ← ew) p;
+        meaning = rw s (w .table .meaning);
+        output = rw s (w .bytes .output);
         fits = rw p h;
         size = w .table .size;
         past = w .table .past;
@@ -108,5 +107,4 @@ hung-up-quietly t o s b = quietly t o (hangs-up s) (hangs-up-silent (decode t) s
 pub started-quietly : (t o slice : List ℕ) {t′ : List ℕ} → read-settings slice ≡ some (settings-of (payload slice))
     → Becomes t (begun (settings-of (payload slice)) 0) t′ → Went t o 0 (moments (decode t) (start slice)) 0 t′ o
 started-quietly t o slice {t′} e b =
-    let st = settings-of (payload slice) in
-    rw e (quietly t o (begins st) (start-silent (decode t) st) (subst (λ (w : World). Becomes t w t′) (sym (start-begins t st)) b))
+    let st = settings-of (payload slice) in rw e (quietly t o (begins st) (start-silent (decode t) st) (rw (start-begins t st) b))

@@ -40,9 +40,9 @@ one-call {c = c} {t = t} {o = o} {r = r} {t′ = t′} {o′ = o′} w h e out =
     ap₂ (λ (b : Bool) (v : World). step (record { table = length t; well-formed = b; output = length o }) v c) (h .formed) e in
     let k = step-without-numbers l w c in
     record {
-      answer = ap model-answer (out .answer) ∙ ap (λ (x : Said). x .1) q ∙ k .answer;
-      bytes = stands out .records ∙ ap (λ (x : Said). output (x .2)) q ∙ k .bytes;
-      world = out .meaning ∙ ap (λ (x : Said). uncounted (x .0)) q ∙ k .world;
+      answer = rw (out .answer, q) (k .answer);
+      bytes = stands out .records ∙ rw q (k .bytes);
+      world = out .meaning ∙ rw q (k .world);
     }
 
 pub modelled : {t t′ : List ℕ} {ms : List Made} (w : World) → Table t → decode t ≡ erase-world w → Trace t ms t′

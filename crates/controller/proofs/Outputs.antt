@@ -12,11 +12,13 @@ use lib.ListN.{length, take, drop}
 use lib.Seq.{sets}
 use Rattle.model.specs.Limits.{output-least}
 use Rattle.model.specs.Records.{Settings, read-settings}
-use Rattle.model.specs.Session.{Session, Emission}
+use Rattle.model.specs.Session.{Emission}
 use Rattle.model.specs.World.{World, Moment, begins, each, next, after, emitted}
 use Rattle.model.specs.Calls.{Call, start, open-session, hang-up-session, bytes, one-tick, tool, does, at-most-one, moments, output, Lent}
 use Rattle.model.specs.Calls.{refusal, answered, step}
 use Rattle.model.specs.Row.{Tagged, tag, said as row-said}
+use Rattle.model.specs.Wire.{Every}
+use Rattle.model.proofs.Framed.{every-append}
 use Rattle.model.proofs.RowLaws.{length-row}
 use Rattle.model.proofs.Refusals.{has-output}
 use Rattle.text.proofs.Lists.{take-sets, drop-sets-after}
@@ -85,22 +87,17 @@ stands {c = c} {t = t} {o = o} {r = r} {t′ = t′} {o′ = o′} out =
 
 -- ==== whatever goes out goes to one of the sessions
 
-abbrev pub Below : ℕ → List (Tagged Emission) → Type 0
-Below n [] = Unit {0}
-Below n (x ∷ xs) = (x .who < n) × Below n xs
+abbrev pub Below : {E : Type 0} → ℕ → List (Tagged E) → Type 0
+Below n xs = Every (λ x. x .who < n) xs
 
-below-append : (n : ℕ) (xs ys : List (Tagged Emission)) → Below n xs → Below n ys → Below n (xs ++ ys)
-below-append n [] ys p q = q
-below-append n (x ∷ xs) ys p q = (p .0, below-append n xs ys (p .1) q)
-
-below-tag : (n i : ℕ) (es : List Emission) → i < n → Below n (tag i es)
+below-tag : {E : Type 0} (n i : ℕ) (es : List E) → i < n → Below n (tag i es)
 below-tag n i [] h = tt
 below-tag n i (e ∷ es) h = (h, below-tag n i es h)
 
-below-said : (act : ℕ → Session → Session × List Emission) (n i : ℕ) (xs : List Session) → i + length xs ≤ n → Below n (row-said act i xs)
+pub below-said : {X E : Type 0} (act : ℕ → X → X × List E) (n i : ℕ) (xs : List X) → i + length xs ≤ n → Below n (row-said act i xs)
 below-said act n i [] h = tt
 below-said act n i (x ∷ xs) h =
-    below-append n (tag i ((act i x) .1)) (row-said act (suc i) xs) (below-tag n i ((act i x) .1) (omega arith))
+    every-append (λ t. t .who < n) (tag i ((act i x) .1)) (row-said act (suc i) xs) (below-tag n i ((act i x) .1) (omega arith))
     (below-said act n (suc i) xs (omega arith))
 
 -- there are as many sessions as before, however many that are
@@ -115,8 +112,8 @@ module _ (n : ℕ) where
   below-emitted : (w : World) (ms : List Moment) → length (w .sessions) ≡ n → Below n (emitted w ms)
   below-emitted w [] h = tt
   below-emitted w (m ∷ ms) h =
-      below-append n (row-said (each w m) 0 (w .sessions)) (emitted (next w m) ms) (below-said (each w m) n 0 (w .sessions) (omega arith))
-      (below-emitted (next w m) ms (still-many w m h))
+      every-append (λ t. t .who < n) (row-said (each w m) 0 (w .sessions)) (emitted (next w m) ms)
+      (below-said (each w m) n 0 (w .sessions) (omega arith)) (below-emitted (next w m) ms (still-many w m h))
 
   pub answered-below : (w : World) (c : Call) (k : ℕ) → length (w .sessions) ≡ n → Below n ((answered w c k) .2)
   answered-below w c zero h = below-emitted w (moments w c) h

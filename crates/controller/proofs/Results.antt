@@ -115,8 +115,7 @@ pub result-put : (z p x : List ℕ) (n : ℕ) {p₁ p₂ p₃ : List ℕ} {r₁ 
     → (g : Shared) → x ≡ identifier-of (identifier-in p) (g .in-force) → n ≡ g .last + 1
     → tightened (result-of p₃) ≡ reported g (tightening (identifier-in p) (tightening-of p))
 result-put z p x n a b c lz lp lx ln g ex en =
-    ap (λ (q : List ℕ). tightened (result-of q)) (c .output ∙ ap (λ (q : List ℕ). sets q tightening-length (in-bytes number-length n))
-    (b .output ∙ ap (λ (q : List ℕ). sets q 0 x) (a .output))) ∙ result-kept z p x n lz lp lx ln g ex en
+    rw (c .output, b .output, a .output) (result-kept z p x n lz lp lx ln g ex en)
 
 -- there is a number left
 pub next-number : (n : ℕ) → n < suc number-greatest → (n ≡ number-greatest → ⊥) → n + 1 < suc number-greatest

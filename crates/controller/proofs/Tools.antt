@@ -1,5 +1,5 @@
 -- A tool record by its kind: how long its payload is, and which event it is.
-use mathlib.Core.Path.{_≡_, refl, sym, ap, subst, _∙_}
+use mathlib.Core.Path.{_≡_, refl, sym, ap, _∙_}
 use Prim.Native.Nat.{ℕ, _+_, _≤_}
 use native.Mathlib.Omega.{arith}
 use mathlib.Core.Bool.{Bool, true, false, cond}
@@ -70,8 +70,8 @@ module _ (record-kind : RecordKind) (slice : List ℕ) (e : tool-in record-kind 
         → taken ≡ taken-by (decode t .sessions) (is r) → at ≤ call-most → Went t o 0 ms at t′ o′ → Reports slice t o at taken t′ o′
     as-reported {at = at} {t′ = t′} {o′ = o′} r q m k h w = record {
       within = h;
-      went = subst (λ (x : List Moment). Went t o 0 x at t′ o′) (m ∙ ap (λ (x : Option Tool). happening (is x)) q) w;
-      taken = k ∙ ap (λ (x : Option Tool). taken-by (decode t .sessions) (is x)) q;
+      went = rw (← q, ← m) w;
+      taken = rw (← q) k;
     }
 
     pub bad-reported : record-kind ≡ Bad → Table t → Reports slice t o 0 0 t o

@@ -3,7 +3,7 @@
 use mathlib.Core.Path.{_≡_, refl, sym, ap, ap₂, _∙_}
 use Prim.Native.Nat.{ℕ, _≤_}
 use mathlib.Core.List.{List, _∷_, _++_}
-use lib.ListN.{length, drop}
+use lib.ListN.{length}
 use borrow.Author.Tests.{le-ltb}
 use Rattle.model.specs.Limits.{output-least}
 use Rattle.model.specs.World.{World}
@@ -15,7 +15,6 @@ use Rattle.model.specs.Erased.{erase-world}
 use Rattle.model.proofs.Erase.{output-append}
 use Rattle.table.specs.Table.{decode, Table}
 use Rattle.controller.specs.declared.Answer.{Answer}
-use Rattle.controller.specs.Contract.{Said}
 use Rattle.controller.specs.HandedOn.{HandedOn, nothing-left, and-on}
 use Rattle.controller.proofs.Traces.{table-left}
 use Rattle.controller.proofs.Modelled.{lending, one-call}
@@ -41,24 +40,16 @@ as-uncut w h e nothing-left = record { world = e; bytes = refl; table = h; same-
 as-uncut {s = s} {t = t} w h e (and-on {t₁ = t₁} {o = o} {bs = bs} {b = b} {r = r} room out rest) =
     let l = lending (length t) output-least in
     let q = step l w (bytes s (b ∷ bs)) in
-    let same : step (lending (length t) (length o)) w (bytes s (b ∷ bs)) ≡ q = room-enough (length t) (length o) s (b ∷ bs) w room in
-    let k = one-call w h e out in
-    let next : decode t₁ ≡ erase-world (q .0) = k .world ∙ ap (λ (x : Said). erase-world (x .0)) same in
-    let left : r .consumed ≡ (q .1) .consumed = ap (λ (a : model.Answer). a .consumed) (k .answer)
-    ∙ ap (λ (x : Said). (x .1) .consumed) same in
-    let ih = as-uncut (q .0) (table-left h out) next rest in
-    let m : read-all (lending (length t₁) output-least) (q .0) s (drop (r .consumed) (b ∷ bs))
-    ≡ read-all l (q .0) s (drop ((q .1) .consumed) (b ∷ bs)) =
-    ap₂ (λ (size n : ℕ). read-all (lending size output-least) (q .0) s (drop n (b ∷ bs))) (out .size) left in
+    let k = rw (room-enough (length t) (length o) s (b ∷ bs) w room) at (one-call w h e out) in
+    let left : r .consumed ≡ (q .1) .consumed = ap (λ (a : model.Answer). a .consumed) (k .answer) in
+    let ih = rw (out .size, left) at (as-uncut (q .0) (table-left h out) (k .world) rest) in
     record {
-      world =
-          ih .world ∙ ap (λ (x : Upshot). erase-world (x .world)) m
-          ∙ ap (λ (x : Upshot). erase-world (x .world)) (sym (read-on l s w b bs));
+      world = rw (read-on l s w b bs) (ih .world);
       bytes =
-          ap₂ _++_ (k .bytes ∙ ap (λ (x : Said). output (x .2)) same) (ih .bytes ∙ ap (λ (x : Upshot). output (x .emissions)) m)
-          ∙ sym (output-append (q .2) _) ∙ ap (λ (x : Upshot). output (x .emissions)) (sym (read-on l s w b bs));
+          ap₂ _++_ (k .bytes) (ih .bytes) ∙ sym (output-append (q .2) _)
+          ∙ ap (λ (x : Upshot). output (x .emissions)) (sym (read-on l s w b bs));
       table = ih .table;
-      same-size = ih .same-size ∙ out .size;
+      same-size = ih .same-size;
     }
 
 -- CUTS DO NOT MATTER: two slices one after the other, or their bytes in one, leave a table of the same meaning, and have the same
@@ -71,13 +62,6 @@ cut-anywhere-same {s = s} {t = t} {xs = xs} {ys = ys} {t₁ = t₁} h a b c =
     let w = decode t in
     let first = as-uncut w h (decode-erased t) a in
     let m = read-all l w s xs in
-    let second = as-uncut (m .world) (first .table) (first .world) b in
-    let whole = as-uncut w h (decode-erased t) c in
-    let n : read-all (lending (length t₁) output-least) (m .world) s ys ≡ read-all l (m .world) s ys =
-    ap (λ (size : ℕ). read-all (lending size output-least) (m .world) s ys) (first .same-size) in
-    let k = cut-anywhere l w s xs ys in (
-      second .world ∙ ap (λ (x : Upshot). erase-world (x .world)) n ∙ sym (ap (λ (x : Upshot). erase-world (x .world)) k)
-          ∙ sym (whole .world),
-      ap₂ _++_ (first .bytes) (second .bytes ∙ ap (λ (x : Upshot). output (x .emissions)) n)
-          ∙ sym (output-append (m .emissions) _) ∙ sym (ap (λ (x : Upshot). output (x .emissions)) k) ∙ sym (whole .bytes),
-    )
+    let second = rw (first .same-size) at (as-uncut (m .world) (first .table) (first .world) b) in
+    let whole = rw (cut-anywhere l w s xs ys) at (as-uncut w h (decode-erased t) c) in
+    (cc, ap₂ _++_ (first .bytes) (second .bytes) ∙ sym (output-append (m .emissions) _) ∙ sym (whole .bytes))

@@ -3,21 +3,20 @@ use mathlib.Core.Path.{_≡_, refl, sym, ap, subst}
 use Prim.Native.Nat.{ℕ, zero, suc, _+_, _-_, _≤_, _<_}
 use native.Mathlib.Omega.{arith}
 use mathlib.Core.Bool.{Bool, true}
-use mathlib.Core.List.{List, [], _∷_, _++_, map}
+use mathlib.Core.List.{List, [], _∷_, _++_, map, append-assoc}
 use lib.Dec.{leb, ltb}
 use borrow.Author.Tests.{leb-true, ltb-true}
-use lib.ListN.{length, take, drop, length-append, replicate}
+use lib.ListN.{length, take, drop, replicate}
 use lib.Seq.{take-all}
 use Rattle.model.specs.Limits.{header-length, identifier-length}
 use Rattle.model.specs.Bytes.{NUL, all, in-bytes}
 use Rattle.model.specs.Records.{record-head, house-record, said, settings-length, settings-items, values, settings-of, tightening-of}
 use Rattle.model.specs.Layouts.{Layout, data-from, data-of, characters, data-length, layout-at, layouts-0052, layouts-0061}
 use Rattle.model.specs.Kinds.{Kind, kinds, kind-at}
-use Rattle.model.specs.Frames.{header, frame, frame-0002, frame-0004, frame-0005, event-frame, frame-record}
+use Rattle.model.specs.Frames.{frame, frame-0002, frame-0004, frame-0005, event-frame, frame-record}
 use Rattle.model.proofs.Framed.{at-every}
 use Rattle.model.proofs.KindLaws.{every-layout}
-use Rattle.text.specs.Put.{Put}
-use Rattle.text.proofs.Numbers.{digits-length}
+use Rattle.text.specs.Put.{Put, Written}
 use Rattle.text.proofs.Puts.{put-then, put-before, put-over, put-as}
 use Rattle.frame.specs.declared.Content.{Content}
 use Rattle.frame.specs.declared.Content.the-variants.{Started, Refused, Accepted, Notice}
@@ -26,20 +25,19 @@ use Rattle.frame.specs.declared.Heading.{Heading}
 use Rattle.frame.specs.declared.To.{To}
 use Rattle.frame.specs.Places.{place-items, place-size, result-of, event-in}
 use Rattle.frame.specs.Layout.{layout-of, placed, Payloads, data-in, served, all-served}
-use Rattle.frame.specs.Output.{Written, frame-length, mid-of, revision-of, notice-byte-12, byte-12-of, heading-of, heading-bytes}
-use Rattle.frame.specs.Output.{frame-of, head-bytes, Recorded}
+use Rattle.frame.specs.Output.{frame-length, notice-byte-12, heading-of, heading-bytes}
+use Rattle.frame.specs.Output.{frame-of, RecordMade, Recorded}
 
 -- ==== output records
 
 -- the head is written last, before the payload that stands there
 pub recorded : {o o₁ o₂ bs : List ℕ} {end r : ℕ} (to : To) (record-kind : ℕ) → Put o (to .at + record-head) bs end o₁
-    → (r ≡ end) × Written o₁ (to .at) record-head (head-bytes to record-kind end) (to .at + record-head) o₂
-    → Put o (to .at) (house-record (record-kind + to .session) bs) r o₂
+    → RecordMade o₁ to record-kind end r o₂ → Put o (to .at) (house-record (record-kind + to .session) bs) r o₂
 recorded {o} {o₁} {o₂} {bs} {end} {r} to record-kind p h =
     let n : end - (to .at + record-head) ≡ length bs = let e = p .place in omega arith in
-    subst (λ (k : ℕ). Put o (to .at) (house-record (record-kind + to .session) bs) k o₂) (sym (h .0))
+    subst (λ (k : ℕ). Put o (to .at) (house-record (record-kind + to .session) bs) k o₂) (sym (h .ends))
     (put-as (ap (λ (k : ℕ). (in-bytes 2 k ++ in-bytes 2 (record-kind + to .session)) ++ bs) n)
-    (put-before p (h .1 .put) refl))
+    (put-before p (h .head .put) refl))
 
 -- a record that stands before the place, written once more there, and then the kind of another session into its head
 pub repeated : {o o₁ o₂ bs : List ℕ} {at from r r′ : ℕ} (s : ℕ) → Recorded o from at bs → Put o at (take (at - from) (drop from o)) r o₁
@@ -57,23 +55,19 @@ pub headed : {o o′ : List ℕ} {at r : ℕ} {h g : Heading} → h ≡ g → Wr
     → Written o at header-length (heading-bytes g) r o′
 headed {o} {o′} {at} {r} e w = subst (λ (x : Heading). Written o at header-length (heading-bytes x) r o′) e w
 
--- header, data and NUL, one after another
+-- data and NUL, and then the header before them
 pub wrote-frame : {o o₁ o₂ o₃ : List ℕ} {at next nul end : ℕ} (content : Content) (b : Payloads)
-    → Written o at header-length (heading-bytes (heading-of content)) next o₁
-    → Written o₁ next (data-length (layout-of content)) (data-in content b) nul o₂
-    → (end ≡ nul + 1) × Put o₂ nul (replicate 1 0) end o₃
+    → Written o (at + header-length) (data-length (layout-of content)) (data-in content b) nul o₁
+    → (end ≡ nul + 1) × Put o₁ nul (replicate 1 0) end o₂
+    → Written o₂ at header-length (heading-bytes (heading-of content)) next o₃
     → (end ≡ at + suc (frame-length content)) × Put o at (frame-of content b ++ NUL ∷ []) end o₃
 unfolding frame
-wrote-frame {at = at} content b h d z =
-    let p = h .place in
-    let q = d .place in
-    let e = d .put .place in
+wrote-frame content b d z h =
+    let p = d .place in
+    let q = d .put .place in
     let i = z .0 in
-    let n : frame-length content ≡ header-length + length (data-in content b) = omega arith in (
-      omega arith,
-      put-as (ap (λ (k : ℕ). (header k (mid-of content) (revision-of content) (byte-12-of content) ++ data-in content b) ++ NUL ∷ []) n)
-          (put-then (put-then (h .put) (d .put)) (z .1)),
-    )
+    let n : frame-length content ≡ header-length + length (data-in content b) = omega arith in
+    (omega arith, put-as (rw (n, append-assoc)) (put-before (put-then (d .put) (z .1)) (h .put) (h .place)))
 
 -- ==== how long they are, and which bytes serve them
 
@@ -82,6 +76,13 @@ short k l = leb (header-length + data-length l) (k .longest)
 
 pub copy-short : (asked : Asked) → asked .kind < length kinds → frame-length (Notice asked) ≤ (kind-at (asked .kind)) .longest
 copy-short asked h = leb-true _ _ (every-layout short refl (asked .kind) h (asked .revision))
+
+abbrev in-four : Kind → Layout → Bool
+in-four k l = ltb (header-length + data-length l) 10000
+
+-- a frame's length has four digits
+pub copy-in-four : (asked : Asked) → asked .kind < length kinds → frame-length (Notice asked) < 10000
+copy-in-four asked h = ltb-true _ _ (every-layout in-four refl (asked .kind) h (asked .revision))
 
 abbrev few-rows : Kind → Layout → Bool
 few-rows k l = ltb (length (l .rows)) 100

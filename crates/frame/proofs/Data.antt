@@ -7,19 +7,19 @@ use native.Mathlib.Omega.{arith}
 use mathlib.Core.Bool.{Bool}
 use mathlib.Core.List.{List, [], _∷_, _++_, map}
 use lib.ListN.{length, drop, replicate, length-map, drop-of-length-le, List·getD-map}
-use Rattle.model.specs.Bytes.{all, digits}
+use Rattle.model.specs.Bytes.{digits}
 use Rattle.model.specs.Layouts.{Sources, Row, blank, width-of, characters, label-length, label, data-from, rows-length, data-length}
-use Rattle.text.specs.Put.{Put}
+use Rattle.text.specs.Put.{Put, Written}
 use Rattle.text.proofs.Lists.{drop-next, all-at}
 use Rattle.text.proofs.Puts.{Left, left-all, left-put, left-none, left-as, put-then, put-as}
 use Rattle.frame.specs.declared.Placed.{Placed}
 use Rattle.frame.specs.declared.Content.{Content}
 use Rattle.frame.specs.Layout.{layout-of, items-told, row-at, placed, placed-width, Payloads, field-characters, said-by}
 use Rattle.frame.specs.Layout.{data-in, served}
-use Rattle.frame.specs.Output.{Written, Servable, Layable}
+use Rattle.frame.specs.Output.{Servable, Layable}
 use Rattle.frame.proofs.Placing.{suits, placed-shown, width-placed, all-suit}
 
--- ==== a field's number
+-- ==== pairs of digits
 
 -- two digits, one after the other
 pub two-digits : {o o₁ o₂ : List ℕ} {n at r₁ r₂ : ℕ} → n < 100 → (r₁ ≡ at + 1) × Put o at (replicate 1 (0x30 + n / 10)) r₁ o₁
@@ -30,6 +30,19 @@ two-digits {n = n} h p q = record {
   put =
       let e : n / 10 ≡ n / 10 % 10 = omega arith in
       put-as (ap (λ (d : ℕ). (0x30 + d) ∷ (0x30 + n % 10) ∷ []) e) (put-then (p .1) (q .1));
+}
+
+-- and two pairs
+pub two-pairs : {o o₁ o₂ : List ℕ} {at r₁ r₂ : ℕ} (n : ℕ) → Written o at 2 (digits 2 (n / 100)) r₁ o₁
+    → Written o₁ r₁ 2 (digits 2 (n % 100)) r₂ o₂ → Written o at 4 (digits 4 n) r₂ o₂
+unfolding digits
+two-pairs n p q = record {
+  place = let e = p .place in let f = q .place in omega arith;
+  put =
+      let a : n / 100 ≡ n / 10 / 10 = omega arith in
+      let b : n % 100 / 10 % 10 ≡ n / 10 % 10 = omega arith in
+      let c : n % 100 % 10 ≡ n % 10 = omega arith in
+      put-as (rw (a, b, c)) (put-then (p .put) (q .put));
 }
 
 -- ==== one row more

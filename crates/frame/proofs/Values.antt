@@ -8,12 +8,12 @@ use lib.ListN.{length, replicate}
 use borrow.Author.Tests.{leb-true}
 use Rattle.model.specs.Bytes.{space, digits, little}
 use Rattle.model.specs.Layouts.{settings}
-use Rattle.text.specs.Put.{Put}
+use Rattle.text.specs.Put.{Put, Written}
 use Rattle.text.proofs.Puts.{put-as}
 use Rattle.frame.specs.declared.Placed.{Placed}
 use Rattle.frame.specs.declared.Placed.the-variants.{Number, Text, Blank, Known}
 use Rattle.frame.specs.Layout.{Payloads, bytes-of, part, placed-width, field-characters, served}
-use Rattle.frame.specs.Output.{Written, Readable, Servable}
+use Rattle.frame.specs.Output.{Readable, Copyable, Servable}
 
 module _ (b : Payloads) where
   abbrev serves : Placed → Bool
@@ -32,9 +32,12 @@ module _ (b : Payloads) where
   number-served {row} {w} {f} {s} {p} e h =
       let t = and-eq-true-iff _ (leb s 8) .0 (sym (ap serves e) ∙ h .sound) in (fits f (p + s) (t .0), leb-true s 8 (t .1))
 
-  pub text-served : {row : Placed} {w f p at n : ℕ} → row ≡ Text w f p → Servable b row at n → Readable b f w p × (at + w ≤ n)
-  text-served {row} {w} {f} {p} {at} {n} e h =
-      (fits f (p + w) (sym (ap serves e) ∙ h .sound), subst (λ (k : ℕ). at + k ≤ n) (ap placed-width e) (h .room))
+  pub text-served : {row : Placed} {w f p at n : ℕ} → row ≡ Text w f p → Servable b row at n
+      → Copyable b (record { from = f; size = w; place = p }) at n
+  text-served {row} {w} {f} {p} {at} {n} e h = record {
+    there = fits f (p + w) (sym (ap serves e) ∙ h .sound);
+    room = subst (λ (k : ℕ). at + k ≤ n) (ap placed-width e) (h .room);
+  }
 
   pub row-room : {row row′ : Placed} {at n : ℕ} → row ≡ row′ → Servable b row at n → at + placed-width row′ ≤ n
   row-room {row} {row′} {at} {n} e h = subst (λ (k : ℕ). at + k ≤ n) (ap placed-width e) (h .room)

@@ -1,5 +1,5 @@
 -- The layouts of the frames that we write, where the values stand as bytes. 01, "Frames we write".
-use Prim.Native.Nat.{ℕ, _+_}
+use Prim.Native.Nat.{ℕ, _+_, _-_}
 use mathlib.Core.Bool.{Bool, true, cond, _&&_}
 use mathlib.Core.List.{List, [], map}
 use lib.Dec.{leb, eqb}
@@ -30,8 +30,15 @@ items-told (Refused mid error) = []
 items-told (Accepted mid) = []
 items-told (Notice asked) = place-items (asked .kind)
 
+abbrev pub extent : Layout → Extent
+extent l = record { numbered = l .numbered; count = length (l .rows) }
+
 abbrev pub extent-of : Content → Extent
-extent-of content = record { numbered = layout-of content .numbered; count = length (layout-of content .rows) }
+extent-of content = extent (layout-of content)
+
+-- where a revision stands among so many older ones, from 1 on, and the newest (above the newest there is none)
+abbrev pub place-among : ℕ → ℕ → ℕ
+place-among older revision = cond (leb (revision - 1) older) (revision - 1) older
 
 -- row k (past the last there is none)
 abbrev pub row-at : List Row → ℕ → Row

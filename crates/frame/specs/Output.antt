@@ -11,9 +11,10 @@ use Rattle.model.specs.Records.{record-head, settings-length}
 use Rattle.model.specs.Layouts.{data-length}
 use Rattle.model.specs.Kinds.{kinds, kind-at, copy-most}
 use Rattle.model.specs.Frames.{header, frame, frame-record}
-use Rattle.text.specs.Put.{Put, Stands}
+use Rattle.text.specs.Put.{Put, Written, Stands}
 use Rattle.frame.specs.Places.{place-size}
 use Rattle.frame.specs.Layout.{layout-of, Payloads, bytes-of, placed-width, data-in, served, all-served}
+use Rattle.frame.specs.declared.Part.{Part}
 use Rattle.frame.specs.declared.Placed.{Placed}
 use Rattle.frame.specs.declared.Content.{Content}
 use Rattle.frame.specs.declared.Content.the-variants.{Started, Refused, Accepted, Notice}
@@ -23,14 +24,14 @@ use Rattle.frame.specs.declared.Asked.{Asked}
 
 -- ==== fields
 
--- n bytes were written: bs, from `at` on
-pub record Written (o : List ℕ) (at n : ℕ) (bs : List ℕ) (next : ℕ) (o′ : List ℕ) : Type 0 where
-  pub place : next ≡ at + n
-  pub put : Put o at bs next o′
-
 -- so many bytes at a place are there
 abbrev pub Readable : Payloads → ℕ → ℕ → ℕ → Type 0
 Readable b from size place = place + size ≤ length (bytes-of b from)
+
+-- and an output has room for so many
+pub record Copyable (b : Payloads) (p : Part) (at size : ℕ) : Type 0 where
+  pub there : Readable b (p .from) (p .size) (p .place)
+  pub room : at + p .size ≤ size
 
 -- a row can be written: its bytes are there, and an output of so many bytes has room for it
 pub record Servable (b : Payloads) (row : Placed) (at size : ℕ) : Type 0 where
@@ -90,6 +91,12 @@ heading-of content = record {
 abbrev pub heading-bytes : Heading → List ℕ
 heading-bytes h = header (h .size) (h .mid) (h .revision) (h .«byte_12»)
 
+-- the header of a frame can go there: it is told how long the frame is
+pub record Headable (content : Content) (length at size : ℕ) : Type 0 where
+  pub real : Real content
+  pub own : length ≡ frame-length content
+  pub room : at + header-length ≤ size
+
 abbrev pub frame-of : Content → Payloads → List ℕ
 frame-of content b = frame (mid-of content) (revision-of content) (byte-12-of content) (data-in content b)
 
@@ -121,6 +128,11 @@ pub record Recordable (out : List ℕ) (to : To) (record-kind end : ℕ) : Type 
 abbrev pub head-bytes : To → ℕ → ℕ → List ℕ
 head-bytes to record-kind end = in-bytes 2 (end - (to .at + record-head)) ++ in-bytes 2 (record-kind + to .session)
 
+-- the record is made
+pub record RecordMade (o : List ℕ) (to : To) (record-kind end r : ℕ) (o′ : List ℕ) : Type 0 where
+  pub ends : r ≡ end
+  pub head : Written o (to .at) record-head (head-bytes to record-kind end) (to .at + record-head) o′
+
 -- a frame can go there
 pub record Sendable (out : List ℕ) (to : To) (content : Content) (b : Payloads) : Type 0 where
   pub output : Writable out to (record-length (frame-length content))
@@ -139,6 +151,11 @@ pub record Lent (out : List ℕ) (to : To) (asked : Asked) (st p : List ℕ) : T
 pub record Recorded (out : List ℕ) (from at : ℕ) (bs : List ℕ) : Type 0 where
   pub session : ℕ
   pub stands : Stands out from at (frame-record session bs)
+
+-- whichever frame's record stands before the place goes there once more
+pub record WrittenAgain (o : List ℕ) (to : To) (from r : ℕ) (o′ : List ℕ) : Type 0 where
+  pub place : r ≡ to .at + (to .at - from)
+  pub put : (bs : List ℕ) → Recorded o from (to .at) bs → Put o (to .at) (frame-record (to .session) bs) r o′
 
 -- a record that stands from `from` up to the place can go there once more
 pub record Repeatable (out : List ℕ) (to : To) (from : ℕ) : Type 0 where

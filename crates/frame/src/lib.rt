@@ -5,14 +5,14 @@ ghost use mathlib.Core.List.{List, []};
 ghost use Prim.Native.Nat.{ℕ, _+_, _-_, _≤_, _<_};
 ghost use lib.ListN.{length, take, drop};
 ghost use Rattle.model.specs.Limits.{header-length};
-ghost use Rattle.model.specs.Bytes.{space, is-digit, is-space, all, little};
+ghost use Rattle.model.specs.Bytes.{space, is-digit, is-space, all, digits, little};
 ghost use Rattle.model.specs.Runs.{is-flag as is-flag-byte, revision-of, is-message as is-message-run};
 ghost use Rattle.model.specs.Records.{record-head, settings-of, settings-length, scanned-items, result-items};
 ghost use Rattle.model.specs.Layouts.{controller-rows, identifier-rows, result-rows, data-length, label-length, label};
 ghost use Rattle.model.specs.Kinds.{kinds, kind-at, copy-most, reply-most};
 ghost use Rattle.model.specs.Frames.{frame-0002, frame-0004, frame-0005, event-frame, frame-record, close-record};
-ghost use Rattle.text.specs.Put.{Put};
-ghost use Rattle.frame.specs.Header.{header-of};
+ghost use Rattle.text.specs.Put.{Written, WrittenUpTo};
+ghost use Rattle.frame.specs.Header.{header-of, RunReads};
 ghost use Rattle.frame.specs.Places.{event-in};
 ghost use Rattle.frame.specs.Layout.{
   payloads,
@@ -21,17 +21,19 @@ ghost use Rattle.frame.specs.Layout.{
   placed,
   placed-row,
   extent-of,
+  place-among,
   placed-width,
   part,
   field-characters,
   data-in,
 };
 ghost use Rattle.frame.specs.Output.{
-  Written,
   Real,
   Readable,
+  Copyable,
   Servable,
   Layable,
+  Headable,
   Sendable,
   heading-bytes,
   notice-byte-12,
@@ -39,13 +41,13 @@ ghost use Rattle.frame.specs.Output.{
   heading-of,
   frame-of,
   Recordable,
-  head-bytes,
+  RecordMade,
   length-0004,
   length-0005,
   record-length,
   Writable,
   Lent,
-  Recorded,
+  WrittenAgain,
   Repeatable,
 };
 ghost use Rattle.frame.specs.declared.Content.the-variants.{Notice};
@@ -179,7 +181,7 @@ pub struct RunRead<'a> {
 
 // Reads a run of count bytes, whose first are these.
 pub fn read_header<'a>(run: &'a [u8], count: usize) -> RunRead<'a>
-    ensures { λ r. ⌜ (r .header ≡ header-of (now (run .entry)) «count») × (now (r .field) ≡ drop header-length (now (run .entry))) ⌝ }
+    ensures { λ r. ⌜ RunReads (now (run .entry)) «count» (r .header) (now (r .field)) ⌝ }
 {
     let header = header_in(run, count);
     let field = data_field(run);
@@ -253,6 +255,8 @@ fn identifier_row(k: usize) -> Placed
 {
     match k {
         0 => Placed::Text(IDENTIFIER_LENGTH, TOLD, 0),
+        1 => Placed::Blank(IDENTIFIER_LENGTH),
+        2 => Placed::Blank(IDENTIFIER_LENGTH),
         _ => Placed::Blank(IDENTIFIER_LENGTH),
     }
 }
@@ -293,26 +297,51 @@ fn result_row(k: usize) -> Placed
     }
 }
 
+// How many rows notices have, by revision: those of the older ones, from 1 on, and of the newest.
+const IDENTIFIERS_OLDER: usize = 1;
+
+const IDENTIFIER_EXTENTS: [Extent; IDENTIFIERS_OLDER + 1] = [
+    Extent {
+        numbered: true,
+        count: 1,
+    },
+    Extent {
+        numbered: true,
+        count: IDENTIFIER_COUNT,
+    },
+];
+
+const RESULTS_OLDER: usize = 0;
+
+const RESULT_EXTENTS: [Extent; RESULTS_OLDER + 1] = [Extent {
+    numbered: true,
+    count: CONTROLLER_COUNT + RESULT_COUNT,
+}];
+
+// Where a revision stands among so many older ones and the newest.
+fn place_among(older: usize, revision: u64) -> usize
+    ensures { λ r. ⌜ (r ≤ older) × (r ≡ place-among older revision) ⌝ }
+{
+    if revision > older as u64 {
+        return older;
+    }
+    if revision == 0 {
+        return 0;
+    }
+    (revision - 1) as usize
+}
+
 // A notice.
 fn notice_extent(asked: Asked) -> Extent
     requires { ⌜ asked .kind < length kinds ⌝ }
     ensures { λ r. ⌜ r ≡ extent-of (Notice asked) ⌝ }
 {
     if asked.kind == model::IDENTIFIERS {
-        let count = if asked.revision < 2 {
-            1
-        } else {
-            IDENTIFIER_COUNT
-        };
-        return Extent {
-            numbered: true,
-            count,
-        };
+        let i = place_among(IDENTIFIERS_OLDER, asked.revision);
+        return IDENTIFIER_EXTENTS[i];
     }
-    Extent {
-        numbered: true,
-        count: CONTROLLER_COUNT + RESULT_COUNT,
-    }
+    let i = place_among(RESULTS_OLDER, asked.revision);
+    RESULT_EXTENTS[i]
 }
 
 fn notice_row(asked: Asked, k: usize) -> Placed
@@ -395,8 +424,7 @@ fn put_bytes(out: &mut [u8], at: usize, size: usize, place: usize, source: &[u8]
 }
 
 fn put_text(out: &mut [u8], at: usize, p: Part, settings: &[u8], told: &[u8]) -> usize
-    requires { ⌜ Readable (payloads (now settings) (now told)) (p .from) (p .size) (p .place)
-        × (at + p .size ≤ length (now out)) ⌝ }
+    requires { ⌜ Copyable (payloads (now settings) (now told)) p at (length (now out)) ⌝ }
     ensures { λ r. ⌜ Written (now (out .entry)) at (p .size)
         (part (payloads (now (settings .entry)) (now (told .entry))) (p .from) (p .size) (p .place)) r (now (out .exit)) ⌝ }
 {
@@ -430,7 +458,17 @@ fn put_value(out: &mut [u8], at: usize, row: Placed, settings: &[u8], told: &[u8
     }
 }
 
-// The number of a field, in two digits, where fields are numbered.
+// Two digits. Divided as a byte a number below a hundred costs little.
+fn put_pair(out: &mut [u8], at: usize, n: usize) -> usize
+    requires { ⌜ (n < 100) × (at + 2 ≤ length (now out)) ⌝ }
+    ensures { λ r. ⌜ Written (now (out .entry)) at 2 (digits 2 n) r (now (out .exit)) ⌝ }
+{
+    let n = n as u8;
+    let at = text::fill(out, at, 1, b'0' + n / 10);
+    text::fill(out, at, 1, b'0' + n % 10)
+}
+
+// The number of a field, where fields are numbered.
 fn put_label(out: &mut [u8], at: usize, numbered: bool, n: usize) -> usize
     requires { ⌜ (n < 100) × (at + label-length numbered ≤ length (now out)) ⌝ }
     ensures { λ r. ⌜ Written (now (out .entry)) at (label-length numbered) (label numbered n) r (now (out .exit)) ⌝ }
@@ -438,9 +476,7 @@ fn put_label(out: &mut [u8], at: usize, numbered: bool, n: usize) -> usize
     if !numbered {
         return at;
     }
-    let n = n as u8;
-    let at = text::fill(out, at, 1, b'0' + n / 10);
-    text::fill(out, at, 1, b'0' + n % 10)
+    put_pair(out, at, n)
 }
 
 // The fields of a frame, each with its number before it where they are numbered.
@@ -467,17 +503,26 @@ fn put_fields(out: &mut [u8], at: usize, content: Content, settings: &[u8], told
 
 // What it says.
 pub struct Heading {
-    pub size: u64,
+    pub size: usize,
     pub mid: u64,
     pub revision: u64,
     pub byte_12: u8,
 }
 
+// The length.
+fn put_size(out: &mut [u8], at: usize, n: usize) -> usize
+    requires { ⌜ (n < 10000) × (at + 4 ≤ length (now out)) ⌝ }
+    ensures { λ r. ⌜ Written (now (out .entry)) at 4 (digits 4 n) r (now (out .exit)) ⌝ }
+{
+    let at = put_pair(out, at, n / 100);
+    put_pair(out, at, n % 100)
+}
+
 fn put_heading(out: &mut [u8], at: usize, h: Heading) -> usize
-    requires { ⌜ at + header-length ≤ length (now out) ⌝ }
+    requires { ⌜ (h .size < 10000) × (at + header-length ≤ length (now out)) ⌝ }
     ensures { λ r. ⌜ Written (now (out .entry)) at header-length (heading-bytes h) r (now (out .exit)) ⌝ }
 {
-    let at = text::put_digits(out, at, NUMBER_DIGITS, h.size);
+    let at = put_size(out, at, h.size);
     let at = text::put_digits(out, at, NUMBER_DIGITS, h.mid);
     let at = text::put_digits(out, at, REVISION_DIGITS, h.revision);
     let at = text::fill(out, at, 1, h.byte_12);
@@ -485,7 +530,7 @@ fn put_heading(out: &mut [u8], at: usize, h: Heading) -> usize
 }
 
 // Of a reply: revision 1, and byte 12 a space.
-fn reply_heading(size: u64, mid: u64) -> Heading
+fn reply_heading(size: usize, mid: u64) -> Heading
     ensures { λ r. ⌜ r ≡ record { size = size; mid = mid; revision = 1; «byte_12» = space } ⌝ }
 {
     Heading {
@@ -504,7 +549,7 @@ fn byte_12(no_acknowledge: bool) -> u8
 }
 
 // Of a notice: as it was subscribed to.
-fn notice_heading(size: u64, mid: u64, asked: Asked) -> Heading
+fn notice_heading(size: usize, mid: u64, asked: Asked) -> Heading
     ensures { λ r. ⌜ r ≡ record {
       size = size;
       mid = mid;
@@ -520,29 +565,22 @@ fn notice_heading(size: u64, mid: u64, asked: Asked) -> Heading
     }
 }
 
-// The header of each frame. Its length and number stand in an arm for each, so that the compiler knows their digits.
-fn put_notice_header(out: &mut [u8], at: usize, asked: Asked) -> usize
-    requires { ⌜ (asked .kind < length kinds) × (at + header-length ≤ length (now out)) ⌝ }
-    ensures { λ r. ⌜ Written (now (out .entry)) at header-length (heading-bytes (heading-of (Notice asked))) r (now (out .exit)) ⌝ }
-{
-    if asked.kind != model::IDENTIFIERS {
-        return put_heading(out, at, notice_heading(231, 61, asked));
-    }
-    if asked.revision < 2 {
-        return put_heading(out, at, notice_heading(47, 52, asked));
-    }
-    put_heading(out, at, notice_heading(128, 52, asked))
-}
-
-fn put_header(out: &mut [u8], at: usize, content: Content) -> usize
-    requires { ⌜ Real content × (at + header-length ≤ length (now out)) ⌝ }
+// The header of a frame of so many bytes. The number, and the length of what has one length only, stand in an arm for each frame, so that
+// the compiler knows their digits.
+fn put_header(out: &mut [u8], at: usize, content: Content, size: usize) -> usize
+    requires { ⌜ Headable content size at (length (now out)) ⌝ }
     ensures { λ r. ⌜ Written (now (out .entry)) at header-length (heading-bytes (heading-of content)) r (now (out .exit)) ⌝ }
 {
     match content {
         Content::Started => put_heading(out, at, reply_heading(57, 2)),
         Content::Refused(mid, error) => put_heading(out, at, reply_heading(26, 4)),
         Content::Accepted(mid) => put_heading(out, at, reply_heading(24, 5)),
-        Content::Notice(asked) => put_notice_header(out, at, asked),
+        Content::Notice(asked) => {
+            if asked.kind == model::IDENTIFIERS {
+                return put_heading(out, at, notice_heading(size, 52, asked));
+            }
+            put_heading(out, at, notice_heading(size, 61, asked))
+        }
     }
 }
 
@@ -565,8 +603,7 @@ const RECORD_KIND_AT: usize = 2;
 // Makes an output record of the payload that stands behind the place of its head, up to `end`.
 fn put_record(out: &mut [u8], to: To, record_kind: u64, end: usize) -> usize
     requires { ⌜ Recordable (now out) to «record_kind» end ⌝ }
-    ensures { λ r. ⌜ (r ≡ end) × Written (now (out .entry)) (to .at) record-head (head-bytes to «record_kind» end) (to .at + record-head)
-        (now (out .exit)) ⌝ }
+    ensures { λ r. ⌜ RecordMade (now (out .entry)) to «record_kind» end r (now (out .exit)) ⌝ }
 {
     let size = end - (to.at + model::RECORD_HEAD);
     let at = text::put_little(out, to.at, 2, size as u64);
@@ -577,22 +614,22 @@ fn put_record(out: &mut [u8], to: To, record_kind: u64, end: usize) -> usize
 // The order to close the session: a record with nothing in it.
 pub fn put_close(out: &mut [u8], to: To) -> usize
     requires { ⌜ Writable (now out) to record-head ⌝ }
-    ensures { λ r. ⌜ (r ≡ to .at + record-head)
-        × Put (now (out .entry)) (to .at) (close-record (to .session)) r (now (out .exit)) ⌝ }
+    ensures { λ r. ⌜ Written (now (out .entry)) (to .at) record-head (close-record (to .session)) r (now (out .exit)) ⌝ }
 {
     put_record(out, to, CLOSE_RECORD_KIND, to.at + model::RECORD_HEAD)
 }
 
-// Any frame by its rows, with its NUL.
+// Any frame by its rows, with its NUL. Where the data ends tells the header how long the frame is.
 fn put_frame(out: &mut [u8], to: To, content: Content, settings: &[u8], told: &[u8]) -> usize
     requires { ⌜ Sendable (now out) to content (payloads (now settings) (now told)) ⌝ }
     ensures { λ r. ⌜ Written (now (out .entry)) (to .at) (record-length (frame-length content))
         (frame-record (to .session) (frame-of content (payloads (now (settings .entry)) (now (told .entry))))) r
         (now (out .exit)) ⌝ }
 {
-    let data = put_header(out, to.at + model::RECORD_HEAD, content);
-    let nul = put_fields(out, data, content, settings, told);
+    let at = to.at + model::RECORD_HEAD;
+    let nul = put_fields(out, at + HEADER_LENGTH, content, settings, told);
     let end = text::fill(out, nul, 1, 0);
+    put_header(out, at, content, nul - at);
     put_record(out, to, FRAME_RECORD_KIND, end)
 }
 
@@ -601,9 +638,8 @@ fn put_frame(out: &mut [u8], to: To, content: Content, settings: &[u8], told: &[
 // 0002: the session is started. The settings are a settings record's payload.
 pub fn put_0002(out: &mut [u8], to: To, settings: &[u8]) -> usize
     requires { ⌜ Writable (now out) to reply-most × (length (now settings) ≡ settings-length) ⌝ }
-    ensures { λ r. ⌜ (r ≡ to .at + reply-most)
-        × Put (now (out .entry)) (to .at) (frame-record (to .session) (frame-0002 (settings-of (now (settings .entry))))) r
-        (now (out .exit)) ⌝ }
+    ensures { λ r. ⌜ Written (now (out .entry)) (to .at) reply-most
+        (frame-record (to .session) (frame-0002 (settings-of (now (settings .entry))))) r (now (out .exit)) ⌝ }
 {
     put_frame(out, to, Content::Started, settings, &[])
 }
@@ -611,8 +647,8 @@ pub fn put_0002(out: &mut [u8], to: To, settings: &[u8]) -> usize
 // 0004: message mid has an error.
 pub fn put_0004(out: &mut [u8], to: To, mid: u64, error: u64) -> usize
     requires { ⌜ Writable (now out) to (record-length length-0004) ⌝ }
-    ensures { λ r. ⌜ (r ≡ to .at + record-length length-0004)
-        × Put (now (out .entry)) (to .at) (frame-record (to .session) (frame-0004 mid error)) r (now (out .exit)) ⌝ }
+    ensures { λ r. ⌜ Written (now (out .entry)) (to .at) (record-length length-0004)
+        (frame-record (to .session) (frame-0004 mid error)) r (now (out .exit)) ⌝ }
 {
     put_frame(out, to, Content::Refused(mid, error), &[], &[])
 }
@@ -620,8 +656,8 @@ pub fn put_0004(out: &mut [u8], to: To, mid: u64, error: u64) -> usize
 // 0005: message mid is accepted.
 pub fn put_0005(out: &mut [u8], to: To, mid: u64) -> usize
     requires { ⌜ Writable (now out) to (record-length length-0005) ⌝ }
-    ensures { λ r. ⌜ (r ≡ to .at + record-length length-0005)
-        × Put (now (out .entry)) (to .at) (frame-record (to .session) (frame-0005 mid)) r (now (out .exit)) ⌝ }
+    ensures { λ r. ⌜ Written (now (out .entry)) (to .at) (record-length length-0005)
+        (frame-record (to .session) (frame-0005 mid)) r (now (out .exit)) ⌝ }
 {
     put_frame(out, to, Content::Accepted(mid), &[], &[])
 }
@@ -629,8 +665,8 @@ pub fn put_0005(out: &mut [u8], to: To, mid: u64) -> usize
 // 9999: the header as it came.
 pub fn put_9999(out: &mut [u8], to: To, run: &[u8]) -> usize
     requires { ⌜ Writable (now out) to (record-length header-length) × (header-length ≤ length (now run)) ⌝ }
-    ensures { λ r. ⌜ (r ≡ to .at + record-length header-length)
-        × Put (now (out .entry)) (to .at) (frame-record (to .session) (take header-length (now (run .entry)))) r (now (out .exit)) ⌝ }
+    ensures { λ r. ⌜ Written (now (out .entry)) (to .at) (record-length header-length)
+        (frame-record (to .session) (take header-length (now (run .entry)))) r (now (out .exit)) ⌝ }
 {
     let at = text::copy(&run[0..HEADER_LENGTH], out, to.at + model::RECORD_HEAD);
     let end = text::fill(out, at, 1, 0);
@@ -642,8 +678,7 @@ pub fn put_9999(out: &mut [u8], to: To, run: &[u8]) -> usize
 // A copy of the notice in a place, to a session that subscribed so.
 pub fn put_copy(out: &mut [u8], to: To, asked: Asked, settings: &[u8], place: &[u8]) -> usize
     requires { ⌜ Lent (now out) to asked (now settings) (now place) ⌝ }
-    ensures { λ r. ⌜ (r ≤ to .at + copy-most (kind-at (asked .kind)))
-        × Put (now (out .entry)) (to .at) (frame-record (to .session)
+    ensures { λ r. ⌜ WrittenUpTo (now (out .entry)) (to .at) (copy-most (kind-at (asked .kind))) (frame-record (to .session)
         (event-frame (settings-of (now (settings .entry))) (asked .revision) (asked .«no_acknowledge»)
         (event-in (asked .kind) (now (place .entry))))) r (now (out .exit)) ⌝ }
 {
@@ -653,8 +688,7 @@ pub fn put_copy(out: &mut [u8], to: To, asked: Asked, settings: &[u8], place: &[
 // The record of a frame that stands from `from` up to the place, whichever session it went to: once more, to this one.
 pub fn put_again(out: &mut [u8], to: To, from: usize) -> usize
     requires { ⌜ Repeatable (now out) to from ⌝ }
-    ensures { λ r. ⌜ (r ≡ to .at + (to .at - from)) × ((bs : List ℕ) → Recorded (now (out .entry)) from (to .at) bs
-        → Put (now (out .entry)) (to .at) (frame-record (to .session) bs) r (now (out .exit))) ⌝ }
+    ensures { λ r. ⌜ WrittenAgain (now (out .entry)) to from r (now (out .exit)) ⌝ }
 {
     let end = text::repeat(out, from, to.at);
     let at = to.at + RECORD_KIND_AT;

@@ -3,9 +3,9 @@
 -- row of the table says.
 use Prim.Native.Nat.{ℕ, _-_, _≤_}
 use mathlib.Core.Path.{_≡_, refl, sym, _∙_, ap, ap₂, subst}
-use mathlib.Core.Bool.{Bool, true, false, cond, _&&_, true≢false}
+use mathlib.Core.Bool.{Bool, true, cond, _&&_, true≢false}
 use mathlib.Core.List.{List, [], _∷_, _++_, map}
-use mathlib.Core.Option.{Option, none, some, Option·map as option-map}
+use mathlib.Core.Option.{Option, none, some}
 use native.Mathlib.Omega.{arith}
 use lib.Dec.{eqb}
 use lib.ListN.{length, take}
@@ -15,12 +15,11 @@ use Rattle.model.specs.Bytes.{space, within, places, little, digits}
 use Rattle.model.specs.Records.{Settings, payload, settings-of, read-settings}
 use Rattle.model.specs.Tests.{_gives_, first}
 use Rattle.model.specs.Frames.{frame-record-kind, close-record-kind}
-use Rattle.model.specs.World.{World, begins, begun, after, emitted}
-use Rattle.model.specs.Calls.{Call, start, Lent, is-none, output, Answer, refusal, at-most-one, answered, step, run}
-use Rattle.model.specs.Row.{Tagged}
-use Rattle.model.specs.Session.{Emission}
+use Rattle.model.specs.World.{World, begins, begun}
+use Rattle.model.specs.Calls.{Call, start, Lent, is-none, output, Answer, refusal, answered, step, run}
 use Rattle.model.specs.Program.{zeros, call-of, shown as underlined}
 use Rattle.model.proofs.Text.{ascii, same-bytes, same-lines}
+use Rattle.model.proofs.Framed.{both}
 use Rattle.model.proofs.Histories.{Wanted, prints, answers, Example, outcome}
 use Rattle.model.proofs.Cases.{cases, slips}
 use Rattle.model.specs.Erased.{observed}
@@ -96,10 +95,6 @@ the-slips-show : all-show slips ≡ true
 unfolding shows outcome
 the-slips-show = refl
 
-both : (a b : Bool) → (a && b) ≡ true → (a ≡ true) × (b ≡ true)
-both true b e = (refl, e)
-both false b e = absurd (true≢false (sym e))
-
 same-bytes-are : (a b : List ℕ) → same-bytes a b ≡ true → a ≡ b
 same-bytes-are [] [] e = refl
 same-bytes-are [] (y ∷ b) e = absurd (true≢false (sym e))
@@ -138,9 +133,7 @@ same-run : (size : ℕ) → table-least ≤ size → (w : World) (ms : List Made
 same-run size h w [] g = refl
 same-run size h w (m ∷ ms) g =
     let r = step (lending size (length (m .output))) w (m .call) in
-    ap ((r .1, r .2) ∷_) (same-run size h (r .0) ms (g .1))
-    ∙ ap (λ (q : World × Answer × List (Tagged Emission)). (q .1, q .2) ∷ run (q .0) (map (λ (c : Call). (long-enough, c)) (calls-of ms)))
-    (enough-step size (length (m .output)) w (m .call) h (g .0))
+    ap ((r .1, r .2) ∷_) (same-run size h (r .0) ms (g .1)) ∙ rw (enough-step size (length (m .output)) w (m .call) h (g .0))
 
 -- the start
 abbrev done : Answer
@@ -154,13 +147,7 @@ start-played : (slice : List ℕ) (st : Settings) → read-settings slice ≡ so
     → observed (run (zeros .world) ((long-enough, start slice) ∷ cs)) ≡ (done, []) ∷ observed (run (begun st 0) cs)
 unfolding step
 start-played slice st e cs =
-    ap (λ (n : ℕ). let r = answered (zeros .world) (start slice) n in (r .1, output (r .2)) ∷ observed (run (r .0) cs))
-    (start-passed slice st e)
-    ∙ ap (λ (o : Option Settings).
-    let ms = at-most-one (option-map begins o) ++ [] in
-    let es = emitted (zeros .world) ms in
-    (record { number = 0; consumed = 0; written = length (output es); taken = 0 }, output es)
-    ∷ observed (run (after (zeros .world) ms) cs)) e
+    rw (start-passed slice st e, e)
 
 start-done : {t slice : List ℕ} {r : ProductAnswer} {t′ : List ℕ} → Outcome (start slice) t [] r t′ [] → r .number ≡ 0
     → model-answer r ≡ done

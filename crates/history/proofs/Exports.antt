@@ -11,7 +11,7 @@ use lib.Seq.{sets, drop-append-le}
 use borrow.Author.Tests.{ltb-true, ltb-false, lt-ltb, le-ltb}
 use Rattle.model.specs.Limits.{table-least, answer-least, answer-too-short}
 use Rattle.model.specs.Records.{payload, settings-of}
-use Rattle.model.specs.World.{World, uncounted, begun}
+use Rattle.model.specs.World.{World, begun}
 use Rattle.model.specs.Calls.{Call, Lent, Returned, answer-bytes, output, refusal, step, returned}
 use Rattle.model.specs.Calls as model
 use Rattle.model.specs.Sights.{starts}
@@ -21,7 +21,7 @@ use Rattle.table.specs.Table.{table-used, decode, table-formed, Table}
 use Rattle.table.proofs.Front.{decode-take, formed-take, decode-front, formed-front}
 use Rattle.refusal.specs.Numbers.{lent}
 use Rattle.controller.specs.declared.Answer.{Answer}
-use Rattle.controller.specs.Contract.{Said, said, numbers, model-answer, Outcome}
+use Rattle.controller.specs.Contract.{said, numbers, model-answer, Outcome}
 use Rattle.controller.specs.Trace.{Made, Trace, none as no-call, and as and-call, Never, History}
 use Rattle.controller.proofs.Outputs.{written-is, stands}
 use Rattle.controller.proofs.Traces.{table-left, table-begun, never-not-well-formed}
@@ -76,9 +76,9 @@ module _ (c : Call) (n : ℕ) (t o : List ℕ) (h : table-least ≤ length (take
   wider {t′ = t′} x =
       let k : table-used ≤ length t′ = omega (arith, x .size) in
       record {
-        answer = x .answer ∙ ap (λ (q : Said). numbers (q .1)) said-wide;
-        meaning = decode-front t′ (drop n t) k ∙ x .meaning ∙ ap (λ (q : Said). uncounted (q .0)) said-wide;
-        output = x .output ∙ ap (λ (q : Said). sets o 0 (output (q .2))) said-wide;
+        answer = rw (← said-wide) (x .answer);
+        meaning = rw (← said-wide) (decode-front t′ (drop n t) k ∙ x .meaning);
+        output = rw (← said-wide) (x .output);
         fits = x .fits;
         size = omega (arith, length-append t′ (drop n t), x .size, length-take n t, length-drop n t);
         past =
@@ -115,18 +115,15 @@ module _ (p : Export) (t t₁ : List ℕ) (x : Leaves p t t₁) where
   by-lengths false true e f =
       let h = ltb-false (length (p .answer)) answer-least e in
       let q = step-1 (lent s (length (p .output))) (decode s) f (p .call) in
-      let z = told-number (x .outcome) h ∙ ap (λ (y : Said). (y .1) .number) q in
-      refused h (ltb-true (length s) table-least f) z
-      (told-answer (x .outcome) h ∙ ap (λ (y : Said). sets (p .answer) 0 (answer-bytes (y .1))) q)
-      (outcome-of (x .outcome) h .output ∙ ap (λ (y : Said). sets (p .output) 0 (output (y .2))) q) (kept z)
+      let z = rw q at (told-number (x .outcome) h) in
+      refused h (ltb-true (length s) table-least f) z (rw q at (told-answer (x .outcome) h))
+      (rw q at (outcome-of (x .outcome) h .output)) (kept z)
   by-lengths false false e f =
       let h = ltb-false (length (p .answer)) answer-least e in
       let l = ltb-false (length s) table-least f in
       let y = numbers ((said (p .call) s (p .output)) .1) in
-      called y h l
-      (subst (λ (u : List ℕ). Outcome (p .call) t (p .output) y u (p .output-left)) (sym (x .whole))
-      (wider (p .call) (p .bytes) t (p .output) l (outcome-of (x .outcome) h)))
-      (told-number (x .outcome) h) (told-answer (x .outcome) h)
+      called y h l (rw (x .whole) (wider (p .call) (p .bytes) t (p .output) l (outcome-of (x .outcome) h))) (told-number (x .outcome) h)
+      (told-answer (x .outcome) h)
 
   did : Did p t t₁
   did = by-lengths (ltb (length (p .answer)) answer-least) (ltb (length s) table-least) refl refl
@@ -137,12 +134,11 @@ module _ {t t₁ t₂ : List ℕ} {p : Export} {ps : List Export} where
   and-more : Table t → Did p t t₁ → (Table t₁ → (ms : List Made) × CallsOf ps ms × Trace t₁ ms t₂)
       → (ms : List Made) × CallsOf (p ∷ ps) ms × Trace t ms t₂
   and-more h (not-called a z u v e) ih =
-      let r = ih (subst Table (sym e) h) in
-      (r .0, not-made (short-answer a z u v) (r .1), subst (λ (s : List ℕ). Trace s (r .0) t₂) e (r .2))
+      let r = ih (rw e h) in (r .0, not-made (short-answer a z u v) (r .1), rw e at (r .2))
   and-more h (refused a b z u v e) ih =
-      let r = ih (subst Table (sym e) h) in
+      let r = ih (rw e h) in
       let l : p .bytes < table-least = let g = h .size in omega (arith, length-take (p .bytes) t) in
-      (r .0, not-made (short-table a l z u v) (r .1), subst (λ (s : List ℕ). Trace s (r .0) t₂) e (r .2))
+      (r .0, not-made (short-table a l z u v) (r .1), rw e at (r .2))
   and-more h (called y a b out z u) ih =
       let r = ih (table-left h out) in
       let l : table-least ≤ p .bytes = omega (arith, length-take (p .bytes) t) in
@@ -232,7 +228,7 @@ module _ {p : Export} {t t₁ : List ℕ} (w : World) (h : Table t) (e : decode 
       (record {
         returns = record {
           number = z ∙ ap (λ (x : model.Answer). x .number) (d .answer);
-          answer = u ∙ ap (λ (x : model.Answer). sets (p .answer) 0 (answer-bytes x)) (d .answer);
+          answer = rw (d .answer) at u;
           output = out .output ∙ ap (sets (p .output) 0) (sym (stands out .records) ∙ d .bytes);
         };
         world = d .world;
@@ -240,8 +236,8 @@ module _ {p : Export} {t t₁ : List ℕ} (w : World) (h : Table t) (e : decode 
 
 -- what a call leaves is a table of the same size
 left-of : {p : Export} {t t₁ : List ℕ} → Table t → Did p t t₁ → Table t₁ × (length t₁ ≡ length t)
-left-of h (not-called a z u v e) = (subst Table (sym e) h, ap length e)
-left-of h (refused a b z u v e) = (subst Table (sym e) h, ap length e)
+left-of h (not-called a z u v e) = (rw e h, ap length e)
+left-of h (refused a b z u v e) = (rw e h, ap length e)
 left-of h (called y a b out z u) = (table-left h out, out .size)
 
 exports-as-modelled : {t t′ : List ℕ} {ps : List Export} (w : World) → Table t → decode t ≡ erase-world w → Exports t ps t′
@@ -252,7 +248,7 @@ exports-as-modelled {t = t} w h e (and {t₁ = t₁} {p = p} {ps = ps} x rest) =
     let m = one-export w h e d in
     let l = left-of h d in
     let v = (returned (length (p .answer)) (lent-of (length t) p) w (p .call)) .world in
-    (m .returns, subst (λ (n : ℕ). AsModelled n v ps) (l .1) (exports-as-modelled v (l .0) (m .world) rest))
+    (m .returns, rw (l .1) at (exports-as-modelled v (l .0) (m .world) rest))
 
 -- DEMAND 2: from the world on that the start began
 pub exports-modelled : {t t′ : List ℕ} {ps : List Export} (h : ExportHistory t ps t′)

@@ -2,11 +2,11 @@
 use Prim.Native.Nat.{ℕ, zero, suc, _+_, _*_, _≤_, _<_}
 use mathlib.Core.Path.{_≡_, refl, sym, _∙_, ap, subst}
 use mathlib.Core.Bool.{Bool, true, false, cond, true≢false}
-use mathlib.Core.List.{List, [], _∷_, _++_}
+use mathlib.Core.List.{List, [], _∷_, _++_, map}
 use mathlib.Core.Option.{Option, none, some}
 use native.Mathlib.Omega.{arith}
 use lib.Dec.{eqb, eqb·suc-zero}
-use lib.ListN.{length, length-map, length-append}
+use lib.ListN.{length, length-append}
 use borrow.Author.Tests.{eqb-false}
 use Rattle.model.specs.Limits.{session-count, most-copies}
 use Rattle.model.specs.Records.{Settings}
@@ -18,7 +18,7 @@ use Rattle.model.specs.Row.{Tagged, pick}
 use Rattle.model.specs.Session.{Session, closed, opened, started, is-closed, Copy, Emission, reply, copy, close}
 use Rattle.model.specs.Local.{Local, step}
 use Rattle.model.specs.World.{World, session-at, begun}
-use Rattle.model.specs.Calls.{Call, Lent, does, refusal, answered, step as call-step}
+use Rattle.model.specs.Calls.{Call, Lent, does, step as call-step}
 use Rattle.model.specs.Sights.{Sight}
 use Rattle.model.proofs.Sights.{Sees, nothing, a-start, its-opening, its-hang-up, a-tick, its-bytes, told, coherent}
 use Rattle.watch.specs.Marks.{taken, all-sent}
@@ -31,15 +31,11 @@ use Rattle.history.specs.Demand.{copies-in, seen, seen-in, mark, marks, 
 use Rattle.history.specs.Demand.{FewFrames, NoStart}
 use Rattle.history.proofs.Subscriptions.{view}
 use Rattle.history.proofs.Sessions.{sub-at, newest}
-use Rattle.history.proofs.Calls.{sub-of}
-use Rattle.history.proofs.Sendings.{Sent, sent-turn}
-use Rattle.history.proofs.Turns.{goes, Agrees, moves, agrees-on, agrees-begun, course-of}
+use Rattle.history.proofs.Calls.{sub-of, by-refusal}
+use Rattle.history.proofs.Sendings.{Sent}
+use Rattle.history.proofs.Turns.{goes, Agrees, moves, agrees-on, agrees-begun, course-of, sent-turn}
 
 -- ==== of every kind, added up
-
-sum-same : (n : ℕ) (f h : ℕ → ℕ) → ((kind : ℕ) → f kind ≡ h kind) → over-kinds n f ≡ over-kinds n h
-sum-same zero f h e = refl
-sum-same (suc n) f h e = let q = e n in let ih = sum-same n f h e in omega arith
 
 sum-append : {A : Type 0} (n : ℕ) (f h : ℕ → List A)
     → over-kinds n (λ kind. length (f kind ++ h kind)) ≡ over-kinds n (λ kind. length (f kind)) + over-kinds n (λ kind. length (h kind))
@@ -55,45 +51,29 @@ sum-few (suc n) f h e = let q = e n (omega arith) in let ih = sum-few n f h (λ 
 
 -- how many of these are of the first n kinds
 abbrev among : ℕ → List (Tagged Copy) → ℕ
-among n cs = over-kinds n (λ kind. length (pick kind cs))
+among n xs = over-kinds n (λ kind. length (map seen (pick kind xs)))
 
-no-fewer : (x : Tagged Copy) (xs : List (Tagged Copy)) (n : ℕ) → among n xs ≤ among n (x ∷ xs)
-no-fewer x xs zero = omega arith
-no-fewer x xs (suc n) = go (eqb (x .who) n) (no-fewer x xs n)
+-- one more is no fewer, and one more where it is of these kinds
+more-among : (x : Tagged Copy) (xs : List (Tagged Copy)) (n : ℕ)
+    → (among n xs ≤ among n (x ∷ xs)) × (x .who < n → suc (among n xs) ≤ among n (x ∷ xs))
+more-among x xs zero = (omega arith, λ h. absurd (omega arith))
+more-among x xs (suc n) = go (eqb (x .who) n) refl (more-among x xs n)
   where
-    go : (b : Bool) → among n xs ≤ among n (x ∷ xs)
-        → among n xs + length (pick n xs) ≤ among n (x ∷ xs) + length (cond b (x .what ∷ pick n xs) (pick n xs))
-    go true ih = omega arith
-    go false ih = omega arith
-
-one-more : (x : Tagged Copy) (xs : List (Tagged Copy)) (n : ℕ) → x .who < n → suc (among n xs) ≤ among n (x ∷ xs)
-one-more x xs zero h = absurd (omega arith)
-one-more x xs (suc n) h = go (eqb (x .who) n) refl (no-fewer x xs n) (λ u. one-more x xs n u)
-  where
-    go : (b : Bool) → eqb (x .who) n ≡ b → among n xs ≤ among n (x ∷ xs) → (x .who < n → suc (among n xs) ≤ among n (x ∷ xs))
-        → suc (among n xs + length (pick n xs)) ≤ among n (x ∷ xs) + length (cond b (x .what ∷ pick n xs) (pick n xs))
-    go true e u ih = omega arith
-    go false e u ih = let k = eqb-false (x .who) n e in let v : x .who < n = omega arith in let w = ih v in omega arith
-
-few-sent : (b : Bool) (es : List Emission) → Sent b es → length (frames-in es) ≤ cond b 1 0 + among (length kinds) (copies-in es)
-few-sent b [] h = omega arith
-few-sent b (reply f ∷ es) h = rw (h .0) (let ih = few-sent false es (h .2) in omega arith)
-few-sent b (copy c ∷ es) h = let ih = few-sent b es (h .1) in let n = one-more c (copies-in es) (length kinds) (h .0) in omega arith
-few-sent b (close ∷ es) h = few-sent b es h
-
--- the copies among emissions
-abbrev copies-of : List Emission → ℕ
-copies-of es = over-kinds (length kinds) (λ kind. length (seen-in kind es))
+    go : (b : Bool) → eqb (x .who) n ≡ b → (among n xs ≤ among n (x ∷ xs)) × (x .who < n → suc (among n xs) ≤ among n (x ∷ xs))
+        → let before = among n xs + length (map seen (pick n xs)) in
+        let after = among n (x ∷ xs) + length (map seen (cond b (x .what ∷ pick n xs) (pick n xs))) in
+        (before ≤ after) × (x .who < suc n → suc before ≤ after)
+    go true e ih = omega arith
+    go false e ih = (omega arith, λ h. let k = eqb-false (x .who) n e in let m = ih .1 (omega arith) in omega arith)
 
 abbrev FewIn : Bool → List Emission → Type 0
-FewIn b es = length (frames-in es) ≤ cond b 1 0 + copies-of es
+FewIn b es = length (frames-in es) ≤ cond b 1 0 + among (length kinds) (copies-in es)
 
-few-in : (b : Bool) (es : List Emission) → Sent b es → FewIn b es
-few-in b es h =
-    let n : copies-of es ≡ among (length kinds) (copies-in es) =
-    sum-same (length kinds) (λ kind. length (seen-in kind es)) (λ kind. length (pick kind (copies-in es)))
-    (λ kind. length-map (pick kind (copies-in es)) seen) in
-    rw n (few-sent b es h)
+few-sent : (b : Bool) (es : List Emission) → Sent b es → FewIn b es
+few-sent b [] h = omega arith
+few-sent b (reply f ∷ es) h = rw (h .0) (let ih = few-sent false es (h .2) in omega arith)
+few-sent b (copy c ∷ es) h = let ih = few-sent b es (h .1) in let n = more-among c (copies-in es) (length kinds) .1 (h .0) in omega arith
+few-sent b (close ∷ es) h = few-sent b es h
 
 -- the session that a call opens is subscribed to nothing
 opened-fresh : (g : Shared) {z : Sight} {l : Local} → Sees z l → z .opens ≡ true → (x : Session) → is-closed x ≡ true
@@ -111,15 +91,12 @@ opened-fresh g its-bytes e x c o kind = absurd (true≢false (sym e))
 opens-fresh : {st : Settings} (w : World) (past : List Turn) → Agrees st w past → (s : ℕ) → s < session-count → (l : Lent) (c : Call)
     → is-start (turn c (call-step l w c)) ≡ false → opens s (turn c (call-step l w c)) ≡ true → (kind : ℕ)
     → sub-of s kind ((call-step l w c) .0) ≡ unsubscribed
-unfolding call-step
-opens-fresh w past a s h l c ns f kind = go (refusal l w c) refl ns f
-  where
-    go : (n : ℕ) → refusal l w c ≡ n → is-start (turn c (answered w c n)) ≡ false → opens s (turn c (answered w c n)) ≡ true
-        → sub-of s kind ((answered w c n) .0) ≡ unsubscribed
-    go (suc n) e ns f = absurd (true≢false (sym (rw (eqb·suc-zero n) at f)))
-    go zero e ns f =
-        ap (sub-at kind) (goes w past (a .size) (a .like) l c e ns s h .0)
-        ∙ opened-fresh (w .shared) (coherent l w c e .sees s) f (session-at w s) (coherent l w c e .opens s f) ((does w c) .event) kind
+opens-fresh w past a s h l c ns f kind =
+    by-refusal l w c (λ q. is-start (turn c q) ≡ false → opens s (turn c q) ≡ true → sub-of s kind (q .0) ≡ unsubscribed)
+    (λ e ns f.
+    ap (sub-at kind) (goes w past (a .size) (a .like) l c e ns s h .0)
+    ∙ opened-fresh (w .shared) (coherent l w c e .sees s) f (session-at w s) (coherent l w c e .opens s f) ((does w c) .event) kind)
+    (λ n ns f. absurd (true≢false (sym (rw (eqb·suc-zero n) at f)))) ns f
 
 -- ==== an opening
 
@@ -127,14 +104,6 @@ pub marks-append : (st : Settings) (s kind : ℕ) (past xs ys : List Turn)
     → marks st s kind past (xs ++ ys) ≡ marks st s kind past xs ++ marks st s kind (past-after past xs) ys
 marks-append st s kind past [] ys = refl
 marks-append st s kind past (x ∷ xs) ys = ap (mark st s kind past x ∷_) (marks-append st s kind (x ∷ past) xs ys)
-
-abbrev head : Turn → List Turn → Turn
-head d [] = d
-head d (x ∷ xs) = x
-
-abbrev tail : List Turn → List Turn
-tail [] = []
-tail (x ∷ xs) = xs
 
 module _ (st : Settings) (s : ℕ) (h : s < session-count) where
   -- the copies of every kind
@@ -146,7 +115,7 @@ module _ (st : Settings) (s : ℕ) (h : s < session-count) where
       → frames s xs ≤ messages s (x ∷ past) xs + sent (x ∷ past) xs → frames s (x ∷ xs) ≤ messages s past (x ∷ xs) + sent past (x ∷ xs)
   more-frames past x xs f ih = go (is-some (message s past x)) f
     where
-      n : sent past (x ∷ xs) ≡ copies-of (pick s (x .out)) + sent (x ∷ past) xs
+      n : sent past (x ∷ xs) ≡ among (length kinds) (copies-in (pick s (x .out))) + sent (x ∷ past) xs
       n = sum-append (length kinds) (λ kind. seen-in kind (pick s (x .out))) (λ kind. all-sent (marks st s kind (x ∷ past) xs))
 
       go : (b : Bool) → FewIn b (pick s (x .out))
@@ -160,11 +129,13 @@ module _ (st : Settings) (s : ℕ) (h : s < session-count) where
   frames-in-prefix (y ∷ during) later [] w past a ns e = absurd (let z = ap length e in omega arith)
   frames-in-prefix (y ∷ during) later (c ∷ cs) w past a ns e =
       let r = call-step (c .0) w (c .1) in
-      subst (λ (x : Turn). frames s (x ∷ during) ≤ messages s past (x ∷ during) + sent past (x ∷ during)) (ap (head y) e)
+      let first : turn (c .1) r ≡ y = cc in
+      let more : turns (r .0) cs ≡ during ++ later = cc in
+      rw (← first)
       (more-frames past (turn (c .1) r) during
-      (few-in (is-some (message s past (turn (c .1) r))) (pick s (r .2)) (sent-turn w past a s h (c .0) (c .1) (ns .0)))
+      (few-sent (is-some (message s past (turn (c .1) r))) (pick s (r .2)) (sent-turn st w past (c .0) (c .1) a s h (ns .0)))
       (frames-in-prefix during later cs (r .0) (turn (c .1) r ∷ past) (agrees-on st (moves st w past (c .0) (c .1) a (ns .0))) (ns .1)
-      (ap tail e)))
+      more))
 
   few-copies : (kind : ℕ) → kind < length kinds → (during later : List Turn) (cs : List (Lent × Call)) (w : World) (past : List Turn)
       → Agrees st w past → NoStart (turns w cs) → turns w cs ≡ during ++ later → sub-of s kind w ≡ unsubscribed
@@ -187,21 +158,24 @@ module _ (st : Settings) (s : ℕ) (h : s < session-count) where
       let r = call-step (c .0) w (c .1) in
       let x₀ = turn (c .1) r in
       let b = agrees-on st (moves st w past (c .0) (c .1) a (ns .0)) in
-      let q : x₀ ≡ x = ap (head x) e in
+      let q : x₀ ≡ x = cc in
+      let more : turns (r .0) cs ≡ during ++ later = cc in
       let f = opens-fresh w past a s h (c .0) (c .1) (ns .0) (ap (opens s) q ∙ o) in
       subst (λ (y : Turn). Few (y ∷ past) during) q
-      (let n = frames-in-prefix during later cs (r .0) (x₀ ∷ past) b (ns .1) (ap tail e) in
+      (let n = frames-in-prefix during later cs (r .0) (x₀ ∷ past) b (ns .1) more in
       let m =
       sum-few (length kinds) (λ kind. length (all-sent (marks st s kind (x₀ ∷ past) during)))
       (λ kind. taken (marks st s kind (x₀ ∷ past) during))
-      (λ kind u. few-copies kind u during later cs (r .0) (x₀ ∷ past) b (ns .1) (ap tail e) (f kind)) in
+      (λ kind u. few-copies kind u during later cs (r .0) (x₀ ∷ past) b (ns .1) more (f kind)) in
       omega arith)
   few-frames-from (y ∷ before) x during later [] w past a ns e o = absurd (let z = ap length e in omega arith)
   few-frames-from (y ∷ before) x during later (c ∷ cs) w past a ns e o =
       let r = call-step (c .0) w (c .1) in
-      subst (λ (z : Turn). Few (x ∷ past-after (z ∷ past) before) during) (ap (head y) e)
+      let first : turn (c .1) r ≡ y = cc in
+      let more : turns (r .0) cs ≡ before ++ x ∷ (during ++ later) = cc in
+      rw (← first)
       (few-frames-from before x during later cs (r .0) (turn (c .1) r ∷ past) (agrees-on st (moves st w past (c .0) (c .1) a (ns .0)))
-      (ns .1) (ap tail e) o)
+      (ns .1) more o)
 
   -- THE BOUND, of every run of the model's calls after a start
   pub few-frames-of-runs : (cs : List (Lent × Call)) → NoStart (turns (begun st 0) cs) → FewFrames st s (turns (begun st 0) cs)

@@ -1,10 +1,10 @@
 pub mod Output
 pub mod Subscriptions
 pub mod Signals
+pub mod Sendings
 pub mod Sessions
 pub mod Calls
 pub mod Turns
-pub mod Sendings
 pub mod Frames
 pub mod Replies
 pub mod Product

@@ -4,10 +4,10 @@ use Prim.Native.Nat.{ℕ, zero, suc, _+_, _-_, _*_, _/_, _%_, _≤_, _<_}
 use mathlib.Core.Path.{_≡_, refl, sym, _∙_, ap, ap₂}
 use mathlib.Core.Bool.{Bool, true, false, cond}
 use mathlib.Core.List.{List, [], _∷_, _++_, map}
-use mathlib.Core.Option.{none, some}
+use mathlib.Core.Option.{some}
 use native.Mathlib.Omega.{arith}
-use lib.Dec.{leb, eqb}
-use lib.ListN.{length, take, drop, length-append}
+use lib.Dec.{eqb}
+use lib.ListN.{length, take, drop, length-append, length-take}
 use lib.Seq.{take-at, drop-at}
 use borrow.Author.Tests.{eqb-true, eqb-false, eq-eqb, ne-eqb, le-leb}
 use Rattle.model.specs.Limits.{session-count, output-least}
@@ -44,13 +44,7 @@ two-bytes n h = omega arith
 read-next : (more b : ℕ) (bs rest : List ℕ) (r : RecordRead) → first-size (b ∷ bs) ≤ length (b ∷ bs) → first-read (b ∷ bs) ≡ r
     → drop (first-size (b ∷ bs)) (b ∷ bs) ≡ rest → read-within (suc more) (b ∷ bs) ≡ and-more r (read-within more rest)
 read-next more b bs rest r h e d =
-    go (leb (first-size (b ∷ bs)) (length (b ∷ bs))) (le-leb (first-size (b ∷ bs)) (length (b ∷ bs)) h)
-  where
-    go : (t : Bool) → t ≡ true
-        → elim t [ true ↦ and-more (first-read (b ∷ bs)) (read-within more (drop (first-size (b ∷ bs)) (b ∷ bs))) | false ↦ none ]
-        ≡ and-more r (read-within more rest)
-    go true q = ap₂ and-more e (ap (read-within more) d)
-    go false q = absurd (let z : _≡_ {A = ℕ} 0 1 = cc in omega arith)
+    rw (le-leb (first-size (b ∷ bs)) (length (b ∷ bs)) h, read-within) (ap₂ and-more e (ap (read-within more) d))
 
 record-next : (more : ℕ) (r : RecordRead) (rest : List ℕ) → Fits r
     → read-within (suc more) (bytes-of r ++ rest) ≡ and-more r (read-within more rest)
@@ -111,9 +105,11 @@ fits-all (x ∷ xs) b n =
     let a = length-append (bytes-of (record-of x)) (joined (map record-of xs)) in
     (fits-one (x .who) (x .what) (b .0) (omega arith), fits-all xs (b .1) (omega arith))
 
-pub read-written : (es : List (Tagged Emission)) → Below session-count es → length (output es) ≤ output-least
-    → read-output (output es) ≡ some (map record-of es)
-read-written es b n = read-back es (fits-all es b (rw (output-bytes es) at n))
+pub read-written : (es : List (Tagged Emission)) → Below session-count es → (n : ℕ) (o : List ℕ) → take n o ≡ output es
+    → n ≤ output-least → read-output (take n o) ≡ some (map record-of es)
+read-written es b n o e h =
+    let few : length (output es) ≤ output-least = omega (arith, ap length e, length-take n o) in
+    ap read-output e ∙ read-back es (fits-all es b (rw (output-bytes es) at few))
 
 -- ==== what a session is sent, read from the records
 
@@ -129,50 +125,38 @@ without-NUL frame = let n = length-append frame (NUL ∷ []) in take-at frame (N
 
 module _ (s : ℕ) (h : s < session-count) where
   -- one record more
-  module _ (rs : List RecordRead) (picked : List Emission) where
-    a-frame : (t : ℕ) (frame : List ℕ) (e : Emission) → frames-in (e ∷ picked) ≡ frame ∷ frames-in picked
-        → frames-read s rs ≡ frames-in picked
-        → frames-read s (record { record-kind = frame-record-kind t; payload = frame ++ NUL ∷ [] } ∷ rs)
-        ≡ frames-in (cond (eqb t s) (e ∷ picked) picked)
-    a-frame t frame e q ih = rw (same-test t s (frame-record-kind 0), without-NUL frame) (go (eqb t s))
+  module _ (rs : List RecordRead) (picked : List Emission) (f : frames-read s rs ≡ frames-in picked)
+      (k : close-read s rs ≡ orders-close picked) where
+    abbrev Back : RecordRead → List Emission → Type 0
+    Back r es = (frames-read s (r ∷ rs) ≡ frames-in es) × (close-read s (r ∷ rs) ≡ orders-close es)
+
+    a-frame : (t : ℕ) (frame : List ℕ) (e : Emission) → t < session-count → frames-in (e ∷ picked) ≡ frame ∷ frames-in picked
+        → orders-close (e ∷ picked) ≡ orders-close picked
+        → Back (record { record-kind = frame-record-kind t; payload = frame ++ NUL ∷ [] }) (cond (eqb t s) (e ∷ picked) picked)
+    a-frame t frame e u p q =
+        let no-order = ne-eqb (frame-record-kind t) (close-record-kind s) (λ z. omega arith) in
+        rw (same-test t s (frame-record-kind 0), without-NUL frame, no-order) (go (eqb t s))
       where
-        go : (b : Bool) → cond b (frame ∷ frames-read s rs) (frames-read s rs) ≡ frames-in (cond b (e ∷ picked) picked)
-        go true = ap (frame ∷_) ih ∙ sym q
-        go false = ih
+        go : (b : Bool) → let es = cond b (e ∷ picked) picked in
+            (cond b (frame ∷ frames-read s rs) (frames-read s rs) ≡ frames-in es) × (close-read s rs ≡ orders-close es)
+        go true = (ap (frame ∷_) f ∙ sym p, k ∙ sym q)
+        go false = (f, k)
 
-    frames-more : (t : ℕ) (e : Emission) → t < session-count → frames-read s rs ≡ frames-in picked
-        → frames-read s (as-read t e ∷ rs) ≡ frames-in (cond (eqb t s) (e ∷ picked) picked)
-    frames-more t (reply frame) u ih = a-frame t frame (reply frame) refl ih
-    frames-more t (copy c) u ih = a-frame t (c .what .frame) (copy c) refl ih
-    frames-more t close u ih = rw (ne-eqb (close-record-kind t) (frame-record-kind s) (λ z. omega arith)) (go (eqb t s))
+    more-back : (t : ℕ) (e : Emission) → t < session-count → Back (as-read t e) (cond (eqb t s) (e ∷ picked) picked)
+    more-back t (reply frame) u = a-frame t frame (reply frame) u refl refl
+    more-back t (copy c) u = a-frame t (c .what .frame) (copy c) u refl refl
+    more-back t close u =
+        let no-frame = ne-eqb (close-record-kind t) (frame-record-kind s) (λ z. omega arith) in
+        rw (no-frame, same-test t s (close-record-kind 0)) (go (eqb t s))
       where
-        go : (b : Bool) → frames-read s rs ≡ frames-in (cond b (close ∷ picked) picked)
-        go true = ih
-        go false = ih
+        go : (b : Bool) → let es = cond b (close ∷ picked) picked in
+            (frames-read s rs ≡ frames-in es) × (cond b true (close-read s rs) ≡ orders-close es)
+        go true = (f, refl)
+        go false = (f, k)
 
-    no-close : (t : ℕ) (e : Emission) → t < session-count → orders-close (e ∷ picked) ≡ orders-close picked
-        → close-read s rs ≡ orders-close picked → (bs : List ℕ)
-        → close-read s (record { record-kind = frame-record-kind t; payload = bs } ∷ rs) ≡ orders-close (cond (eqb t s) (e ∷ picked) picked)
-    no-close t e u q ih bs = rw (ne-eqb (frame-record-kind t) (close-record-kind s) (λ z. omega arith)) (go (eqb t s))
-      where
-        go : (b : Bool) → close-read s rs ≡ orders-close (cond b (e ∷ picked) picked)
-        go true = ih ∙ sym q
-        go false = ih
-
-    closes-more : (t : ℕ) (e : Emission) → t < session-count → close-read s rs ≡ orders-close picked
-        → close-read s (as-read t e ∷ rs) ≡ orders-close (cond (eqb t s) (e ∷ picked) picked)
-    closes-more t (reply frame) u ih = no-close t (reply frame) u refl ih (frame ++ NUL ∷ [])
-    closes-more t (copy c) u ih = no-close t (copy c) u refl ih (c .what .frame ++ NUL ∷ [])
-    closes-more t close u ih = rw (same-test t s (close-record-kind 0)) (go (eqb t s))
-      where
-        go : (b : Bool) → cond b true (close-read s rs) ≡ orders-close (cond b (close ∷ picked) picked)
-        go true = refl
-        go false = ih
-
-  pub frames-back : (es : List (Tagged Emission)) → Below session-count es → frames-read s (map record-of es) ≡ frames-in (pick s es)
-  frames-back [] b = refl
-  frames-back (x ∷ xs) b = frames-more (map record-of xs) (pick s xs) (x .who) (x .what) (b .0) (frames-back xs (b .1))
-
-  pub closes-back : (es : List (Tagged Emission)) → Below session-count es → close-read s (map record-of es) ≡ orders-close (pick s es)
-  closes-back [] b = refl
-  closes-back (x ∷ xs) b = closes-more (map record-of xs) (pick s xs) (x .who) (x .what) (b .0) (closes-back xs (b .1))
+  -- the frames, and the order to close
+  pub sent-back : (es : List (Tagged Emission)) → Below session-count es
+      → (frames-read s (map record-of es) ≡ frames-in (pick s es)) × (close-read s (map record-of es) ≡ orders-close (pick s es))
+  sent-back [] b = (refl, refl)
+  sent-back (x ∷ xs) b =
+      let r = sent-back xs (b .1) in more-back (map record-of xs) (pick s xs) (r .0) (r .1) (x .who) (x .what) (b .0)

@@ -1,13 +1,12 @@
 -- DEMAND 3, OF THE PRODUCT: whatever calls are made after a start that is done, whatever they are lent, and only they write the table.
-use Prim.Native.Nat.{ℕ, _≤_, _<_}
-use mathlib.Core.Path.{_≡_, refl, sym, _∙_, ap, ap₂, subst}
-use mathlib.Core.Bool.{Bool, true, false, cond, _&&_, _||_}
+use Prim.Native.Nat.{ℕ, _<_}
+use mathlib.Core.Path.{_≡_, refl, sym, _∙_, ap, ap₂}
+use mathlib.Core.Bool.{Bool, true, false, cond, _&&_, _||_, and-false}
 use mathlib.Core.List.{List, [], _∷_, _++_, map}
 use mathlib.Core.Option.{none}
-use native.Mathlib.Omega.{arith}
 use lib.Dec.{eqb}
-use lib.ListN.{length, length-take}
-use Rattle.model.specs.Limits.{session-count, output-least}
+use lib.ListN.{length}
+use Rattle.model.specs.Limits.{session-count}
 use Rattle.model.specs.Records.{Settings, payload, settings-of}
 use Rattle.model.specs.World.{World, begun}
 use Rattle.model.specs.Calls.{Call, Answer as ModelAnswer, step}
@@ -22,10 +21,10 @@ use Rattle.controller.proofs.Modelled.{lending, one-call, begun-meaning}
 use Rattle.watch.specs.Marks.{copies, Demand3}
 use Rattle.history.specs.Turns.{Turn, turns, stops, subscribes, unsubscribes}
 use Rattle.history.specs.Past.{message, parts, started, wish-of, wish, is-some, subscribed, shared}
-use Rattle.history.specs.Output.{read-output, record-of}
+use Rattle.history.specs.Output.{record-of}
 use Rattle.history.specs.Demand.{mark, marks, past-after, NoStart}
 use Rattle.history.specs.Product.{Tells, Once, Meets}
-use Rattle.history.proofs.Output.{read-written, frames-back, closes-back}
+use Rattle.history.proofs.Output.{read-written, sent-back}
 use Rattle.history.proofs.Turns.{demand-3-of-runs, in-time-of-runs}
 use Rattle.history.proofs.Frames.{marks-append, few-frames-of-runs}
 use Rattle.history.proofs.Replies.{told-apart-in-runs}
@@ -39,21 +38,17 @@ told {t = t} w all-there h e (and {t₁ = t₁} {m = m} {ms = ms} out rest) =
     let k = one-call w h e out in
     let l = lending (length t) (length (m .output)) in
     let q = step l w (m .call) in
-    let below = step-below session-count l w (m .call) all-there in
-    let long = ap length (k .bytes) in
-    let taken = length-take (m .answer .written) (m .output-left) in
-    let most : m .answer .written ≤ output-least = out .fits in (
+    let below = step-below session-count l w (m .call) all-there in (
       record {
         call = refl;
         answer = sym (k .answer);
         bytes = sym (k .bytes);
         records = map record-of (q .2);
-        read = ap read-output (k .bytes) ∙ read-written (q .2) below (omega arith);
-        frames = λ s u. sym (frames-back s u (q .2) below);
-        closes = λ s u. sym (closes-back s u (q .2) below);
+        read = read-written (q .2) below (m .answer .written) (m .output-left) (k .bytes) (out .fits);
+        frames = λ s u. sym (sent-back s u (q .2) below .0);
+        closes = λ s u. sym (sent-back s u (q .2) below .1);
       },
-      subst (λ (n : ℕ). Tells ms (turns (q .0) (lendings n ms))) (out .size)
-          (told (q .0) (step-many session-count l w (m .call) all-there) (table-left h out) (k .world) rest),
+      rw (out .size) at (told (q .0) (step-many session-count l w (m .call) all-there) (table-left h out) (k .world) rest),
     )
 
 -- no second start
@@ -83,10 +78,6 @@ demand-3-of-the-product {t = t} {ms = ms} h o =
     }
 
 -- ==== the story of the server that came back, of any turns that meet demand 3
-
-and-false : (b : Bool) → (b && false) ≡ false
-and-false true = refl
-and-false false = refl
 
 -- a hang-up, a time-out, an accepted stop and an accepted unsubscribe each leave the session not started and subscribed
 pub ends-subscription : (s kind : ℕ) (past : List Turn) (x : Turn)

@@ -1,8 +1,8 @@
 -- TWO RECEIVERS, one of which cuts the bytes that a session is sent at each NUL while the other counts them off by their lengths, see the
 -- same frames: those that the product wrote.
-use Prim.Native.Nat.{ℕ, zero, suc, _+_, _≤_, _<_}
+use Prim.Native.Nat.{ℕ, zero, suc, _≤_, _<_}
 use mathlib.Core.Path.{_≡_, refl, sym, _∙_, ap, ap₂}
-use mathlib.Core.Bool.{Bool, true, false, cond, true≢false}
+use mathlib.Core.Bool.{Bool, true, false, cond}
 use mathlib.Core.List.{List, [], _∷_, _++_, map, append-nil, append-assoc}
 use mathlib.Core.Option.{Option, none, some}
 use native.Mathlib.Omega.{arith}
@@ -47,19 +47,8 @@ few-frames (f ∷ fs) =
 cut-next : (begun frame rest : List ℕ) → NoNUL frame → cut-at-NUL begun (frame ++ NUL ∷ rest) ≡ (begun ++ frame) ∷ cut-at-NUL [] rest
 cut-next begun [] rest h = ap (_∷ cut-at-NUL [] rest) (sym (append-nil begun))
 cut-next begun (b ∷ bs) rest h =
-    go (eqb b NUL) (ne-eqb b NUL (h .0))
+    rw (ne-eqb b NUL (h .0), cut-at-NUL)
     (cut-next (begun ++ b ∷ []) bs rest (h .1) ∙ ap (_∷ cut-at-NUL [] rest) (append-assoc begun (b ∷ []) bs))
-  where
-    whole : List (List ℕ)
-    whole = (begun ++ b ∷ bs) ∷ cut-at-NUL [] rest
-
-    go : (t : Bool) → t ≡ false → cut-at-NUL (begun ++ b ∷ []) (bs ++ NUL ∷ rest) ≡ whole
-        → elim t [
-          | true ↦ begun ∷ cut-at-NUL [] (bs ++ NUL ∷ rest)
-          | false ↦ cut-at-NUL (begun ++ b ∷ []) (bs ++ NUL ∷ rest)
-        ] ≡ whole
-    go true e ih = absurd (true≢false e)
-    go false e ih = ih
 
 cut-all : (fs : List (List ℕ)) → Every Framed fs → by-NUL (joined fs) ≡ fs
 cut-all [] h = refl

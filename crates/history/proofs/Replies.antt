@@ -23,8 +23,8 @@ use Rattle.watch.specs.Marks.{Seen, Mark, all-sent, or-later, frame-of, Every}
 use Rattle.history.specs.Turns.{Turn, turn, turns, mid-of, frames-in}
 use Rattle.history.specs.Past.{message, is-some, Wish, wish, event as event-of, shared, frame-for}
 use Rattle.history.specs.Demand.{NoNotice, of-number, ToldApart, copies-in, seen, seen-in, mark, marks, NoStart}
-use Rattle.history.proofs.Turns.{Agrees, moves, agrees-on, agrees-begun, demand-3-of-runs}
-use Rattle.history.proofs.Sendings.{Sent, sent-turn}
+use Rattle.history.proofs.Turns.{Agrees, moves, agrees-on, agrees-begun, demand-3-of-runs, sent-turn}
+use Rattle.history.proofs.Sendings.{Sent}
 
 -- ==== no reply has a kind's number, and every copy is of a kind
 
@@ -83,7 +83,7 @@ quiet-turns : (st : Settings) (s : ℕ) → s < session-count → (w : World) (p
 quiet-turns st s h w past [] a ns = tt
 quiet-turns st s h w past (c ∷ cs) a ns =
     let r = call-step (c .0) w (c .1) in (
-      quiet-sent (is-some (message s past (turn (c .1) r))) (pick s (r .2)) (sent-turn w past a s h (c .0) (c .1) (ns .0)),
+      quiet-sent (is-some (message s past (turn (c .1) r))) (pick s (r .2)) (sent-turn st w past (c .0) (c .1) a s h (ns .0)),
       quiet-turns st s h (r .0) (turn (c .1) r ∷ past) cs (agrees-on st (moves st w past (c .0) (c .1) a (ns .0))) (ns .1),
     )
 
@@ -95,13 +95,9 @@ Numbered kind xs = Every (λ (x : Seen). mid-of (x .frame) ≡ notice kind) xs
 abbrev AllNumbered : (ℕ → List Seen) → Type 0
 AllNumbered xs = (kind : ℕ) → kind < length kinds → Numbered kind (xs kind)
 
-numbered-front : (kind : ℕ) (xs ys : List Seen) → Numbered kind (xs ++ ys) → Numbered kind xs
-numbered-front kind [] ys h = tt
-numbered-front kind (x ∷ xs) ys h = (h .0, numbered-front kind xs ys (h .1))
-
-numbered-back : (kind : ℕ) (xs ys : List Seen) → Numbered kind (xs ++ ys) → Numbered kind ys
-numbered-back kind [] ys h = h
-numbered-back kind (x ∷ xs) ys h = numbered-back kind xs ys (h .1)
+numbered-parts : (kind : ℕ) (xs ys : List Seen) → Numbered kind (xs ++ ys) → Numbered kind xs × Numbered kind ys
+numbered-parts kind [] ys h = (tt, h)
+numbered-parts kind (x ∷ xs) ys h = let k = numbered-parts kind xs ys (h .1) in ((h .0, k .0), k .1)
 
 abbrev AreFrames : ℕ → List Emission → Type 0
 AreFrames kind es = map (λ (x : Seen). x .frame) (seen-in kind es) ≡ of-number (notice kind) (frames-in es)
@@ -146,8 +142,8 @@ turns-are-frames st s kind u past [] q n = tt
 turns-are-frames st s kind u past (x ∷ xs) q n =
     let es = pick s (x .out) in
     let more : ℕ → List Seen = λ j. all-sent (marks st s j (x ∷ past) xs) in (
-      are-frames kind u es (q .0) (λ j v. numbered-front j (seen-in j es) (more j) (n j v)),
-      turns-are-frames st s kind u (x ∷ past) xs (q .1) (λ j v. numbered-back j (seen-in j es) (more j) (n j v)),
+      are-frames kind u es (q .0) (λ j v. numbered-parts j (seen-in j es) (more j) (n j v) .0),
+      turns-are-frames st s kind u (x ∷ past) xs (q .1) (λ j v. numbered-parts j (seen-in j es) (more j) (n j v) .1),
     )
 
 -- THE COPIES COUNTED, of every run of the model's calls after a start

@@ -12,6 +12,7 @@ use lib.ListN.{length, getD, take, drop, getD-replicate, length-take, drop-of-le
 use lib.Seq.{take-take}
 use borrow.Author.Tests.{eqb-true, leb-true, not-true}
 use Rattle.model.specs.Limits.{header-length, run-kept, idle-limit}
+use Rattle.model.specs.Records.{Settings}
 use Rattle.model.specs.Bytes.{places, decimal, is-text, all}
 use Rattle.model.specs.Tests.{_gives_, first}
 use Rattle.model.specs.Kinds.{kinds, room-of}
@@ -21,7 +22,7 @@ use Rattle.model.specs.Messages.{Revisions, not-read, revisions, Entry, entry-o
 use Rattle.model.specs.Messages.{unknown-message, already-started, wrong-length, wrong-revision, wrong-data, own, code, good-length}
 use Rattle.model.specs.Messages.{good-among, Standing, tested, error-of}
 use Rattle.model.specs.Events.{Event, identified, kind-of, Notice}
-use Rattle.model.specs.Sharing.{Shared, notice-of}
+use Rattle.model.specs.Sharing.{Shared, notice-of, shared-with}
 use Rattle.model.specs.Frames.{frame-0002, frame-0004, frame-0005}
 use Rattle.model.specs.Notices.{Subscription, unsubscribed, is-subscribed, Deed, nothing as no-deed, beats, news, asks, drops, acks, act}
 use Rattle.model.specs.Row.{Tagged, row, said}
@@ -29,27 +30,28 @@ use Rattle.model.specs.Session.{Session, closed, opened, started, is-closed, fr
 use Rattle.model.specs.Session.{copies-to, deal, dealt, only}
 use Rattle.model.specs.Hearing.{started-standing, opened-standing, message-error, error-reply, carry-out, judged, hear, begin}
 use Rattle.model.specs.Hearing.{identifier-told, identifier-judged, identifier-heard}
-use Rattle.model.specs.Local.{end-run, end-run-opened, Local, opening, hang-up, receives, tick, event, elsewhere, step, takes}
+use Rattle.model.specs.Local.{end-run, end-run-opened, Local, opening, hang-up, receives, tick, elsewhere, step, takes}
 use Rattle.model.specs.Local.{identifier-run, announces}
 use Rattle.model.specs.Sights.{Sight}
-use Rattle.model.specs.Wire.{has-notice}
+use Rattle.model.specs.Wire.{has-notice, is-notice}
 use Rattle.model.proofs.RowLaws.{row-at, said-at, length-row}
 use Rattle.model.proofs.Cuts.{longer-longer}
 use Rattle.model.proofs.Framed.{both, either}
 use Rattle.model.proofs.Clean.{there, passed}
 use Rattle.model.proofs.KindLaws.{neither, rooms-small}
 use Rattle.model.proofs.EntryLaws.{has-length-only, is-not-read, SoundEntry, entry-sound}
-use Rattle.model.proofs.Sights.{Sees, nothing, a-start, its-opening, its-hang-up, a-tick, its-bytes}
+use Rattle.model.proofs.Sights.{Sees, nothing, a-start, its-opening, its-hang-up, a-tick, its-bytes, told}
 use Rattle.text.proofs.Lists.{drop-take}
 use Rattle.watch.specs.Course.{Eff, rest}
 use Rattle.history.specs.Turns.{mid-of}
 use Rattle.history.specs.Past.{run-with, ended, Wish, wish-of, is-some, asks-acknowledge, well-made, acknowledges}
-use Rattle.history.specs.Past.{identifier-event, frame-for}
+use Rattle.history.specs.Past.{identifier-event, frame-for, of-kind}
 use Rattle.history.specs.Demand.{copies-in, seen, seen-in}
 use Rattle.history.proofs.Subscriptions.{wish-in, as-seen, view, is-newest, Done, unchanged, wiped, beats-does, news-does, asks-does}
-use Rattle.history.proofs.Subscriptions.{drops-does, acks-does, beats-wish, news-wish, acks-wish, asks-wish}
+use Rattle.history.proofs.Subscriptions.{drops-does, acks-does, asks-wish}
 use Rattle.history.proofs.Signals.{Signals, signals, silence, copies-silent, reply-first, silent-0004, welcome-0002, silent-other}
 use Rattle.history.proofs.Signals.{accepting, accepting-0005}
+use Rattle.history.proofs.Sendings.{Sent, sent-dealt, own-0002, own-0004, own-0005}
 
 -- ==== what is read of a session
 
@@ -103,6 +105,7 @@ pub record StepAsRead (g : Shared) (bs : List ℕ) (o : Option Message) (hung t 
   pub like : Like (next bs o hung (signals (r .1)) R) (r .0)
   pub does : (kind : ℕ) → kind < length kinds
       → StepOfKind g (g .events) none false (closing kind o hung (signals (r .1))) t kind (sub-at kind x) r
+  pub sent : Sent (is-some o) (r .1)
   -- an identifier is accepted: nothing else happens
   pub mild : b ≡ true → (kind : ℕ) → kind < length kinds
       → (closing kind o hung (signals (r .1)) ≡ false) × (sub-at kind (r .0) ≡ sub-at kind x) × (seen-in kind (r .1) ≡ [])
@@ -110,7 +113,8 @@ pub record StepAsRead (g : Shared) (bs : List ℕ) (o : Option Message) (hung t 
 -- with the signals as they come out
 module _ {g : Shared} {bs : List ℕ} {o : Option Message} {hung t b : Bool} {R : SessionRead} {x : Session} (r : Session × List Emission)
     (sg : Signals) (e : signals (r .1) ≡ sg) (n : sg .accepts (λ m. m .identifies) ≡ b) (l : Like (next bs o hung sg R) (r .0))
-    (d : (kind : ℕ) → kind < length kinds → StepOfKind g (g .events) none false (closing kind o hung sg) t kind (sub-at kind x) r) where
+    (d : (kind : ℕ) → kind < length kinds → StepOfKind g (g .events) none false (closing kind o hung sg) t kind (sub-at kind x) r)
+    (v : Sent (is-some o) (r .1)) where
   steps-with : (b ≡ true → (kind : ℕ) → kind < length kinds
       → (closing kind o hung sg ≡ false) × (sub-at kind (r .0) ≡ sub-at kind x) × (seen-in kind (r .1) ≡ []))
       → StepAsRead g bs o hung t b R x r
@@ -119,7 +123,8 @@ module _ {g : Shared} {bs : List ℕ} {o : Option Message} {hung t b : Bool} {R 
     like = subst (λ (s : Signals). Like (next bs o hung s R) (r .0)) (sym e) l;
     does = λ kind h.
         subst (λ (s : Signals). StepOfKind g (g .events) none false (closing kind o hung s) t kind (sub-at kind x) r) (sym e) (d kind h);
-    mild = λ u kind h. let v = f u kind h in (ap (closing kind o hung) e ∙ v .0, v .1, v .2);
+    sent = v;
+    mild = λ u kind h. let m = f u kind h in (ap (closing kind o hung) e ∙ m .0, m .1, m .2);
   }
 
   steps-by : b ≡ false → StepAsRead g bs o hung t b R x r
@@ -215,17 +220,16 @@ module _ (g : Shared) (R : SessionRead) (i : ℕ) (run : Run) (subs : List Subsc
 
   -- nothing is done to the subscriptions, and the output shows nothing
   idle : (es : List Emission) → signals es ≡ silence → ((kind : ℕ) → seen-in kind es ≡ [])
-      → ((kind : ℕ) → acknowledges kind (some m) ≡ false) → Goal false (started 0 empty-run subs, es)
-  idle es e s a =
+      → ((kind : ℕ) → acknowledges kind (some m) ≡ false) → Sent true es → Goal false (started 0 empty-run subs, es)
+  idle es e s a v =
       steps-by (started 0 empty-run subs, es) silence e refl (refl, like .1, like .2, like .3)
-      (λ kind h. rw (s kind, a kind) (still g kind (sub kind)))
-      refl
+      (λ kind h. rw (s kind, a kind) (still g kind (sub kind))) v refl
 
   refused : (error : ℕ) → ((kind : ℕ) → acknowledges kind (some m) ≡ false)
       → Goal false (started 0 empty-run subs, reply (frame-0004 (m .mid) error) ∷ [])
   refused error a =
       let f = frame-0004 (m .mid) error in
-      idle (reply f ∷ []) (reply-first f [] refl ∙ silent-0004 (m .mid) error) (λ kind. refl) a
+      idle (reply f ∷ []) (reply-first f [] refl ∙ silent-0004 (m .mid) error) (λ kind. refl) a (refl, own-0004 (m .mid) error, tt)
 
   -- a deed to each kind, with the signals that come along
   dealt-steps : (D : ℕ → Deed) (es : List Emission) (sg : Signals) → signals es ≡ sg
@@ -235,15 +239,16 @@ module _ (g : Shared) (R : SessionRead) (i : ℕ) (run : Run) (subs : List Subsc
       → (next [] (some m) false sg R) .wish kind ≡ wish-in ((act (room-of kind) (D kind) (sub kind)) .0))
       → ((kind : ℕ) → Done (newest kind) (g .settings) (g .events) (g .events) none false (closing kind (some m) false sg) false (sub kind)
       (act (room-of kind) (D kind) (sub kind)))
-      → sg .accepts (λ m. m .identifies) ≡ false → Goal false (started 0 empty-run (row (deal (g .settings) D) 0 subs), es)
-  dealt-steps D es sg e s a w d n =
+      → sg .accepts (λ m. m .identifies) ≡ false → Sent true es
+      → Goal false (started 0 empty-run (row (deal (g .settings) D) 0 subs), es)
+  dealt-steps D es sg e s a w d n v =
       steps-by (started 0 empty-run (row (deal (g .settings) D) 0 subs), es) sg e n (
         refl,
         a,
         λ kind h. w kind h ∙ sym (ap wish-in (dealt-at g D subs (like .3) kind h)),
         length-row (deal (g .settings) D) 0 subs ∙ like .3,
       )
-      (λ kind h. rw (s kind) (dealt-does g D subs (like .3) kind h (g .events) 0 empty-run (d kind))) refl
+      (λ kind h. rw (s kind) (dealt-does g D subs (like .3) kind h (g .events) 0 empty-run (d kind))) v refl
 
   module _ (real : Real m) (e : Entry) (known : entry-of (m .mid) ≡ some e) (f : Effect) (does : e .effect ≡ f) where
     law : SoundEntry (m .mid) e
@@ -261,15 +266,17 @@ module _ (g : Shared) (R : SessionRead) (i : ℕ) (run : Run) (subs : List Subsc
         ap (well-made kind (m .size)) known
         ∙ ap (λ (h : Effect). (bearing h) .acknowledges kind && good-length e (m .size)) does
 
-    -- what it mirrors shows nothing
-    mirrored : signals (reply (m .header) ∷ []) ≡ silence
+    -- what it mirrors shows nothing, and is no notice
+    mirrored : (signals (reply (m .header) ∷ []) ≡ silence) × (is-notice (m .header) ≡ false)
     mirrored =
         let mid = m .mid in
         let a = neither (eqb mid 0002 || eqb mid 0004 || eqb mid 0005) (has-notice kinds mid) (law .not-ours) in
         let b = neither (eqb mid 0002 || eqb mid 0004) (eqb mid 0005) (a .0) in
-        let c = neither (eqb mid 0002) (eqb mid 0004) (b .0) in
-        reply-first (m .header) [] refl
-        ∙ silent-other (m .header) (ap (λ (n : ℕ). eqb n 0002) (real .1) ∙ c .0) (ap (λ (n : ℕ). eqb n 0005) (real .1) ∙ b .1)
+        let c = neither (eqb mid 0002) (eqb mid 0004) (b .0) in (
+          reply-first (m .header) [] refl
+              ∙ silent-other (m .header) (ap (λ (n : ℕ). eqb n 0002) (real .1) ∙ c .0) (ap (λ (n : ℕ). eqb n 0005) (real .1) ∙ b .1),
+          ap (has-notice kinds) (real .1) ∙ a .1,
+        )
 
   -- an error: no acknowledge that has one is well made
   unmade : Real m → (e : Entry) → entry-of (m .mid) ≡ some e → (f : Effect) → e .effect ≡ f → (x : Error) → tests (some e) ≡ some x
@@ -291,24 +298,24 @@ module _ (g : Shared) (R : SessionRead) (i : ℕ) (run : Run) (subs : List Subsc
 
   error-steps : Real m → (e : Entry) → entry-of (m .mid) ≡ some e → (x : Error) → tests (some e) ≡ some x
       → Goal false (started 0 empty-run subs, error-reply m (some e) x)
-  error-steps real e known x h = go (gets-reply (e .effect))
-    where
-      go : (b : Bool) → Goal false (started 0 empty-run subs, cond b (reply (frame-0004 (m .mid) (code x)) ∷ []) [])
-      go true = refused (code x) (unmade real e known (e .effect) refl x h)
-      go false = idle [] refl (λ kind. refl) (unmade real e known (e .effect) refl x h)
+  error-steps real e known x h =
+      let a = unmade real e known (e .effect) refl x h in
+      either (λ (es : List Emission). Goal false (started 0 empty-run subs, es)) (gets-reply (e .effect))
+      (reply (frame-0004 (m .mid) (code x)) ∷ []) [] (refused (code x) a) (idle [] refl (λ kind. refl) a tt)
 
   -- none: what it does
   carry-steps : Real m → (e : Entry) → entry-of (m .mid) ≡ some e → tests (some e) ≡ none → (f : Effect) → e .effect ≡ f
       → Goal (is-some (identifier-told m f)) (carry-out g subs m f)
-  carry-steps real e known h starts q = idle [] refl (λ kind. refl) (acks-if real e known starts q)
+  carry-steps real e known h starts q = idle [] refl (λ kind. refl) (acks-if real e known starts q) tt
   carry-steps real e known h stops q =
       steps-by (fresh, reply (frame-0005 (m .mid)) ∷ []) (accepting (bearing stops)) (accepts real e known stops q [] refl) refl
-      (refl, refl, λ kind. refl) (λ kind u. wiped (newest kind) (g .settings) (g .events) false (sub kind)) refl
+      (refl, refl, λ kind. refl) (λ kind u. wiped (newest kind) (g .settings) (g .events) false (sub kind))
+      (refl, own-0005 (m .mid), tt) refl
   carry-steps real e known h (identifies n) q =
       let a = acks-if real e known (identifies n) q in
       steps-with (started 0 empty-run subs, reply (frame-0005 (m .mid)) ∷ []) (accepting (bearing (identifies n)))
       (accepts real e known (identifies n) q [] refl) refl (refl, like .1, like .2, like .3)
-      (λ kind u. rw (a kind) (still g kind (sub kind)))
+      (λ kind u. rw (a kind) (still g kind (sub kind))) (refl, own-0005 (m .mid), tt)
       (λ t kind u. (a kind, refl, refl))
   carry-steps real e known h (subscribes j n) q =
       let D = only j (asks (m .revision) (m .no-acknowledge)) in
@@ -319,6 +326,7 @@ module _ (g : Shared) (R : SessionRead) (i : ℕ) (run : Run) (subs : List Subsc
       (λ kind.
       rw (acks-if real e known (subscribes j n) q kind)
       (asks-does (newest kind) (g .settings) (g .events) (room-of kind) (eqb kind j) (m .revision) (m .no-acknowledge) (sub kind))) refl
+      (refl, own-0005 (m .mid), sent-dealt (g .settings) false D subs (like .3))
     where
       lone : is-subscribed (sub j) ≡ false
       lone =
@@ -340,6 +348,7 @@ module _ (g : Shared) (R : SessionRead) (i : ℕ) (run : Run) (subs : List Subsc
       (λ kind.
       rw (acks-if real e known (unsubscribes j n) q kind, or-false (eqb kind j))
       (drops-does (newest kind) (g .settings) (g .events) (room-of kind) (eqb kind j) (sub kind))) refl
+      (refl, own-0005 (m .mid), sent-dealt (g .settings) false (only j drops) subs (like .3))
     where
       wished : (b : Bool) (kind : ℕ) → kind < length kinds
           → cond b none (R .wish kind) ≡ wish-in ((act (room-of kind) (cond b drops no-deed) (sub kind)) .0)
@@ -349,12 +358,14 @@ module _ (g : Shared) (R : SessionRead) (i : ℕ) (run : Run) (subs : List Subsc
       let good = passed standing e (m .size) (m .revision) (m .data-field) h .0 in
       dealt-steps (only j acks) (map copy (said (deal (g .settings) (only j acks)) 0 subs)) silence
       (copies-silent (g .settings) (only j acks) subs) (λ kind. refl) (like .1)
-      (λ kind u. like .2 kind u ∙ sym (acks-wish (room-of kind) (eqb kind j) (sub kind)))
+      (λ kind u. like .2 kind u ∙ sym (acks-does (newest kind) (g .settings) (g .events) (room-of kind) (eqb kind j) (sub kind) .1))
       (λ kind.
       rw (acks-if real e known (acknowledging j) q kind, good, and-true (eqb kind j))
-      (acks-does (newest kind) (g .settings) (g .events) (room-of kind) (eqb kind j) (sub kind))) refl
+      (acks-does (newest kind) (g .settings) (g .events) (room-of kind) (eqb kind j) (sub kind) .0)) refl
+      (sent-dealt (g .settings) true (only j acks) subs (like .3))
   carry-steps real e known h mirrors q =
-      idle (reply (m .header) ∷ []) (mirrored real e known mirrors q) (λ kind. refl) (acks-if real e known mirrors q)
+      let c = mirrored real e known mirrors q in
+      idle (reply (m .header) ∷ []) (c .0) (λ kind. refl) (acks-if real e known mirrors q) (refl, c .1, tt)
 
   hear-steps : Real m → Goal (is-some (identifier-heard g subs m)) (hear g subs m)
   unfolding error-of
@@ -380,9 +391,9 @@ module _ (g : Shared) (R : SessionRead) (i : ℕ) (run : Run) (like : Like R (op
   unsubscribed-at kind h = getD-replicate (length kinds) kind unsubscribed unsubscribed h
 
   idle-opened : (o : Option Message) (es : List Emission) → signals es ≡ silence → ((kind : ℕ) → seen-in kind es ≡ [])
-      → GoalOpened o (opened i empty-run, es)
-  idle-opened o es e s =
-      steps-by (opened i empty-run, es) silence e refl (refl, like .1, like .2) (λ kind h. rw (s kind) (rest (le-refl (g .events)))) refl
+      → Sent (is-some o) es → GoalOpened o (opened i empty-run, es)
+  idle-opened o es e s v =
+      steps-by (opened i empty-run, es) silence e refl (refl, like .1, like .2) (λ kind h. rw (s kind) (rest (le-refl (g .events)))) v refl
 
   begin-steps : (m : Message) (x : Option Error) → GoalOpened (some m) (begin g i m x)
   begin-steps m none =
@@ -390,16 +401,17 @@ module _ (g : Shared) (R : SessionRead) (i : ℕ) (run : Run) (like : Like R (op
       steps-by (started 0 empty-run no-subscriptions, reply f ∷ []) (record { closes = false; welcomes = true; accepts = λ so. false })
       (reply-first f [] refl ∙ welcome-0002 (g .settings)) refl
       (refl, refl, λ kind h. like .2 kind ∙ sym (ap wish-in (unsubscribed-at kind h)), refl)
-      (λ kind h. rw (unsubscribed-at kind h) (rest (le-refl (g .events)))) refl
+      (λ kind h. rw (unsubscribed-at kind h) (rest (le-refl (g .events)))) (refl, own-0002 (g .settings), tt) refl
   begin-steps m (some error) =
       let f = frame-0004 (m .mid) (code error) in
       idle-opened (some m) (reply f ∷ []) (reply-first f [] refl ∙ silent-0004 (m .mid) (code error)) (λ kind. refl)
+      (refl, own-0004 (m .mid) (code error), tt)
 
   end-opened-steps : (o : Option Message) → GoalOpened o (end-run-opened g i o)
-  end-opened-steps none = idle-opened none [] refl (λ kind. refl)
+  end-opened-steps none = idle-opened none [] refl (λ kind. refl) tt
   end-opened-steps (some m) =
       either (GoalOpened (some m)) (eqb (m .mid) 0001) (begin g i m (message-error (opened-standing g) m)) (opened i empty-run, [])
-      (begin-steps m (message-error (opened-standing g) m)) (idle-opened (some m) [] refl (λ kind. refl))
+      (begin-steps m (message-error (opened-standing g) m)) (idle-opened (some m) [] refl (λ kind. refl) tt)
 
 -- ==== the messages that runs give
 
@@ -428,17 +440,17 @@ longer-read bs more run e = sym (longer-longer empty-run bs more) ∙ ap (λ (r 
 module _ (g : Shared) (R : SessionRead) where
   -- nothing concerns it
   pub elsewhere-steps : (x : Session) → Like R x → StepAsRead g (R .run) none false false false R x (step g elsewhere x)
-  elsewhere-steps x l = steps-by (x, []) silence refl refl l (λ kind h. still g kind (sub-at kind x)) refl
+  elsewhere-steps x l = steps-by (x, []) silence refl refl l (λ kind h. still g kind (sub-at kind x)) tt refl
 
-  opening-steps : (x : Session) → is-closed x ≡ true → Like R x → StepAsRead g [] none false false false R x (step g opening x)
-  opening-steps closed c l = steps-by (fresh, []) silence refl refl (refl, l .0, l .1) (λ kind h. rest (le-refl (g .events))) refl
+  pub opening-steps : (x : Session) → is-closed x ≡ true → Like R x → StepAsRead g [] none false false false R x (step g opening x)
+  opening-steps closed c l = steps-by (fresh, []) silence refl refl (refl, l .0, l .1) (λ kind h. rest (le-refl (g .events))) tt refl
   opening-steps (opened i run) c l = absurd (true≢false (sym c))
   opening-steps (started i run subs) c l = absurd (true≢false (sym c))
 
-  hang-up-steps : (x : Session) → Like R x → StepAsRead g (R .run) none true false false R x (step g hang-up x)
+  pub hang-up-steps : (x : Session) → Like R x → StepAsRead g (R .run) none true false false R x (step g hang-up x)
   hang-up-steps x l =
       steps-by (closed, []) silence refl refl (refl, λ kind. refl)
-      (λ kind h. wiped (newest kind) (g .settings) (g .events) false (sub-at kind x)) refl
+      (λ kind h. wiped (newest kind) (g .settings) (g .events) false (sub-at kind x)) tt refl
 
   abbrev shut : Signals
   shut = record { closes = true; welcomes = false; accepts = λ so. false }
@@ -446,29 +458,31 @@ module _ (g : Shared) (R : SessionRead) where
   abbrev Ticked : Session → Session × List Emission → Type 0
   Ticked x r = StepAsRead g (R .run) none false true false R x r
 
-  tick-steps : (x : Session) → Like R x → Ticked x (step g tick x)
-  tick-steps closed l = steps-by (closed, []) silence refl refl l (λ kind h. rest (le-refl (g .events))) refl
+  pub tick-steps : (x : Session) → Like R x → Ticked x (step g tick x)
+  tick-steps closed l = steps-by (closed, []) silence refl refl l (λ kind h. rest (le-refl (g .events))) tt refl
   tick-steps (opened i run) l =
       either (Ticked (opened i run)) (eqb (suc i) idle-limit) (closed, close ∷ []) (opened (suc i) run, [])
-      (steps-by (closed, close ∷ []) shut refl refl (refl, λ kind. refl) (λ kind h. rest (le-refl (g .events))) refl)
-      (steps-by (opened (suc i) run, []) silence refl refl l (λ kind h. rest (le-refl (g .events))) refl)
+      (steps-by (closed, close ∷ []) shut refl refl (refl, λ kind. refl) (λ kind h. rest (le-refl (g .events))) tt refl)
+      (steps-by (opened (suc i) run, []) silence refl refl l (λ kind h. rest (le-refl (g .events))) tt refl)
   tick-steps (started i run subs) l =
       let D : ℕ → Deed = λ kind. beats in
       let r = dealt (g .settings) (suc i) run D subs in
       either (Ticked (started i run subs)) (eqb (suc i) idle-limit) (closed, close ∷ []) r
       (steps-by (closed, close ∷ []) shut refl refl (refl, λ kind. refl)
-      (λ kind h. wiped (newest kind) (g .settings) (g .events) true (getD subs kind unsubscribed)) refl)
+      (λ kind h. wiped (newest kind) (g .settings) (g .events) true (getD subs kind unsubscribed)) tt refl)
       (steps-by r silence (copies-silent (g .settings) D subs) refl (
         l .0,
         l .1,
         λ kind h.
             l .2 kind h
-            ∙ sym (ap wish-in (dealt-at g D subs (l .3) kind h) ∙ beats-wish (room-of kind) (getD subs kind unsubscribed)),
+            ∙ sym (ap wish-in (dealt-at g D subs (l .3) kind h)
+            ∙ beats-does (newest kind) (g .settings) (g .events) (room-of kind) (getD subs kind unsubscribed) .1),
         length-row (deal (g .settings) D) 0 subs ∙ l .3,
       )
       (λ kind h.
       dealt-does g D subs (l .3) kind h (g .events) (suc i) run
-      (beats-does (newest kind) (g .settings) (g .events) (room-of kind) (getD subs kind unsubscribed))) refl)
+      (beats-does (newest kind) (g .settings) (g .events) (room-of kind) (getD subs kind unsubscribed) .0))
+      (sent-dealt (g .settings) false D subs (l .3)) refl)
 
   -- bytes; b: a NUL ends the run
   abbrev piece : List ℕ → Bool → Piece
@@ -483,19 +497,19 @@ module _ (g : Shared) (R : SessionRead) where
       → StepAsRead g [] o false false (is-some (identifier-run g subs o)) R (started i run subs) (end-run g i subs o)
   end-steps i run subs l none real =
       steps-by (started i empty-run subs, []) silence refl refl (refl, l .1, l .2, l .3)
-      (λ kind h. still g kind (getD subs kind unsubscribed)) refl
+      (λ kind h. still g kind (getD subs kind unsubscribed)) tt refl
   end-steps i run subs l (some m) real = hear-steps g R i run subs l m real
 
-  receives-steps : (bs : List ℕ) (b : Bool) (x : Session) → Like R x → Received (piece bs b) x
-  receives-steps bs b closed l = steps-by (closed, []) silence refl refl l (λ kind h. rest (le-refl (g .events))) refl
+  pub receives-steps : (bs : List ℕ) (b : Bool) (x : Session) → Like R x → Received (piece bs b) x
+  receives-steps bs b closed l = steps-by (closed, []) silence refl refl l (λ kind h. rest (le-refl (g .events))) tt refl
   receives-steps bs false (opened i run) l =
       steps-by (opened i (longer run bs), []) silence refl refl (longer-read (R .run) bs run (l .0), l .1, l .2)
-      (λ kind h. rest (le-refl (g .events))) refl
+      (λ kind h. rest (le-refl (g .events))) tt refl
   receives-steps bs true (opened i run) l =
       rw (← longer-read (R .run) bs run (l .0)) (end-opened-steps g R i run l (read-run (longer empty-run (R .run ++ bs))))
   receives-steps bs false (started i run subs) l =
       steps-by (started i (longer run bs) subs, []) silence refl refl (longer-read (R .run) bs run (l .0), l .1, l .2, l .3)
-      (λ kind h. still g kind (getD subs kind unsubscribed)) refl
+      (λ kind h. still g kind (getD subs kind unsubscribed)) tt refl
   receives-steps bs true (started i run subs) l =
       rw (← longer-read (R .run) bs run (l .0))
       (end-steps i run subs l (read-run (longer empty-run (R .run ++ bs))) (real-end (R .run ++ bs)))
@@ -556,35 +570,59 @@ module _ (g : Shared) (R : SessionRead) where
       go true = told-run subs o
       go false = refl
 
--- ==== an event
+-- ==== and then the event, if there is one
 
-module _ (g : Shared) (e : Event) where
-  abbrev news-of : ℕ → Deed
-  news-of = only (kind-of e) (news (notice-of g e))
+-- no event has no frame
+pub frame-none : (st : Settings) (kind : ℕ) (o : Option Wish) → frame-for st kind o none ≡ none
+frame-none st kind none = refl
+frame-none st kind (some w) = refl
 
-  pub event-silent : (x : Session) → signals ((step g (event e) x) .1) ≡ silence
-  event-silent closed = refl
-  event-silent (opened i run) = refl
-  event-silent (started i run subs) = copies-silent (g .settings) news-of subs
+-- the session x, read as R, becomes r .0 and is sent r .1
+pub record EventAsRead (g : Shared) (o : Option Event) (R : SessionRead) (x : Session) (r : Session × List Emission) : Type 0 where
+  pub silent : signals (r .1) ≡ silence
+  pub like : Like R (r .0)
+  pub sent : Sent false (r .1)
+  pub does : (kind : ℕ) → kind < length kinds
+      → StepOfKind g ((shared-with g o) .events) (frame-for (g .settings) kind (wish-in (sub-at kind x)) o)
+      (of-kind kind o && takes kind x) false false kind (sub-at kind x) r
 
-  pub event-like : (R : SessionRead) (x : Session) → Like R x → Like R ((step g (event e) x) .0)
-  event-like R closed l = l
-  event-like R (opened i run) l = l
-  event-like R (started i run subs) l = (
-    l .0,
-    l .1,
-    λ kind h.
-        l .2 kind h
-        ∙ sym (ap wish-in (dealt-at g news-of subs (l .3) kind h)
-        ∙ news-wish (room-of kind) (eqb kind (kind-of e)) (notice-of g e) (getD subs kind unsubscribed)),
-    length-row (deal (g .settings) news-of) 0 subs ∙ l .3,
-  )
+pub event-steps : (g : Shared) (o : Option Event) (R : SessionRead) (x : Session) → Like R x → EventAsRead g o R x (told g o x)
+event-steps g none R x l = record {
+  silent = refl;
+  like = l;
+  sent = tt;
+  does = λ kind h. rw (frame-none (g .settings) kind (wish-in (sub-at kind x))) (still g kind (sub-at kind x));
+}
+event-steps g (some e) R closed l = record {
+  silent = refl;
+  like = l;
+  sent = tt;
+  does = λ kind h. rw (and-false (eqb kind (kind-of e))) (rest (omega arith));
+}
+event-steps g (some e) R (opened i run) l = record {
+  silent = refl;
+  like = l;
+  sent = tt;
+  does = λ kind h. rw (and-false (eqb kind (kind-of e))) (rest (omega arith));
+}
+event-steps g (some e) R (started i run subs) l =
+    let D = only (kind-of e) (news (notice-of g e)) in
+    let new : (kind : ℕ) → kind < length kinds → _ = λ kind h.
+    news-does (newest kind) (g .settings) (g .events) (room-of kind) (rooms-small kind h) refl e kind (getD subs kind unsubscribed) in
+    record {
+      silent = copies-silent (g .settings) D subs;
+      like = (
+        l .0,
+        l .1,
+        λ kind h. l .2 kind h ∙ sym (ap wish-in (dealt-at g D subs (l .3) kind h) ∙ new kind h .1),
+        length-row (deal (g .settings) D) 0 subs ∙ l .3,
+      );
+      sent = sent-dealt (g .settings) false D subs (l .3);
+      does = λ kind h. dealt-does g D subs (l .3) kind h (suc (g .events)) i run (new kind h .0);
+    }
 
-  pub event-does : (R : SessionRead) (x : Session) → Like R x → (kind : ℕ) → kind < length kinds
-      → StepOfKind g (suc (g .events)) (frame-for (g .settings) kind (wish-in (sub-at kind x)) (some e))
-      (eqb kind (kind-of e) && takes kind x) false false kind (sub-at kind x) (step g (event e) x)
-  event-does R closed l kind h = rw (and-false (eqb kind (kind-of e))) (rest (omega arith))
-  event-does R (opened i run) l kind h = rw (and-false (eqb kind (kind-of e))) (rest (omega arith))
-  event-does R (started i run subs) l kind h =
-      dealt-does g news-of subs (l .3) kind h (suc (g .events)) i run
-      (news-does (newest kind) (g .settings) (g .events) (room-of kind) (rooms-small kind h) refl e kind (getD subs kind unsubscribed))
+-- after a step
+pub then-steps : {g : Shared} {bs : List ℕ} {m : Option Message} {hung t b : Bool} {R : SessionRead} {x : Session}
+    {r : Session × List Emission} (o : Option Event) → StepAsRead g bs m hung t b R x r
+    → EventAsRead g o (next bs m hung (signals (r .1)) R) (r .0) (told g o (r .0))
+then-steps {g} {bs} {m} {hung} {t} {b} {R} {x} {r} o q = event-steps g o (next bs m hung (signals (r .1)) R) (r .0) (q .like)

@@ -13,9 +13,10 @@ use Rattle.model.specs.Events.{Event, identified, tightened, Notice}
 use Rattle.model.specs.Layouts.{characters, data-from}
 use Rattle.model.specs.Frames.{header, frame, frame-0002, frame-0004, frame-0005, event-frame}
 use Rattle.model.specs.Kinds.{room-of}
-use Rattle.model.specs.Notices.{Pending, Subscription, unsubscribed, plain, acked, Deed, nothing, beats, news, asks, drops, acks, act}
+use Rattle.model.specs.Notices.{Subscription, unsubscribed, plain, acked, Deed, nothing, beats, news, asks, drops, acks, act}
 use Rattle.model.specs.Row.{Tagged, tag, said}
-use Rattle.model.specs.Session.{Copy, Emission, reply, copy, close, copies-to, deal}
+use Rattle.model.specs.Session.{Copy, Emission, reply, copy, close, frame-to, copies-to, deal}
+use Rattle.model.proofs.Framed.{every-append}
 use Rattle.watch.specs.Marks.{Every}
 use Rattle.history.specs.Turns.{frames-in, orders-close, any, mid-of, is-0002, is-0005}
 
@@ -32,6 +33,9 @@ signals es = record {
   accepts = λ so. any (is-0005 so) (frames-in es);
 }
 
+abbrev signals-of : Bool → Bool → ((Bearing → Bool) → Bool) → Signals
+signals-of c w a = record { closes = c; welcomes = w; accepts = a }
+
 abbrev pub silence : Signals
 silence = record { closes = false; welcomes = false; accepts = λ so. false }
 
@@ -45,18 +49,11 @@ notice-mid st r a (tightened x) = omega arith
 abbrev Notices : List (Tagged Copy) → Type 0
 Notices cs = Every (λ (c : Tagged Copy). 5 < mid-of (c .what .frame)) cs
 
-notices-append : (xs ys : List (Tagged Copy)) → Notices xs → Notices ys → Notices (xs ++ ys)
-notices-append [] ys a b = b
-notices-append (x ∷ xs) ys a b = (a .0, notices-append xs ys (a .1) b)
-
 module _ (st : Settings) where
-  plain-notices : (i r : ℕ) (ns : List Notice) → Notices (tag i (copies-to st (plain r) ns))
-  plain-notices i r [] = tt
-  plain-notices i r (n ∷ ns) = (notice-mid st r true (n .event), plain-notices i r ns)
-
-  acked-notices : (i r : ℕ) (q : Pending) (ns : List Notice) → Notices (tag i (copies-to st (acked r q) ns))
-  acked-notices i r q [] = tt
-  acked-notices i r q (n ∷ ns) = (notice-mid st r false (n .event), acked-notices i r q ns)
+  copies-notices : (i : ℕ) (x : Subscription) → ((n : Notice) → 5 < mid-of (frame-to st x n)) → (ns : List Notice)
+      → Notices (tag i (copies-to st x ns))
+  copies-notices i x h [] = tt
+  copies-notices i x h (n ∷ ns) = (h n, copies-notices i x h ns)
 
   deal-notices : (i j : ℕ) (d : Deed) (x : Subscription) → Notices (tag i (copies-to st x ((act (room-of j) d x) .1)))
   deal-notices i j nothing unsubscribed = tt
@@ -65,76 +62,56 @@ module _ (st : Settings) where
   deal-notices i j (asks r a) unsubscribed = tt
   deal-notices i j drops unsubscribed = tt
   deal-notices i j acks unsubscribed = tt
-  deal-notices i j d (plain r) = plain-notices i r ((act (room-of j) d (plain r)) .1)
-  deal-notices i j d (acked r q) = acked-notices i r q ((act (room-of j) d (acked r q)) .1)
+  deal-notices i j d (plain r) = copies-notices i (plain r) (λ n. notice-mid st r true (n .event)) ((act (room-of j) d (plain r)) .1)
+  deal-notices i j d (acked r q) = copies-notices i (acked r q) (λ n. notice-mid st r false (n .event)) ((act (room-of j) d (acked r q)) .1)
 
   pub dealt-notices : (D : ℕ → Deed) (i : ℕ) (xs : List Subscription) → Notices (said (deal st D) i xs)
   dealt-notices D i [] = tt
   dealt-notices D i (x ∷ xs) =
-      notices-append (tag i ((deal st D i x) .1)) (said (deal st D) (suc i) xs) (deal-notices i i (D i) x) (dealt-notices D (suc i) xs)
+      every-append (λ c. 5 < mid-of (c .what .frame)) (tag i ((deal st D i x) .1)) (said (deal st D) (suc i) xs) (deal-notices i i (D i) x)
+      (dealt-notices D (suc i) xs)
 
-notices-close : (cs : List (Tagged Copy)) → orders-close (map copy cs) ≡ false
-notices-close [] = refl
-notices-close (c ∷ cs) = notices-close cs
+-- ==== one frame more
 
-notices-0002 : (cs : List (Tagged Copy)) → Notices cs → any is-0002 (frames-in (map copy cs)) ≡ false
-notices-0002 [] h = refl
-notices-0002 (c ∷ cs) h = rw (ne-eqb (mid-of (c .what .frame)) 2 (λ e. let u = h .0 in omega arith)) (notices-0002 cs (h .1))
-
-notices-0005 : (cs : List (Tagged Copy)) (so : Bearing → Bool) → Notices cs → any (is-0005 so) (frames-in (map copy cs)) ≡ false
-notices-0005 [] so h = refl
-notices-0005 (c ∷ cs) so h = rw (ne-eqb (mid-of (c .what .frame)) 5 (λ e. let u = h .0 in omega arith)) (notices-0005 cs so (h .1))
-
-abbrev signals-of : Bool → Bool → ((Bearing → Bool) → Bool) → Signals
-signals-of c w a = record { closes = c; welcomes = w; accepts = a }
-
--- copies are silent
-pub copies-silent : (st : Settings) (D : ℕ → Deed) (xs : List Subscription) → signals (map copy (said (deal st D) 0 xs)) ≡ silence
-copies-silent st D xs =
-    let h = dealt-notices st D 0 xs in
-    let cs = said (deal st D) 0 xs in
-    λ i. signals-of (notices-close cs i) (notices-0002 cs h i) ((fun-ext (λ so. notices-0005 cs so h)) i)
-
--- ==== what is silent may be left out
-
-pub frames-append : (xs ys : List Emission) → frames-in (xs ++ ys) ≡ frames-in xs ++ frames-in ys
-frames-append [] ys = refl
-frames-append (reply f ∷ xs) ys = ap (f ∷_) (frames-append xs ys)
-frames-append (copy c ∷ xs) ys = ap (c .what .frame ∷_) (frames-append xs ys)
-frames-append (close ∷ xs) ys = frames-append xs ys
-
-any-append : (test : List ℕ → Bool) (xs ys : List (List ℕ)) → any test ys ≡ false → any test (xs ++ ys) ≡ any test xs
-any-append test [] ys h = h
-any-append test (x ∷ xs) ys h = rw (any-append test xs ys h)
-
-close-append : (xs ys : List Emission) → orders-close ys ≡ false → orders-close (xs ++ ys) ≡ orders-close xs
-close-append [] ys h = h
-close-append (reply f ∷ xs) ys h = close-append xs ys h
-close-append (copy c ∷ xs) ys h = close-append xs ys h
-close-append (close ∷ xs) ys h = refl
-
-pub silent-after : (xs ys : List Emission) → signals ys ≡ silence → signals (xs ++ ys) ≡ signals xs
-silent-after xs ys h =
-    λ i. signals-of (close-append xs ys (ap (λ (x : Signals). x .closes) h) i)
-    ((ap (any is-0002) (frames-append xs ys) ∙ any-append is-0002 (frames-in xs) (frames-in ys) (ap (λ (x : Signals). x .welcomes) h)) i)
-    ((fun-ext (λ so.
-    ap (any (is-0005 so)) (frames-append xs ys)
-    ∙ any-append (is-0005 so) (frames-in xs) (frames-in ys) (ap (λ (x : Signals). x .accepts so) h))) i)
-
--- ==== replies
+abbrev with-frame : List ℕ → Signals → Signals
+with-frame f x = record {
+  closes = x .closes;
+  welcomes = cond (is-0002 f) true (x .welcomes);
+  accepts = λ so. cond (is-0005 so f) true (x .accepts so);
+}
 
 abbrev pub signals-by : List ℕ → Signals
-signals-by f = record { closes = false; welcomes = cond (is-0002 f) true false; accepts = λ so. cond (is-0005 so f) true false }
+signals-by f = with-frame f silence
 
 pub reply-first : (f : List ℕ) (es : List Emission) → signals es ≡ silence → signals (reply f ∷ es) ≡ signals-by f
-reply-first f es h =
-    ap {B = Signals}
-    (λ (x : Signals). record {
-      closes = x .closes;
-      welcomes = cond (is-0002 f) true (x .welcomes);
-      accepts = λ so. cond (is-0005 so f) true (x .accepts so);
-    })
-    h
+reply-first f es h = ap (with-frame f) h
+
+-- another message comes back
+pub silent-other : (f : List ℕ) → eqb (mid-of f) 0002 ≡ false → eqb (mid-of f) 0005 ≡ false → signals-by f ≡ silence
+silent-other f h k =
+    λ i. signals-of false (cond (h i) true false)
+    (λ so. cond (k i && so (entry-bearing (entry-of (decimal (places 21 24 f))))) true false)
+
+-- copies are silent
+notices-silent : (cs : List (Tagged Copy)) → Notices cs → signals (map copy cs) ≡ silence
+notices-silent [] h = refl
+notices-silent (c ∷ cs) h =
+    let f = c .what .frame in
+    let u = h .0 in
+    ap (with-frame f) (notices-silent cs (h .1))
+    ∙ silent-other f (ne-eqb (mid-of f) 2 (λ e. omega arith)) (ne-eqb (mid-of f) 5 (λ e. omega arith))
+
+pub copies-silent : (st : Settings) (D : ℕ → Deed) (xs : List Subscription) → signals (map copy (said (deal st D) 0 xs)) ≡ silence
+copies-silent st D xs = notices-silent (said (deal st D) 0 xs) (dealt-notices st D 0 xs)
+
+-- what is silent may be left out
+pub silent-after : (xs ys : List Emission) → signals ys ≡ silence → signals (xs ++ ys) ≡ signals xs
+silent-after [] ys h = h
+silent-after (reply f ∷ xs) ys h = ap (with-frame f) (silent-after xs ys h)
+silent-after (copy c ∷ xs) ys h = ap (with-frame (c .what .frame)) (silent-after xs ys h)
+silent-after (close ∷ xs) ys h = ap (λ (x : Signals). signals-of true (x .welcomes) (x .accepts)) (silent-after xs ys h)
+
+-- ==== replies
 
 pub silent-0004 : (mid error : ℕ) → signals-by (frame-0004 mid error) ≡ silence
 unfolding frame-0004 frame header digits
@@ -143,12 +120,6 @@ silent-0004 mid error = refl
 pub welcome-0002 : (st : Settings) → signals-by (frame-0002 st) ≡ record { closes = false; welcomes = true; accepts = λ so. false }
 unfolding frame-0002 frame header digits
 welcome-0002 st = refl
-
--- another message comes back
-pub silent-other : (f : List ℕ) → eqb (mid-of f) 0002 ≡ false → eqb (mid-of f) 0005 ≡ false → signals-by f ≡ silence
-silent-other f h k =
-    λ i. signals-of false (cond (h i) true false)
-    (λ so. cond (k i && so (entry-bearing (entry-of (decimal (places 21 24 f))))) true false)
 
 -- an acceptance of a message that is such
 abbrev pub accepting : Bearing → Signals

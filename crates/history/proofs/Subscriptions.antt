@@ -58,6 +58,10 @@ Done z st k k′ e o cl t x r =
     Eff z k k′ e o (asks-acknowledge (wish-in x)) cl t (is-subscribed x) (is-subscribed (r .0)) (view st x) (view st (r .0))
     (map (as-seen st x) (r .1))
 
+-- and what is wished stays
+abbrev Stays : Bool → Settings → ℕ → ℕ → Option (List ℕ) → Bool → Bool → Bool → Subscription → Subscription × List Notice → Type 0
+Stays z st k k′ e o cl t x r = Done z st k k′ e o cl t x r × (wish-in (r .0) ≡ wish-in x)
+
 module _ (z : Bool) (st : Settings) (k : ℕ) where
   pub unchanged : (k′ : ℕ) (e : Option (List ℕ)) (x : Subscription) → k ≤ k′ → Done z st k k′ e false false false x (x, [])
   unchanged k′ e unsubscribed h = rest h
@@ -72,17 +76,19 @@ module _ (z : Bool) (st : Settings) (k : ℕ) where
   wiped t (acked r (busy n c q)) = wipe (le-refl k)
 
   clock-does : (b d : Bool) (r : ℕ) (n : Notice) (c : ℕ) (q : List Notice) → eqb (suc c) given-up-at ≡ b → eqb (suc c % copy-every) 0 ≡ d
-      → Done z st k k none false false true (acked r (busy n c q))
+      → Stays z st k k none false false true (acked r (busy n c q))
       (cond b (next-one r q) (acked r (busy n (suc c) q), cond d (n ∷ []) []))
-  clock-does true d r n c [] u v = quit (le-refl k) (eqb-true (suc c) given-up-at u)
-  clock-does true d r n c (y ∷ q) u v = quit-pass (le-refl k) (eqb-true (suc c) given-up-at u)
-  clock-does false true r n c q u v = again (le-refl k) (eqb-false (suc c) given-up-at u) (eqb-true (suc c % copy-every) 0 v)
-  clock-does false false r n c q u v = beat (le-refl k) (eqb-false (suc c) given-up-at u) (eqb-false (suc c % copy-every) 0 v)
+  clock-does true d r n c [] u v = (quit (le-refl k) (eqb-true (suc c) given-up-at u), refl)
+  clock-does true d r n c (y ∷ q) u v = (quit-pass (le-refl k) (eqb-true (suc c) given-up-at u), refl)
+  clock-does false true r n c q u v =
+      (again (le-refl k) (eqb-false (suc c) given-up-at u) (eqb-true (suc c % copy-every) 0 v), refl)
+  clock-does false false r n c q u v =
+      (beat (le-refl k) (eqb-false (suc c) given-up-at u) (eqb-false (suc c % copy-every) 0 v), refl)
 
-  pub beats-does : (room : Room) (x : Subscription) → Done z st k k none false false true x (act room beats x)
-  beats-does room unsubscribed = rest (le-refl k)
-  beats-does room (plain r) = rest (le-refl k)
-  beats-does room (acked r empty) = rest (le-refl k)
+  pub beats-does : (room : Room) (x : Subscription) → Stays z st k k none false false true x (act room beats x)
+  beats-does room unsubscribed = (rest (le-refl k), refl)
+  beats-does room (plain r) = (rest (le-refl k), refl)
+  beats-does room (acked r empty) = (rest (le-refl k), refl)
   beats-does room (acked r (busy n c q)) = clock-does (eqb (suc c) given-up-at) (eqb (suc c % copy-every) 0) r n c q refl refl
 
   more-does : (b : Bool) (r : ℕ) (n : Notice) (c : ℕ) (q : List Notice) (e : Event)
@@ -112,15 +118,15 @@ module _ (z : Bool) (st : Settings) (k : ℕ) where
     framed b (some w) = cond b (some (event-frame st (w .revision) (w .no-acknowledge) e)) none
 
     by-kind : (b : Bool) (x : Subscription)
-        → Done z st k (suc k) (framed b (wish-in x)) (b && takes room x) false false x (act room (cond b (news notice) nothing) x)
-    by-kind false x = unchanged (suc k) (framed false (wish-in x)) x (omega arith)
-    by-kind true unsubscribed = rest (omega arith)
-    by-kind true (plain r) = lone refl
-    by-kind true (acked r empty) = first refl
-    by-kind true (acked r (busy n c q)) = waits-does room few new r n c q e
+        → Stays z st k (suc k) (framed b (wish-in x)) (b && takes room x) false false x (act room (cond b (news notice) nothing) x)
+    by-kind false x = (unchanged (suc k) (framed false (wish-in x)) x (omega arith), refl)
+    by-kind true unsubscribed = (rest (omega arith), refl)
+    by-kind true (plain r) = (lone refl, refl)
+    by-kind true (acked r empty) = (first refl, refl)
+    by-kind true (acked r (busy n c q)) = (waits-does room few new r n c q e, refl)
 
     pub news-does : (kind : ℕ) (x : Subscription)
-        → Done z st k (suc k) (frame-for st kind (wish-in x) (some e)) (eqb kind (kind-of e) && takes room x) false false x
+        → Stays z st k (suc k) (frame-for st kind (wish-in x) (some e)) (eqb kind (kind-of e) && takes room x) false false x
         (act room (cond (eqb kind (kind-of e)) (news notice) nothing) x)
     news-does kind unsubscribed = by-kind (eqb kind (kind-of e)) unsubscribed
     news-does kind (plain r) = by-kind (eqb kind (kind-of e)) (plain r)
@@ -139,50 +145,19 @@ module _ (z : Bool) (st : Settings) (k : ℕ) where
   drops-does room false x = unchanged k none x (le-refl k)
   drops-does room true x = wiped false x
 
-  pub acks-does : (room : Room) (b : Bool) (x : Subscription) → Done z st k k none false b false x (act room (cond b acks nothing) x)
-  acks-does room false x = unchanged k none x (le-refl k)
-  acks-does room true unsubscribed = rest (le-refl k)
-  acks-does room true (plain r) = rest (le-refl k)
-  acks-does room true (acked r empty) = rest (le-refl k)
-  acks-does room true (acked r (busy n c [])) = over (le-refl k)
-  acks-does room true (acked r (busy n c (y ∷ q))) = pass (le-refl k)
+  pub acks-does : (room : Room) (b : Bool) (x : Subscription) → Stays z st k k none false b false x (act room (cond b acks nothing) x)
+  acks-does room false x = (unchanged k none x (le-refl k), refl)
+  acks-does room true unsubscribed = (rest (le-refl k), refl)
+  acks-does room true (plain r) = (rest (le-refl k), refl)
+  acks-does room true (acked r empty) = (rest (le-refl k), refl)
+  acks-does room true (acked r (busy n c [])) = (over (le-refl k), refl)
+  acks-does room true (acked r (busy n c (y ∷ q))) = (pass (le-refl k), refl)
 
--- ==== what is wished stays, but for the deeds that subscribe and unsubscribe
+-- ==== what is wished once it is subscribed
 
-module _ (room : Room) where
-  next-wish : (r : ℕ) (q : List Notice) → wish-in ((next-one r q) .0) ≡ wish-in (acked r empty)
-  next-wish r [] = refl
-  next-wish r (x ∷ q) = refl
-
-  pub beats-wish : (x : Subscription) → wish-in ((act room beats x) .0) ≡ wish-in x
-  beats-wish unsubscribed = refl
-  beats-wish (plain r) = refl
-  beats-wish (acked r empty) = refl
-  beats-wish (acked r (busy n c q)) = go (eqb (suc c) given-up-at)
-    where
-      go : (b : Bool)
-          → wish-in ((cond b (next-one r q) (acked r (busy n (suc c) q), cond (eqb (suc c % copy-every) 0) (n ∷ []) [])) .0)
-          ≡ wish-in (acked r empty)
-      go true = next-wish r q
-      go false = refl
-
-  pub news-wish : (b : Bool) (n : Notice) (x : Subscription) → wish-in ((act room (cond b (news n) nothing) x) .0) ≡ wish-in x
-  news-wish false n x = refl
-  news-wish true n unsubscribed = refl
-  news-wish true n (plain r) = refl
-  news-wish true n (acked r empty) = refl
-  news-wish true n (acked r (busy y c q)) = refl
-
-  pub acks-wish : (b : Bool) (x : Subscription) → wish-in ((act room (cond b acks nothing) x) .0) ≡ wish-in x
-  acks-wish false x = refl
-  acks-wish true unsubscribed = refl
-  acks-wish true (plain r) = refl
-  acks-wish true (acked r empty) = refl
-  acks-wish true (acked r (busy n c q)) = next-wish r q
-
-  pub asks-wish : (r : ℕ) (a : Bool) (x : Subscription) → is-subscribed x ≡ false
-      → wish-in ((act room (asks r a) x) .0) ≡ some (record { revision = r; no-acknowledge = a })
-  asks-wish r true unsubscribed h = refl
-  asks-wish r false unsubscribed h = refl
-  asks-wish r a (plain v) h = absurd (true≢false h)
-  asks-wish r a (acked v q) h = absurd (true≢false h)
+pub asks-wish : (room : Room) (r : ℕ) (a : Bool) (x : Subscription) → is-subscribed x ≡ false
+    → wish-in ((act room (asks r a) x) .0) ≡ some (record { revision = r; no-acknowledge = a })
+asks-wish room r true unsubscribed h = refl
+asks-wish room r false unsubscribed h = refl
+asks-wish room r a (plain v) h = absurd (true≢false h)
+asks-wish room r a (acked v q) h = absurd (true≢false h)

@@ -1,9 +1,9 @@
 -- Every call of the model does, to the notices of each kind to each session, one of the things that a call can do. No call is looked at
 -- for itself: what it does is read off the model's two tables of calls.
-use Prim.Native.Nat.{ℕ, zero, suc, _<_}
-use mathlib.Core.Path.{_≡_, refl, sym, _∙_, ap, ap₂, subst}
+use Prim.Native.Nat.{ℕ, suc, _<_}
+use mathlib.Core.Path.{_≡_, refl, sym, _∙_, ap, subst}
 use mathlib.Core.Bool.{Bool, true, false, cond, _&&_}
-use mathlib.Core.List.{List, [], _∷_, _++_, append-nil}
+use mathlib.Core.List.{List, [], _∷_, _++_}
 use mathlib.Core.Option.{Option, none, some, Option·map as option-map}
 use native.Mathlib.Omega.{arith}
 use lib.Dec.{eqb, eqb·suc-zero}
@@ -27,16 +27,17 @@ use Rattle.model.proofs.Takers.{in-takers}
 use Rattle.model.proofs.Sights.{its-part, Sees, nothing, its-bytes, coherent}
 use Rattle.model.proofs.Sights.{Source, no-event, a-report, from-session, told, goes-to, after-length, after-shared}
 use Rattle.watch.specs.Marks.{Demand3, InTime}
-use Rattle.watch.specs.Course.{PendingSeen, empty as none-waits, Course, end, call}
+use Rattle.watch.specs.Course.{empty as none-waits, Course, end, call}
 use Rattle.watch.proofs.Theorem.{demand-3, goes-out-in-time}
 use Rattle.history.specs.Turns.{Turn, turn, turns, is-start}
-use Rattle.history.specs.Past.{run-with, run, ended, wish, is-some, identifier-event, spoken, event, shared, of-kind, takes-it}
+use Rattle.history.specs.Past.{run-with, run, ended, message, wish, is-some, spoken, event, shared}
 use Rattle.history.specs.Demand.{seen-in, marks, NoStart}
 use Rattle.history.proofs.Subscriptions.{wish-in, view}
-use Rattle.history.proofs.Signals.{Signals, signals, silence, silent-after}
+use Rattle.history.proofs.Signals.{Signals, signals, silent-after}
+use Rattle.history.proofs.Sendings.{Sent, sent-append}
 use Rattle.history.proofs.Sessions.{closing, Like, sub-at, newest, StepAsRead, elsewhere-steps, tells-of, sees-steps, told-steps}
-use Rattle.history.proofs.Sessions.{event-silent}
-use Rattle.history.proofs.Calls.{session-read, sub-of, like-wish, Moves, Beside, quiet-moves, event-moves}
+use Rattle.history.proofs.Sessions.{then-steps}
+use Rattle.history.proofs.Calls.{session-read, sub-of, like-wish, by-refusal, Moves, Beside, moves-by}
 
 -- ==== what a session does not see, and what it hears
 
@@ -73,10 +74,6 @@ at-kind f h kind j e = go (eqb kind j) refl
     go true q = rw (eqb-true kind j q) e
     go false q = refl
 
-told-silent : (g : Shared) (o : Option Event) (x : Session) → signals ((told g o x) .1) ≡ silence
-told-silent g none x = refl
-told-silent g (some e) x = event-silent g e x
-
 -- ==== a call that is done, and no start
 
 module _ (w : World) (past : List Turn) (size : length (w .sessions) ≡ session-count)
@@ -112,9 +109,7 @@ module _ (w : World) (past : List Turn) (size : length (w .sessions) ≡ session
   goes s h = rw (coherent l w c done .leaves no-start) at (goes-to w s (omega arith) moment ((does w c) .event))
 
   pub leaves : (after w (moments w c)) .shared ≡ shared-with g ((does w c) .event)
-  leaves =
-      after-shared w moment ((does w c) .event) ∙ ap (λ (v : Shared). shared-with v ((does w c) .event))
-      (coherent l w c done .leaves no-start)
+  leaves = after-shared w moment ((does w c) .event) ∙ rw (coherent l w c done .leaves no-start)
 
   -- ---- what is read of the event
 
@@ -134,11 +129,10 @@ module _ (w : World) (past : List Turn) (size : length (w .sessions) ≡ session
       let a = announces g p (session-at w t) in
       let o = (does w c) .event in
       let shows : signals (pick t (x .out)) ≡ signals ((y t) .1) =
-      ap signals (goes t inside .1) ∙ silent-after ((y t) .1) ((told g o ((y t) .0)) .1) (told-silent g o ((y t) .0)) in
-      ap₂ (λ (b : Bool) (q : Option Piece). cond b (identifier-event (ended (run t past) q)) none)
-      (ap (λ (sg : Signals). sg .accepts (λ m. m .identifies)) shows ∙ (call-steps t inside) .tells
-      ∙ ap (λ (q : Option Piece). tells-of g (session-read t past) q (session-at w t)) given) given
-      ∙ sym (told-steps g (session-read t past) p (session-at w t) (like t inside)) ∙ sym ev
+      ap signals (goes t inside .1)
+      ∙ silent-after ((y t) .1) ((told g o ((y t) .0)) .1) (then-steps o (call-steps t inside) .silent) in
+      let told-so = ap (λ (sg : Signals). sg .accepts (λ m. m .identifies)) shows ∙ (call-steps t inside) .tells in
+      rw (told-so, given, ev) (sym (told-steps g (session-read t past) p (session-at w t) (like t inside)))
 
   event-is : event g past x ≡ (does w c) .event
   event-is = go (coherent l w c done .event)
@@ -161,10 +155,9 @@ module _ (w : World) (past : List Turn) (size : length (w .sessions) ≡ session
           mild = λ kind u. rw mom (q .1 kind);
           no-tick = q .0;
           taken = λ kind u.
-              ap₂ (λ (o : Option Event) (t : Option Tool). of-kind kind o && takes-it s x t (is-some (wish s kind past)))
-              (event-is ∙ is) rep
-              ∙ at-kind (λ j. in-sum s ((does w c) .taken)) (λ j. takes-in j ((y s) .0)) kind (kind-of e)
-              (ap (in-sum s) tk ∙ in-takers (kind-of (reported g r)) s (w .sessions) ∙ rw (mom, same));
+              rw (event-is ∙ is, rep)
+              (at-kind (λ j. in-sum s ((does w c) .taken)) (λ j. takes-in j ((y s) .0)) kind (kind-of e)
+              (ap (in-sum s) tk ∙ in-takers (kind-of (reported g r)) s (w .sessions) ∙ rw (mom, same)));
         }
 
     -- the identifier that a session's bytes make known
@@ -178,8 +171,8 @@ module _ (w : World) (past : List Turn) (size : length (w .sessions) ≡ session
       mild = λ kind u. known .1 kind u;
       no-tick = known .0;
       taken = λ kind u.
-          ap₂ (λ (o : Option Event) (q : Option Tool). of-kind kind o && takes-it s x q (is-some (wish s kind past))) (event-is ∙ is) rep
-          ∙ at-kind (λ j. is-some (wish s j past)) (λ j. takes-in j ((y s) .0)) kind (kind-of e) (rw (told-as .1) taken-so);
+          rw (event-is ∙ is, rep)
+          (at-kind (λ j. is-some (wish s j past)) (λ j. takes-in j ((y s) .0)) kind (kind-of e) (rw (told-as .1) taken-so));
     }
       where
         told-as : (is-some (announces g p (session-at w t)) ≡ true) × (kind-of e ≡ identifiers)
@@ -191,9 +184,7 @@ module _ (w : World) (past : List Turn) (size : length (w .sessions) ≡ session
         by true q z =
             let k = heard z in (
               k .1,
-              (call-steps s h) .mild
-                  (ap (λ (o : Option Piece). tells-of g (session-read s past) o (session-at w s)) (k .0)
-                  ∙ ap (λ (n : ℕ). is-some (announces g p (session-at w n))) (eqb-true s t q) ∙ told-as .0),
+              (call-steps s h) .mild (rw (k .0, eqb-true s t q) (told-as .0)),
             )
         by false q z = let k = unseen g (run s past) (session-at w s) z in (k .0, λ kind u. rw (mom, q) (k .1 kind))
 
@@ -221,20 +212,16 @@ module _ (w : World) (past : List Turn) (size : length (w .sessions) ≡ session
   w′ = after w (moments w c)
 
   done-moves : Moves (g .settings) g w past x w′
-  done-moves = go ((does w c) .event) refl
-    where
-      size′ : length (w′ .sessions) ≡ session-count
-      size′ = after-length w moment ((does w c) .event) ∙ size
+  done-moves =
+      let o = (does w c) .event in
+      moves-by w past like x w′ (after-length w moment o ∙ size) y tells call-steps o event-is leaves goes beside
 
-      go : (o : Option Event) → (does w c) .event ≡ o → Moves (g .settings) g w past x w′
-      go none is =
-          quiet-moves w past like x w′ size′ y tells call-steps (event-is ∙ is) (leaves ∙ ap (shared-with g) is)
-          (λ s h. goes s h .0 ∙ ap (λ (o : Option Event). (told g o ((y s) .0)) .0) is)
-          (λ s h. goes s h .1 ∙ ap (λ (o : Option Event). (y s) .1 ++ (told g o ((y s) .0)) .1) is ∙ append-nil ((y s) .1))
-      go (some e) is =
-          event-moves w past like x w′ size′ y tells call-steps e (event-is ∙ is) (leaves ∙ ap (shared-with g) is)
-          (λ s h. goes s h .0 ∙ ap (λ (o : Option Event). (told g o ((y s) .0)) .0) is)
-          (λ s h. goes s h .1 ∙ ap (λ (o : Option Event). (y s) .1 ++ (told g o ((y s) .0)) .1) is) (beside e is)
+  done-sent : (s : ℕ) → s < session-count → Sent (is-some (message s past x)) (pick s (x .out))
+  done-sent s h =
+      let o = (does w c) .event in
+      rw (goes s h .1)
+      (sent-append (is-some (message s past x)) ((y s) .1) ((told g o ((y s) .0)) .1) ((call-steps s h) .sent)
+      (then-steps o (call-steps s h) .sent))
 
 -- ==== any call but a start that is done
 
@@ -258,23 +245,26 @@ module _ (st : Settings) (w : World) (past : List Turn) (l : Lent) (c : Call) (a
 
   refused-moves : (n : ℕ) → Moves (here .settings) here w past (turn c (answered w c (suc n))) w
   refused-moves n =
-      quiet-moves w past (a .like) (turn c (answered w c (suc n))) w (a .size) (λ s. (session-at w s, [])) (λ s. false)
-      (λ s h. rw (eqb·suc-zero n) (elsewhere-steps here (session-read s past) (session-at w s) (a .like s h))) (rw (eqb·suc-zero n)) refl
-      (λ s h. refl) (λ s h. refl)
+      moves-by w past (a .like) (turn c (answered w c (suc n))) w (a .size) (λ s. (session-at w s, [])) (λ s. false)
+      (λ s h. rw (eqb·suc-zero n) (elsewhere-steps here (session-read s past) (session-at w s) (a .like s h))) none (rw (eqb·suc-zero n))
+      refl (λ s h. (refl, refl)) (λ e q. absurd (there (sym q)))
 
   call-moves : is-start (turn c (step l w c)) ≡ false → Moves (here .settings) here w past (turn c (step l w c)) ((step l w c) .0)
-  unfolding step
-  call-moves ns = go (refusal l w c) refl ns
-    where
-      go : (n : ℕ) → refusal l w c ≡ n → is-start (turn c (answered w c n)) ≡ false
-          → Moves (here .settings) here w past (turn c (answered w c n)) ((answered w c n) .0)
-      go zero e f = done-moves w past (a .size) (a .like) l c e f
-      go (suc n) e f = refused-moves n
+  call-moves =
+      by-refusal l w c (λ q. is-start (turn c q) ≡ false → Moves (here .settings) here w past (turn c q) (q .0))
+      (done-moves w past (a .size) (a .like) l c) (λ n f. refused-moves n)
 
   pub moves : is-start (turn c (step l w c)) ≡ false → Moves st (shared st past) w past (turn c (step l w c)) ((step l w c) .0)
   moves ns =
-      subst (λ (v : Settings). Moves v (shared st past) w past (turn c (step l w c)) ((step l w c) .0)) (settings-stay st past)
+      rw (settings-stay st past) at
       (subst (λ (v : Shared). Moves (v .settings) v w past (turn c (step l w c)) ((step l w c) .0)) (a .sharing) (call-moves ns))
+
+  -- what goes out to session s
+  pub sent-turn : (s : ℕ) → s < session-count → is-start (turn c (step l w c)) ≡ false
+      → Sent (is-some (message s past (turn c (step l w c)))) (pick s ((step l w c) .2))
+  sent-turn s h =
+      by-refusal l w c (λ q. is-start (turn c q) ≡ false → Sent (is-some (message s past (turn c q))) (pick s (q .2)))
+      (λ e f. done-sent w past (a .size) (a .like) l c e f s h) (λ n f. tt)
 
 -- ==== whole histories
 
@@ -286,7 +276,7 @@ module _ (st : Settings) where
   agrees-begun = record {
     sharing = refl;
     size = refl;
-    like = λ s h. subst (Like (session-read s [])) (sym (getD-replicate session-count s closed closed h)) (refl, λ kind. refl);
+    like = λ s h. rw (getD-replicate session-count s closed closed h) (refl, λ kind. refl);
   }
 
   pub course-of : (w : World) (past : List Turn) (cs : List (Lent × Call)) → Agrees st w past → NoStart (turns w cs)
@@ -304,9 +294,7 @@ module _ (st : Settings) where
   -- DEMAND 3, of every run of the model's calls after a start
   module _ (cs : List (Lent × Call)) (ns : NoStart (turns (begun st 0) cs)) (s : ℕ) (h : s < session-count) where
     begun-course : (kind : ℕ) → kind < length kinds → Course (newest kind) 0 none-waits (marks st s kind [] (turns (begun st 0) cs))
-    begun-course kind u =
-        subst (λ (q : PendingSeen). Course (newest kind) 0 q (marks st s kind [] (turns (begun st 0) cs))) (view-begun s h kind)
-        (course-of (begun st 0) [] cs agrees-begun ns s h kind u)
+    begun-course kind u = rw (view-begun s h kind) at (course-of (begun st 0) [] cs agrees-begun ns s h kind u)
 
     pub demand-3-of-runs : (kind : ℕ) → kind < length kinds → Demand3 (marks st s kind [] (turns (begun st 0) cs))
     demand-3-of-runs kind u = demand-3 (begun-course kind u)

@@ -1,37 +1,32 @@
 -- WHAT A LINE SERVER SEES, OF THE PRODUCT: whatever calls are made after a start that is done, whatever they are lent, and only they write
 -- the table. Each frame is read alike by its NUL and by its length; a reply is the first that its call wrote, and answers the message that
 -- this call completed, to the session that sent it.
-use Prim.Native.Nat.{ℕ, zero, suc, _+_, _≤_, _<_}
+use Prim.Native.Nat.{ℕ, suc, _<_}
 use mathlib.Core.Path.{_≡_, refl, sym, _∙_, ap, subst}
 use mathlib.Core.Bool.{Bool, true, false, cond, true≢false}
 use mathlib.Core.List.{List, [], _∷_, _++_, map}
 use mathlib.Core.Option.{Option, none, some}
 use native.Mathlib.Omega.{arith}
 use lib.Dec.{eqb, eqb·suc-zero}
-use lib.ListN.{length, take, getD-replicate, length-take}
+use lib.ListN.{length, take, getD-replicate}
 use borrow.Author.Tests.{eqb-true}
-use Rattle.model.specs.Limits.{session-count, output-least, idle-limit}
+use Rattle.model.specs.Limits.{session-count}
 use Rattle.model.specs.Bytes.{NUL}
 use Rattle.model.specs.Records.{payload, Settings, settings-of}
 use Rattle.model.specs.Runs.{Run, empty-run, longer, Piece, cut, consumed-by, Message, read-run}
-use Rattle.model.specs.Messages.{Effect, starts, stops, identifies, subscribes, unsubscribes, acknowledges, mirrors, Entry, entry-of, Error}
 use Rattle.model.specs.Events.{Event}
 use Rattle.model.specs.Sharing.{Shared}
-use Rattle.model.specs.Notices.{Subscription, beats}
 use Rattle.model.specs.Row.{Tagged}
-use Rattle.model.specs.Session.{Session, closed, opened, started, is-closed, Emission, reply, copy, close, dealt}
-use Rattle.model.specs.Hearing.{message-error, started-standing, opened-standing, carry-out, judged, begin}
-use Rattle.model.specs.Local.{end-run, end-run-opened, Local, opening, receives, tick, tick-at, step as session-step}
+use Rattle.model.specs.Session.{Session, closed, opened, started, is-closed, Emission, reply, copy, close}
+use Rattle.model.specs.Local.{Local, step as session-step}
 use Rattle.model.specs.World.{World, session-at, begun, after}
-use Rattle.model.specs.Calls.{Call, Lent, does, refusal, at-most-one, Answer as ModelAnswer, answered, step}
+use Rattle.model.specs.Calls.{Call, Lent, does, at-most-one, Answer as ModelAnswer, answered, step}
 use Rattle.model.specs.Sights.{Sight, sight}
 use Rattle.model.specs.Wire.{Every}
 use Rattle.model.specs.Erased.{erase-world}
-use Rattle.model.proofs.Framed.{either}
 use Rattle.model.proofs.Clean.{nul-cut, there}
 use Rattle.model.proofs.Sent.{Follows, completes}
-use Rattle.model.proofs.Sights.{its-part, Sees, nothing, a-start, its-opening, its-hang-up, a-tick, its-bytes, coherent}
-use Rattle.model.proofs.Sights.{given-by, told, goes-to}
+use Rattle.model.proofs.Sights.{Sees, nothing, a-start, its-opening, its-hang-up, a-tick, its-bytes, coherent, given-by, told, goes-to}
 use Rattle.model.proofs.Wire.{CleanWorld, begun-clean, settings-clean, Silent, completes-given, completed}
 use Rattle.model.proofs.Wire.{Sends, none-replies as none-speaks, replies as speaks, step-sends}
 use Rattle.table.specs.Table.{decode, Table}
@@ -42,91 +37,39 @@ use Rattle.controller.proofs.Outputs.{Below, step-below, step-many}
 use Rattle.controller.proofs.Traces.{number-is, table-left, table-begun}
 use Rattle.controller.proofs.Modelled.{lending, one-call, begun-meaning}
 use Rattle.history.specs.Turns.{Turn}
-use Rattle.history.specs.Past.{run-with, run}
-use Rattle.history.specs.Output.{read-output, as-read, record-of}
+use Rattle.history.specs.Past.{run-with, run, Wish}
+use Rattle.history.specs.Output.{as-read, record-of}
 use Rattle.history.specs.Exports.{Export, ExportHistory, CallsOf}
 use Rattle.history.specs.Wire.{Whole, a-frame, an-order, asked, Completes, NoReply, a-notice, to-close, Replies, none-replies}
 use Rattle.history.specs.Wire.{replies}
 use Rattle.history.specs.Wire.{OnTheWire, InTurn}
 use Rattle.history.proofs.Output.{read-written}
-use Rattle.history.proofs.Sessions.{longer-read}
+use Rattle.history.proofs.Sessions.{SessionRead, Like, longer-read, opening-steps, hang-up-steps, tick-steps, receives-steps}
+use Rattle.history.proofs.Sessions.{event-steps}
+use Rattle.history.proofs.Calls.{by-refusal}
 use Rattle.history.proofs.Exports.{called-so}
 
 -- ==== a session's run is what is read off the calls
 
--- these bytes are the run of the session, which has one unless it is closed
+-- these bytes are the run of the session, which has one unless it is closed: it is like some reading that has them
 abbrev Kept : List ℕ → Session → Type 0
-Kept bs closed = Unit {0}
-Kept bs (opened idle run) = longer empty-run bs ≡ run
-Kept bs (started idle run subs) = longer empty-run bs ≡ run
+Kept bs x = (b : Bool) × (f : ℕ → Option Wish) × Like (record { run = bs; started = b; wish = f }) x
 
-module _ (g : Shared) where
-  -- a run that has ended leaves an empty one
-  carry-out-kept : (subs : List Subscription) (m : Message) (f : Effect) → Kept [] ((carry-out g subs m f) .0)
-  carry-out-kept subs m starts = refl
-  carry-out-kept subs m stops = refl
-  carry-out-kept subs m (identifies n) = refl
-  carry-out-kept subs m (subscribes kind n) = refl
-  carry-out-kept subs m (unsubscribes kind n) = refl
-  carry-out-kept subs m (acknowledges kind) = refl
-  carry-out-kept subs m mirrors = refl
+abbrev reading : (bs : List ℕ) (x : Session) → Kept bs x → SessionRead
+reading bs x k = record { run = bs; started = k .0; wish = k .1 }
 
-  judged-kept : (subs : List Subscription) (m : Message) (o : Option Entry) (x : Option Error) → Kept [] ((judged g subs m o x) .0)
-  judged-kept subs m o (some x) = refl
-  judged-kept subs m none none = refl
-  judged-kept subs m (some e) none = carry-out-kept subs m (e .effect)
+-- whatever it sees
+sees-kept : (g : Shared) {z : Sight} {l : Local} → Sees z l → (bs : List ℕ) (x : Session) → (z .opens ≡ true → is-closed x ≡ true)
+    → Kept bs x → Kept (run-with (z .given) (z .opens) bs) ((session-step g l x) .0)
+sees-kept g a-start bs x c k = (false, λ kind. none, (refl, λ kind. refl))
+sees-kept g nothing bs x c k = k
+sees-kept g its-opening bs x c k = (_, _, opening-steps g (reading bs x k) x (c refl) (k .2) .like)
+sees-kept g its-hang-up bs x c k = (_, _, hang-up-steps g (reading bs x k) x (k .2) .like)
+sees-kept g a-tick bs x c k = (_, _, tick-steps g (reading bs x k) x (k .2) .like)
+sees-kept g (its-bytes {p = p}) bs x c k = (_, _, receives-steps g (reading bs x k) (p .bytes) (p .ends) x (k .2) .like)
 
-  end-kept : (idle : ℕ) (subs : List Subscription) (o : Option Message) → Kept [] ((end-run g idle subs o) .0)
-  end-kept idle subs none = refl
-  end-kept idle subs (some m) = judged-kept subs m (entry-of (m .mid)) (message-error (started-standing g subs) m)
-
-  end-opened-kept : (idle : ℕ) (o : Option Message) → Kept [] ((end-run-opened g idle o) .0)
-  end-opened-kept idle none = refl
-  end-opened-kept idle (some m) = go (eqb (m .mid) 0001) (message-error (opened-standing g) m)
-    where
-      go : (b : Bool) (x : Option Error)
-          → Kept [] ((cond {A = Session × List Emission} b (begin g idle m x) (opened idle empty-run, [])) .0)
-      go true none = refl
-      go true (some x) = refl
-      go false x = refl
-
-  -- b: a NUL ends the run
-  receives-kept : (bs more : List ℕ) (b : Bool) (x : Session) → Kept bs x
-      → Kept (cond b [] (bs ++ more)) ((session-step g (receives (record { bytes = more; ends = b })) x) .0)
-  receives-kept bs more b closed k = tt
-  receives-kept bs more true (opened i run) k = end-opened-kept i (read-run (longer run more))
-  receives-kept bs more false (opened i run) k = longer-read bs more run k
-  receives-kept bs more true (started i run subs) k = end-kept i subs (read-run (longer run more))
-  receives-kept bs more false (started i run subs) k = longer-read bs more run k
-
-  opening-kept : (x : Session) → is-closed x ≡ true → Kept [] ((session-step g opening x) .0)
-  opening-kept closed h = refl
-  opening-kept (opened i run) h = absurd (true≢false (sym h))
-  opening-kept (started i run subs) h = absurd (true≢false (sym h))
-
-  shut-or : (idle : ℕ) (bs : List ℕ) (r : Session × List Emission) → Kept bs (r .0) → Kept bs ((tick-at idle r) .0)
-  shut-or idle bs r k = either (λ (q : Session × List Emission). Kept bs (q .0)) (eqb idle idle-limit) (closed, close ∷ []) r tt k
-
-  tick-kept : (bs : List ℕ) (x : Session) → Kept bs x → Kept bs ((session-step g tick x) .0)
-  tick-kept bs closed k = tt
-  tick-kept bs (opened i run) k = shut-or (suc i) bs (opened (suc i) run, []) k
-  tick-kept bs (started i run subs) k = shut-or (suc i) bs (dealt (g .settings) (suc i) run (λ kind. beats) subs) k
-
-  -- whatever it sees
-  sees-kept : {z : Sight} {l : Local} → Sees z l → (bs : List ℕ) (x : Session) → (z .opens ≡ true → is-closed x ≡ true) → Kept bs x
-      → Kept (run-with (z .given) (z .opens) bs) ((session-step g l x) .0)
-  sees-kept nothing bs x c k = k
-  sees-kept a-start bs x c k = tt
-  sees-kept its-opening bs x c k = opening-kept x (c refl)
-  sees-kept its-hang-up bs x c k = tt
-  sees-kept a-tick bs x c k = tick-kept bs x k
-  sees-kept (its-bytes {p = p}) bs x c k = receives-kept bs (p .bytes) (p .ends) x k
-
-  told-kept : (bs : List ℕ) (o : Option Event) (x : Session) → Kept bs x → Kept bs ((told g o x) .0)
-  told-kept bs none x k = k
-  told-kept bs (some e) closed k = tt
-  told-kept bs (some e) (opened i run) k = k
-  told-kept bs (some e) (started i run subs) k = k
+told-kept : (g : Shared) (bs : List ℕ) (o : Option Event) (x : Session) → Kept bs x → Kept bs ((told g o x) .0)
+told-kept g bs o x k = (_, _, event-steps g o (reading bs x k) x (k .2) .like)
 
 -- ==== a call
 
@@ -139,18 +82,14 @@ with-call c a past = record { call = c; answer = a; out = [] } ∷ past
 
 call-runs : (l : Lent) (w : World) (c : Call) (past : List Turn) → length (w .sessions) ≡ session-count → Runs w (λ s. run s past)
     → Runs ((step l w c) .0) (λ s. run s (with-call c ((step l w c) .1) past))
-unfolding step
-call-runs l w c past all-there k = go (refusal l w c) refl
-  where
-    go : (n : ℕ) → refusal l w c ≡ n → Runs ((answered w c n) .0) (λ s. run s (with-call c ((answered w c n) .1) past))
-    go (suc n) e = rw (eqb·suc-zero n) k
-    go zero e = λ s u.
-        let o = (does w c) .moment in
-        let y = session-step (w .shared) (its-part s o) (session-at w s) in
-        let bs = run-with ((sight s c) .given) ((sight s c) .opens) (run s past) in
-        subst (Kept bs) (sym (goes-to w s (omega arith) o ((does w c) .event) .0))
-        (told-kept ((after w (at-most-one o)) .shared) bs ((does w c) .event) (y .0)
-        (sees-kept (w .shared) (coherent l w c e .sees s) (run s past) (session-at w s) (coherent l w c e .opens s) (k s u)))
+call-runs l w c past all-there k =
+    by-refusal l w c (λ q. Runs (q .0) (λ s. run s (with-call c (q .1) past)))
+    (λ e s u.
+    let o = (does w c) .moment in
+    rw (goes-to w s (omega arith) o ((does w c) .event) .0)
+    (told-kept ((after w (at-most-one o)) .shared) (run-with ((sight s c) .given) ((sight s c) .opens) (run s past)) ((does w c) .event) _
+    (sees-kept (w .shared) (coherent l w c e .sees s) (run s past) (session-at w s) (coherent l w c e .opens s) (k s u))))
+    (λ n. rw (eqb·suc-zero n) k)
 
 -- ==== the message that a call completes
 
@@ -171,42 +110,38 @@ cut-taken (b ∷ bs) e = go (eqb b NUL) refl (λ q. cut-taken bs q) e
 abbrev Completed : List ℕ → List ℕ → Message → Bool → Type 0
 Completed bs more m ends = (ends ≡ true) × (read-run (longer empty-run (bs ++ more)) ≡ some m)
 
-ended : (run : Run) (bs more : List ℕ) (m : Message) → longer empty-run bs ≡ run
+read-by : (run : Run) (bs more : List ℕ) (m : Message) → longer empty-run bs ≡ run
     → (b : Bool) → cond b (read-run (longer run more)) none ≡ some m → Completed bs more m b
-ended run bs more m k true e = (refl, ap read-run (longer-read bs more run k) ∙ e)
-ended run bs more m k false e = absurd (there (sym e))
+read-by run bs more m k true e = (refl, ap read-run (longer-read bs more run k) ∙ e)
+read-by run bs more m k false e = absurd (there (sym e))
 
 ended-by : (x : Session) (bs : List ℕ) (p : Piece) (m : Message) → Kept bs x → completes x p ≡ some m
     → Completed bs (p .bytes) m (p .ends)
 ended-by closed bs p m k e = absurd (there (sym e))
-ended-by (opened i run) bs p m k e = ended run bs (p .bytes) m k (p .ends) e
-ended-by (started i run subs) bs p m k e = ended run bs (p .bytes) m k (p .ends) e
+ended-by (opened i run) bs p m k e = read-by run bs (p .bytes) m (k .2 .0) (p .ends) e
+ended-by (started i run subs) bs p m k e = read-by run bs (p .bytes) m (k .2 .0) (p .ends) e
 
 -- ==== the records of what goes out
 
 module _ (st : Settings) where
-  no-reply : (s : ℕ) (e : Emission) → Follows st e → NoReply (as-read s e)
-  no-reply s (reply frame) h = absurd h
-  no-reply s (copy c) h = a-notice s (c .what .frame) (h .1)
-  no-reply s close h = to-close s
+  -- what follows is no reply, and whole
+  follows-read : (s : ℕ) (e : Emission) → s < session-count → Follows st e → NoReply (as-read s e) × Whole (as-read s e)
+  follows-read s (reply frame) u h = absurd h
+  follows-read s (copy c) u h = (a-notice s (c .what .frame) (h .1), a-frame s (c .what .frame) u (h .0))
+  follows-read s close u h = (to-close s, an-order s u)
 
-  no-replies : (es : List (Tagged Emission)) → Silent st es → Every NoReply (map record-of es)
-  no-replies [] h = tt
-  no-replies (x ∷ xs) h = (no-reply (x .who) (x .what) (h .0), no-replies xs (h .1))
-
-  whole : (s : ℕ) (e : Emission) → s < session-count → Follows st e → Whole (as-read s e)
-  whole s (reply frame) u h = absurd h
-  whole s (copy c) u h = a-frame s (c .what .frame) u (h .0)
-  whole s close u h = an-order s u
-
-  all-whole : (es : List (Tagged Emission)) → Below session-count es → Silent st es → Every Whole (map record-of es)
-  all-whole [] b h = tt
-  all-whole (x ∷ xs) b h = (whole (x .who) (x .what) (b .0) (h .0), all-whole xs (b .1) (h .1))
+  all-read : (es : List (Tagged Emission)) → Below session-count es → Silent st es
+      → Every NoReply (map record-of es) × Every Whole (map record-of es)
+  all-read [] b h = (tt, tt)
+  all-read (x ∷ xs) b h =
+      let a = follows-read (x .who) (x .what) (b .0) (h .0) in
+      let r = all-read xs (b .1) (h .1) in
+      ((a .0, r .0), (a .1, r .1))
 
 sends-whole : {w : World} {c : Call} {es : List (Tagged Emission)} → Below session-count es → Sends w c es → Every Whole (map record-of es)
-sends-whole {w = w} b (none-speaks {es = es} h) = all-whole (w .shared .settings) es b h
+sends-whole {w = w} b (none-speaks {es = es} h) = all-read (w .shared .settings) es b h .1
 sends-whole {w = w} b (speaks {s = s} {frame = frame} {es = es} e a f r h) =
-    (a-frame s frame (b .0) f, all-whole (w .shared .settings) es (b .1) h)
+    (a-frame s frame (b .0) f, all-read (w .shared .settings) es (b .1) h .1)
 
 module _ (past : List Made) (m : Made) (w : World) (k : Runs w (λ t. run t (map asked past))) where
   -- a message that a call completes came in bytes
@@ -237,18 +172,16 @@ module _ (past : List Made) (m : Made) (w : World) (k : Runs w (λ t. run t (map
 
   call-replies : (l : Lent) → let q = step l w (m .call) in
       model-answer (m .answer) ≡ q .1 → Below session-count (q .2) → Sends w (m .call) (q .2) → Replies past m (map record-of (q .2))
-  unfolding step
-  call-replies l a b h = go (refusal l w (m .call)) a b h
+  call-replies l =
+      by-refusal l w (m .call)
+      (λ q. model-answer (m .answer) ≡ q .1 → Below session-count (q .2) → Sends w (m .call) (q .2) → Replies past m (map record-of (q .2)))
+      (λ e. by) (λ n a b h. none-replies tt)
     where
       by : {es : List (Tagged Emission)} → model-answer (m .answer) ≡ (answered w (m .call) 0) .1 → Below session-count es
           → Sends w (m .call) es → Replies past m (map record-of es)
-      by a b (none-speaks {es = es} h) = none-replies (no-replies (w .shared .settings) es h)
-      by a b (speaks {s = s} {m = x} {es = es} e f g r h) = replies (completes-it s (b .0) a x e) f (no-replies (w .shared .settings) es h)
-
-      go : (n : ℕ) → let q = answered w (m .call) n in
-          model-answer (m .answer) ≡ q .1 → Below session-count (q .2) → Sends w (m .call) (q .2) → Replies past m (map record-of (q .2))
-      go zero a b h = by a b h
-      go (suc n) a b h = none-replies tt
+      by a b (none-speaks {es = es} h) = none-replies (all-read (w .shared .settings) es b h .0)
+      by a b (speaks {s = s} {m = x} {es = es} e f g r h) =
+          replies (completes-it s (b .0) a x e) f (all-read (w .shared .settings) es (b .1) h .0)
 
 -- ==== histories
 
@@ -260,13 +193,10 @@ on-the-wire-from {t = t} w past all-there clean k h e (and {m = m} out rest) =
     let q = step l w (m .call) in
     let call = one-call w h e out in
     let sends = step-sends l w (m .call) clean in
-    let below = step-below session-count l w (m .call) all-there in
-    let long = ap length (call .bytes) in
-    let taken = length-take (m .answer .written) (m .output-left) in
-    let most : m .answer .written ≤ output-least = out .fits in (
+    let below = step-below session-count l w (m .call) all-there in (
       record {
         records = map record-of (q .2);
-        read = ap read-output (call .bytes) ∙ read-written (q .2) below (omega arith);
+        read = read-written (q .2) below (m .answer .written) (m .output-left) (call .bytes) (out .fits);
         whole = sends-whole below (sends .1);
         replies = call-replies past m w k l (call .answer) below (sends .1);
       },
@@ -282,8 +212,8 @@ on-the-wire h =
     let st = settings-of (payload (h .settings)) in
     let given = (start-passes (h .before) (h .settings) (sym (number-is (h .begins)) ∙ h .done)) .1 in
     on-the-wire-from (begun st 0) [] refl (begun-clean st 0 (settings-clean (h .settings) given))
-    (λ s u. rw (getD-replicate session-count s closed closed u) tt) (table-begun (h .begins) (h .done))
-    (begun-meaning (h .begins) (h .done)) (h .then)
+    (λ s u. rw (getD-replicate session-count s closed closed u) (false, λ kind. none, (refl, λ kind. refl)))
+    (table-begun (h .begins) (h .done)) (begun-meaning (h .begins) (h .done)) (h .then)
 
 -- the same of the six functions that C calls: of those of their calls that are made; the others leave the output as it was
 pub on-the-wire-of-the-exports : {t t′ : List ℕ} {ps : List Export} → ExportHistory t ps t′

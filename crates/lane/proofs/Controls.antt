@@ -30,6 +30,9 @@ form-else zero h g = absurd (h refl)
 form-else (suc zero) h g = absurd (g refl)
 form-else (suc (suc b)) h g = refl
 
+byte-of : (l : List ℕ) (n : ℕ) {bs : List ℕ} → take n l ≡ bs → (i : ℕ) → i < n → getD l i 0 ≡ getD bs i 0
+byte-of l n e i h = sym (getD-take n l i 0 h) ∙ ap (λ (z : List ℕ). getD z i 0) e
+
 -- ==== stored: three bytes, and the revision
 
 whole : (v : ℕ) → v < 2 ^ 64 → little (in-bytes 8 v) ≡ v
@@ -61,7 +64,7 @@ module _ (kind : ℕ) (l : List ℕ) (x : Subscription) (f : ℕ) (size : length
       ∙ stored-same 0 3 l bytes refl (omega arith)
 
   byte : (i : ℕ) → i < 3 → getD stored i 0 ≡ getD bytes i 0
-  byte i h = sym (getD-take 3 stored i 0 h) ∙ ap (λ (z : List ℕ). getD z i 0) there
+  byte i h = byte-of stored 3 there i h
 
   pub stores : Stored kind x l stored
   unfolding control-of lane-formed
@@ -108,8 +111,7 @@ cleared kind l size =
     let zeros : List ℕ = replicate 8 0 in
     let l′ = sets l 0 zeros in
     let there : take 8 l′ ≡ zeros = stored-same 0 8 l zeros refl (omega arith) in
-    let byte : (i : ℕ) → i < 8 → getD l′ i 0 ≡ getD zeros i 0 =
-    λ i h. sym (getD-take 8 l′ i 0 h) ∙ ap (λ (z : List ℕ). getD z i 0) there in
+    let byte = byte-of l′ 8 there in
     record {
       lane = record {
         size = length-sets l 0 zeros ∙ size;

@@ -1,11 +1,11 @@
 -- A deed to a subscription by value is the model's, whatever notices it holds: which of them are held after it, and whether the first
 -- of those is sent.
 use mathlib.Core.Path.{_≡_, refl, sym}
-use Prim.Native.Nat.{ℕ, _-_, _≤_, _<_, zero-le}
+use Prim.Native.Nat.{ℕ, _≤_, _<_, zero-le}
 use native.Mathlib.Omega.{arith}
-use mathlib.Core.Bool.{Bool, true, false, cond, true≢false}
+use mathlib.Core.Bool.{Bool, true, false, true≢false}
 use mathlib.Core.List.{List, [], _∷_}
-use lib.Dec.{eqb, ltb}
+use lib.Dec.{eqb}
 use lib.ListN.{length, take}
 use lib.Seq.{take-length}
 use borrow.Author.Tests.{eqb-false, ltb-true}
@@ -15,8 +15,9 @@ use Rattle.model.specs.Kinds.{Room}
 use Rattle.model.specs.Notices.{act}
 use Rattle.model.specs.Notices as model
 use Rattle.session.specs.Meaning.{subscription-in, Holds, Stepped, shifted, sent, held-asked, deed-of}
-use Rattle.session.specs.Control.{step, still, holding, next-goes-out, by-beat, beat-at, ticked, acknowledged, ticked-from}
+use Rattle.session.specs.Control.{still, next-goes-out, by-beat, beat-at, ticked, acknowledged, ticked-from}
 use Rattle.session.specs.Control.{acknowledged-from, subscribed-from, dealt}
+use Rattle.session.proofs.Tests.{chosen}
 use Rattle.session.proofs.Notices.{tick-right, acknowledge-right, subscribe-right}
 use Rattle.session.specs.declared.Form.{Form}
 use Rattle.session.specs.declared.Form.the-variants.{Not, Plain, Acknowledged}
@@ -39,46 +40,33 @@ still-feasible held x = record { gone = λ e. absurd (true≢false (sym e)); one
 
 module _ (x : Subscription) where
   next-feasible : Feasible (x .held) (next-goes-out x)
-  next-feasible = go (eqb (x .held) 0) refl
-    where
-      go : (b : Bool) → eqb (x .held) 0 ≡ b
-          → Feasible (x .held) (cond b (still x) (step (holding x 0 (x .held - 1)) true (ltb 1 (x .held))))
-      go true e = still-feasible (x .held) x
-      go false e =
-          let h = eqb-false (x .held) 0 e in
-          record { gone = λ p. omega (arith, h); one = λ p. let q = ltb-true 1 (x .held) p in omega arith }
+  next-feasible =
+      chosen (Feasible (x .held)) (eqb (x .held) 0) (λ e. still-feasible (x .held) x) (λ e.
+      let h = eqb-false (x .held) 0 e in
+      record { gone = λ p. omega (arith, h); one = λ p. let q = ltb-true 1 (x .held) p in omega arith })
 
   beat-feasible : (b : Beat) → 0 < x .held → Feasible (x .held) (by-beat x b)
   beat-feasible (Runs clock) h = record { gone = λ e. h; one = λ e. h }
   beat-feasible (Copy clock) h = record { gone = λ e. h; one = λ e. h }
   beat-feasible GivenUp h = next-feasible
 
-  tick-feasible : Feasible (x .held) (ticked x)
-  unfolding ticked
-  tick-feasible = by-form (x .form)
-    where
-      go : (b : Bool) → eqb (x .held) 0 ≡ b → Feasible (x .held) (cond b (still x) (by-beat x (beat-at (x .clock))))
-      go true e = still-feasible (x .held) x
-      go false e = let h = eqb-false (x .held) 0 e in beat-feasible (beat-at (x .clock)) (omega (arith, h))
+  tick-feasible : (f : Form) → Feasible (x .held) (ticked-from f x)
+  tick-feasible Not = still-feasible (x .held) x
+  tick-feasible Plain = still-feasible (x .held) x
+  tick-feasible Acknowledged =
+      chosen (Feasible (x .held)) (eqb (x .held) 0) (λ e. still-feasible (x .held) x)
+      (λ e. beat-feasible (beat-at (x .clock)) (omega (arith, eqb-false (x .held) 0 e)))
 
-      by-form : (f : Form) → Feasible (x .held) (ticked-from f x)
-      by-form Not = still-feasible (x .held) x
-      by-form Plain = still-feasible (x .held) x
-      by-form Acknowledged = go (eqb (x .held) 0) refl
-
-  acknowledge-feasible : Feasible (x .held) (acknowledged x)
-  unfolding acknowledged
-  acknowledge-feasible = by-form (x .form)
-    where
-      by-form : (f : Form) → Feasible (x .held) (acknowledged-from f x)
-      by-form Not = still-feasible (x .held) x
-      by-form Plain = still-feasible (x .held) x
-      by-form Acknowledged = next-feasible
+  acknowledge-feasible : (f : Form) → Feasible (x .held) (acknowledged-from f x)
+  acknowledge-feasible Not = still-feasible (x .held) x
+  acknowledge-feasible Plain = still-feasible (x .held) x
+  acknowledge-feasible Acknowledged = next-feasible
 
   pub feasible : (d : Deed) → Feasible (x .held) (dealt x d)
+  unfolding ticked acknowledged
   feasible Nothing = still-feasible (x .held) x
-  feasible Beats = tick-feasible
-  feasible Acks = acknowledge-feasible
+  feasible Beats = tick-feasible (x .form)
+  feasible Acks = acknowledge-feasible (x .form)
   feasible (Asks revision b) = still-feasible (x .held) _
   feasible Drops = still-feasible (x .held) _
 
@@ -108,17 +96,14 @@ module _ {room : Room} where
   goes x ns h Drops = record { acts = refl; clock = omega arith; few = zero-le }
   goes x ns h (Asks revision b) =
       let s = subscribe-right room revision b x ns h in
-      record { acts = rw (asked (x .form)) (s .acts); clock = s .holds .clock; few = fewer (x .form) }
+      let a = asked (x .form) in
+      record { acts = rw (a .0) (s .acts); clock = s .holds .clock; few = a .1 }
     where
-      asked : (f : Form) → take (subscribed-from f x revision b .held) ns ≡ held-asked f ns
-      asked Not = refl
-      asked Plain = rw (h .held) (take-length ns)
-      asked Acknowledged = rw (h .held) (take-length ns)
-
-      fewer : (f : Form) → subscribed-from f x revision b .held ≤ length ns
-      fewer Not = zero-le
-      fewer Plain = let e = h .held in omega arith
-      fewer Acknowledged = let e = h .held in omega arith
+      asked : (f : Form) → (take (subscribed-from f x revision b .held) ns ≡ held-asked f ns)
+          × (subscribed-from f x revision b .held ≤ length ns)
+      asked Not = (refl, zero-le)
+      asked Plain = let e = h .held in (rw e (take-length ns), omega arith)
+      asked Acknowledged = let e = h .held in (rw e (take-length ns), omega arith)
 
 -- ==== counting
 

@@ -4,7 +4,7 @@ use Prim.Native.Nat.{ℕ, _+_, _*_, _≤_, _<_, zero-le}
 use native.Mathlib.Nat.{mul-le-mul-right, suc-mul}
 use native.Mathlib.Numerals.{add-one}
 use native.Mathlib.Omega.{arith}
-use mathlib.Core.Bool.{Bool, true, false, cond, true≢false}
+use mathlib.Core.Bool.{false, true≢false}
 use mathlib.Core.List.{List, [], _∷_, _++_}
 use lib.Dec.{eqb, leb}
 use lib.ListN.{length, take, drop, length-append, length-drop}
@@ -19,7 +19,8 @@ use Rattle.text.proofs.Lists.{drop-sets}
 use Rattle.text.proofs.Cells.{cells-push}
 use Rattle.frame.specs.Places.{place-size}
 use Rattle.session.specs.Meaning.{subscription-in, Took, kept, told, is-taken, place-of}
-use Rattle.session.specs.Control.{taken, taken-busy, take-from, holding}
+use Rattle.session.specs.Control.{taken, taken-busy, take-from}
+use Rattle.session.proofs.Tests.{chosen}
 use Rattle.session.proofs.Notices.{take-right}
 use Rattle.session.specs.declared.Form.{Form}
 use Rattle.session.specs.declared.Form.the-variants.{Not, Plain, Acknowledged}
@@ -63,18 +64,13 @@ module _ (read : List ℕ → Notice) (kind : ℕ) (t : Take) (p : List ℕ) (x 
   abbrev held : ℕ
   held = control-of l .held
 
-  pub keeps-not : t ≡ take.Not → Keeps read kind t p x l l
-  keeps-not e = rw e record {
-    control = k .same (ap is-held e);
+  -- it is not held
+  pub keeps-same : {z : Take} → t ≡ z → is-held z ≡ false → kept z (read p) (notices-in read kind held l) ≡ notices-in read kind held l
+      → Keeps read kind t p x l l
+  keeps-same e unheld same = rw e record {
+    control = k .same (rw e unheld);
     lane = k .lane;
-    notices = ap (λ (n : ℕ). notices-in read kind n l) (held-length read kind held l);
-  }
-
-  pub keeps-once : t ≡ take.Once → Keeps read kind t p x l l
-  keeps-once e = rw e record {
-    control = k .same (ap is-held e);
-    lane = k .lane;
-    notices = ap (λ (n : ℕ). notices-in read kind n l) (held-length read kind held l);
+    notices = rw (same, held-length read kind held l);
   }
 
   module _ (l′ : List ℕ) where
@@ -90,56 +86,27 @@ module _ (read : List ℕ → Notice) (kind : ℕ) (t : Take) (p : List ℕ) (x 
         length-append (notices-in read kind i l) (read p ∷ []) ∙ ap (λ (m : ℕ). m + 1) (held-length read kind i l) in
         rw e record { control = q .control; lane = q .lane; notices = rw (pre, n) (q .notices read) }
 
--- the place is one of those held, or the one behind them
-busy-place : (r : Room) (x : Subscription) → 0 < x .held → place-of ((taken-busy r x) .take) ≤ x .held
-busy-place the-newest x h = h
-busy-place (up-to m) x h = go (leb m (x .held))
-  where
-    go : (b : Bool) → place-of
-        ((cond {A = Taken} b (record { take = take.Not; next = x })
-        (record { take = take.Waits (x .held); next = holding x (x .clock) (x .held + 1) })) .take) ≤ x .held
-    go true = zero-le
-    go false = omega arith
+-- the place is one of those held, or the one behind them; and what is not held leaves the subscription as it was
+record Fair (x : Subscription) (t : Taken) : Type 0 where
+  there : place-of (t .take) ≤ x .held
+  same : is-held (t .take) ≡ false → x ≡ t .next
 
-pub place-held : (r : Room) (x : Subscription) → place-of ((taken r x) .take) ≤ x .held
+fair-busy : (r : Room) (x : Subscription) → 0 < x .held → Fair x (taken-busy r x)
+fair-busy the-newest x h = record { there = h; same = λ e. absurd (true≢false e) }
+fair-busy (up-to m) x h =
+    chosen (Fair x) (leb m (x .held)) (λ e. record { there = zero-le; same = λ q. refl })
+    (λ e. record { there = omega arith; same = λ q. absurd (true≢false q) })
+
+fair : (r : Room) (x : Subscription) → Fair x (taken r x)
 unfolding taken
-place-held r x = by-form (x .form)
+fair r x = by-form (x .form)
   where
-    go : (b : Bool) → eqb (x .held) 0 ≡ b
-        → place-of ((cond {A = Taken} b (record { take = take.Opens; next = holding x 0 1 }) (taken-busy r x)) .take) ≤ x .held
-    go true e = zero-le
-    go false e = let h = eqb-false (x .held) 0 e in busy-place r x (omega (arith, h))
-
-    by-form : (f : Form) → place-of ((take-from f x (taken-busy r x)) .take) ≤ x .held
-    by-form Not = zero-le
-    by-form Plain = zero-le
-    by-form Acknowledged = go (eqb (x .held) 0) refl
-
--- what is not held leaves the subscription as it was
-abbrev Same : Subscription → Taken → Type 0
-Same x t = is-held (t .take) ≡ false → x ≡ t .next
-
-busy-same : (r : Room) (x : Subscription) → Same x (taken-busy r x)
-busy-same the-newest x e = absurd (true≢false e)
-busy-same (up-to m) x e = go (leb m (x .held)) e
-  where
-    go : (b : Bool) → Same x (cond {A = Taken} b (record { take = take.Not; next = x })
-        (record { take = take.Waits (x .held); next = holding x (x .clock) (x .held + 1) }))
-    go true e = refl
-    go false e = absurd (true≢false e)
-
-pub same-unheld : (r : Room) (x : Subscription) → Same x (taken r x)
-unfolding taken
-same-unheld r x = by-form (x .form)
-  where
-    go : (b : Bool) → Same x (cond {A = Taken} b (record { take = take.Opens; next = holding x 0 1 }) (taken-busy r x))
-    go true e = absurd (true≢false e)
-    go false e = busy-same r x e
-
-    by-form : (f : Form) → Same x (take-from f x (taken-busy r x))
-    by-form Not e = refl
-    by-form Plain e = refl
-    by-form Acknowledged e = go (eqb (x .held) 0) e
+    by-form : (f : Form) → Fair x (take-from f x (taken-busy r x))
+    by-form Not = record { there = zero-le; same = λ e. refl }
+    by-form Plain = record { there = zero-le; same = λ e. refl }
+    by-form Acknowledged =
+        chosen (Fair x) (eqb (x .held) 0) (λ e. record { there = zero-le; same = λ q. absurd (true≢false q) })
+        (λ e. fair-busy r x (omega (arith, eqb-false (x .held) 0 e)))
 
 -- ==== the whole event
 
@@ -175,7 +142,7 @@ module _ (read : List ℕ → Notice) (kind : ℕ) (l p : List ℕ) (given : Tak
   pub takes-place : Keeping kind (t .take) p (t .next) l
   takes-place = record {
     lane = given .lane;
-    there = place-held (room-of kind) x;
+    there = fair (room-of kind) x .there;
     push = record {
       known = given .known;
       size = given .lane .size;
@@ -183,7 +150,7 @@ module _ (read : List ℕ → Notice) (kind : ℕ) (l p : List ℕ) (given : Tak
       place = given .place;
       control = takes-storable;
     };
-    same = same-unheld (room-of kind) x;
+    same = fair (room-of kind) x .same;
   }
 
   pub takes-so : (l′ : List ℕ) → Keeps read kind (t .take) p (t .next) l l′

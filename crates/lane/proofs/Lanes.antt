@@ -86,8 +86,8 @@ module _ (kind held : ℕ) (b : Bool) (l : List ℕ) (s : Shifting kind held b l
   not-shifted e = rw e record { size = s .size; notices = λ read. refl }
 
   module _ (e : b ≡ true) where
-    pub waiting : control-size + place-size kind + (held - 1) * place-size kind ≤ length l
-    waiting = rw (s .size) (waiting-fit kind held (s .few) (s .one e))
+    pub waiting : (size : ℕ) → size ≡ place-size kind → control-size + size + (held - 1) * size ≤ length l
+    waiting size z = rw (z, s .size) (waiting-fit kind held (s .few) (s .one e))
 
     pub is-shifted : (size : ℕ) → size ≡ place-size kind → Shifts kind held b l (down size ((held - 1) * size) l)
     is-shifted size z =

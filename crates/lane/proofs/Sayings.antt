@@ -2,7 +2,7 @@
 -- and the byte 12 that the control tells. What is sent is such a copy, and of the lane as it is afterwards.
 use mathlib.Core.Path.{_≡_, refl, sym, ap}
 use Prim.Native.Nat.{ℕ, zero, suc, _%_}
-use mathlib.Core.Bool.{Bool, true, false, cond, true≢false}
+use mathlib.Core.Bool.{Bool, true, cond, true≢false}
 use mathlib.Core.List.{List, [], _∷_}
 use lib.Dec.{eqb}
 use lib.ListN.{drop}
@@ -16,6 +16,7 @@ use Rattle.model.specs.Notices.{asks, drops, acks, act, next-one}
 use Rattle.model.specs.Session.{Copy, frame-to, copies-to}
 use Rattle.text.specs.Cells.{cells}
 use Rattle.session.specs.Meaning.{subscription-as, deed-of}
+use Rattle.session.proofs.Tests.{chosen}
 use Rattle.session.specs.declared.Form.{Form}
 use Rattle.session.specs.declared.Form.the-variants.{Not, Plain, Acknowledged}
 use Rattle.session.specs.declared.Deed as by-value
@@ -112,13 +113,11 @@ after r acks (acked revision (busy n clock waiting)) q = next revision clock n w
 after r beats unsubscribed q = silent _ _
 after r beats (plain revision) q = silent _ _
 after r beats (acked revision empty) q = silent _ _
-after r beats (acked revision (busy n clock waiting)) q = go (eqb (suc clock) given-up-at) (eqb (suc clock % copy-every) 0)
-  where
-    go : (over due : Bool) → After (acked revision (busy n clock waiting))
-        (cond over (next-one revision waiting) (acked revision (busy n (suc clock) waiting), cond due (n ∷ []) []))
-    go true due = next revision clock n waiting
-    go false true = record { copies = λ st. refl; there = λ e. refl }
-    go false false = silent _ _
+after r beats (acked revision (busy n clock waiting)) q =
+    let So = After (acked revision (busy n clock waiting)) in
+    chosen So (eqb (suc clock) given-up-at) (λ e. next revision clock n waiting) (λ e.
+    chosen (λ ns. So (acked revision (busy n (suc clock) waiting), ns)) (eqb (suc clock % copy-every) 0)
+    (λ f. record { copies = λ st. refl; there = λ p. refl }) (λ f. silent _ _))
 
 -- an event, where it is sent, goes to one that is subscribed so afterwards
 pub record Told (x : Subscription) (n : Notice) (r : Subscription × List Notice) : Type 0 where
@@ -130,5 +129,3 @@ told r n unsubscribed = record { copies = λ st. refl; there = λ e. absurd (tru
 told r n (plain revision) = record { copies = λ st. refl; there = λ e. refl }
 told r n (acked revision empty) = record { copies = λ st. refl; there = λ e. refl }
 told r n (acked revision (busy m clock waiting)) = record { copies = λ st. refl; there = λ e. refl }
-
--- ==== a lane that changed: what the model sends is said of the lane as it is afterwards

@@ -3,76 +3,28 @@
 use Prim.Native.Nat.{ℕ, zero, suc, _<_}
 use mathlib.Core.Path.{_≡_, refl, sym, _∙_, ap, ap₂, subst}
 use mathlib.Core.Bool.{Bool, true, false, cond, true≢false}
-use mathlib.Core.List.{List, [], _∷_, _++_, append-nil}
+use mathlib.Core.List.{List, [], _∷_, append-nil}
 use mathlib.Core.Option.{Option, none, some, Option·map as option-map}
-use native.Mathlib.Omega.{arith}
 use lib.Dec.{eqb}
-use lib.ListN.{length}
 use borrow.Author.Tests.{eqb-true}
 use Rattle.model.specs.Limits.{session-count}
 use Rattle.model.specs.Records.{Settings, read-tool}
 use Rattle.model.specs.Runs.{cut}
 use Rattle.model.specs.Events.{Event, kind-of}
 use Rattle.model.specs.Sharing.{Shared, reported}
-use Rattle.model.specs.Session.{Session, closed, Emission}
-use Rattle.model.specs.Local.{Local, opening, hang-up, receives, elsewhere, takes, step as session-step}
+use Rattle.model.specs.Session.{Session, Emission}
+use Rattle.model.specs.Local.{Local, opening, hang-up, receives, takes}
 use Rattle.model.specs.Row.{Tagged, pick}
-use Rattle.model.specs.World.{World, session-at, begun, Change, no-change, Moment, to, happens, each, changed, next, emits, after}
-use Rattle.model.specs.World.{emitted}
+use Rattle.model.specs.World.{World, session-at, begun, by-event, Moment, to, happens, changed, next, emits, after, emitted}
 use Rattle.model.specs.Calls.{Call, start, open-session, hang-up-session, bytes, one-tick, tool, Lent, Conduct, does, refusal}
 use Rattle.model.specs.Calls.{happening, moments, taken-by, in-sum, Answer, answered, step}
 use Rattle.model.specs.Sights.{sight}
-use Rattle.model.specs.Own.{Glance, its-call, its-news, made-known, glance, Learned, told-to, if-seen, view-of, told-in, world-after}
-use Rattle.model.specs.Own.{Ample, AllAmple, ample, glanced, folded, world-folded, SameFor}
-use Rattle.model.proofs.RowLaws.{pick-append, length-row}
-use Rattle.model.proofs.Sessions.{session-next, session-emits}
+use Rattle.model.specs.Own.{Glance, its-call, made-known, glance, Learned, told-to, if-seen, view-of, told-in, world-after}
+use Rattle.model.specs.Own.{seen-of, lived, Ample, AllAmple, ample, glanced, folded, world-folded, SameFor}
+use Rattle.model.proofs.Lived.{length-after, lives}
 use Rattle.model.proofs.Takers.{in-none, in-takers}
 
 module _ (s : ℕ) where
-  -- ==== moments, in two worlds that are the same for it
-
-  module _ {w v : World} (r : SameFor s w v) where
-    same-step : (m : Moment) → each w m s (session-at w s) ≡ each v m s (session-at v s)
-    same-step m = ap₂ (λ (g : Shared) (x : Session). session-step g (m .sees s) x) (r .shared) (r .session)
-
-    same-next : (m : Moment) → SameFor s (next w m) (next v m)
-    same-next m = record {
-      shared = ap (λ (g : Shared). changed g (m .leaves)) (r .shared);
-      session = session-next w s (r .here) m
-          ∙ ap (λ (p : Session × List Emission). p .0) (same-step m) ∙ sym (session-next v s (r .there) m);
-      here = rw (length-row (each w m) 0 (w .sessions)) (r .here);
-      there = rw (length-row (each v m) 0 (v .sessions)) (r .there);
-    }
-
-    same-emits : (m : Moment) → pick s (emits w m) ≡ pick s (emits v m)
-    same-emits m =
-        session-emits w s (r .here) m
-        ∙ ap (λ (p : Session × List Emission). p .1) (same-step m) ∙ sym (session-emits v s (r .there) m)
-
-    -- one that it does not see
-    unseen-next : (t : ℕ) (l : Local) → eqb s t ≡ false → SameFor s (next w (to t l)) v
-    unseen-next t l e = record {
-      shared = r .shared;
-      session = session-next w s (r .here) (to t l) ∙ rw e (r .session);
-      here = rw (length-row (each w (to t l)) 0 (w .sessions)) (r .here);
-      there = r .there;
-    }
-
-    unseen-emits : (t : ℕ) (l : Local) → eqb s t ≡ false → pick s (emits w (to t l)) ≡ []
-    unseen-emits t l e = session-emits w s (r .here) (to t l) ∙ rw e
-
-  same-after : {w v : World} (ms : List Moment) → SameFor s w v → SameFor s (after w ms) (after v ms)
-  same-after [] r = r
-  same-after (m ∷ ms) r = same-after ms (same-next r m)
-
-  same-emitted : {w v : World} (ms : List Moment) → SameFor s w v → pick s (emitted w ms) ≡ pick s (emitted v ms)
-  same-emitted [] r = refl
-  same-emitted {w} {v} (m ∷ ms) r =
-      pick-append s (emits w m) (emitted (next w m) ms)
-      ∙ ap₂ _++_ (same-emits r m) (same-emitted ms (same-next r m)) ∙ sym (pick-append s (emits v m) (emitted (next v m) ms))
-
-  -- ==== a call that is for it
-
   -- what a call does in either world, as far as it goes for s
   record Like (d e : Conduct) : Type 0 where
     asks : d .asks ≡ e .asks
@@ -80,7 +32,42 @@ module _ (s : ℕ) where
     event : d .event ≡ e .event
     took : in-sum s (d .taken) ≡ in-sum s (e .taken)
 
+  -- ==== moments, in two worlds that are the same for it
+
+  shared-after : (w v : World) (ms : List Moment) → w .shared ≡ v .shared → (after w ms) .shared ≡ (after v ms) .shared
+  shared-after w v [] e = e
+  shared-after w v (m ∷ ms) e = shared-after (next w m) (next v m) ms (ap (λ (g : Shared). changed g (m .leaves)) e)
+
   module _ {w v : World} (r : SameFor s w v) where
+    -- what it lives by moments in either: its state, and what goes out to it
+    same-lived : (ms ns : List Moment) → (after w ms) .shared ≡ (after v ns) .shared
+        → lived (v .shared) (session-at v s) (seen-of s ms) ≡ lived (v .shared) (session-at v s) (seen-of s ns)
+        → SameFor s (after w ms) (after v ns) × (pick s (emitted w ms) ≡ pick s (emitted v ns))
+    same-lived ms ns g e =
+        let own = ap₂ (λ (g : Shared) (x : Session). lived g x (seen-of s ms)) (r .shared) (r .session) in
+        let q = lives s w (r .here) ms ∙ own ∙ e ∙ sym (lives s v (r .there) ns) in (
+          record {
+            shared = g;
+            session = ap (λ (p : Session × List Emission). p .0) q;
+            here = rw (length-after w ms) (r .here);
+            there = rw (length-after v ns) (r .there);
+          },
+          ap (λ (p : Session × List Emission). p .1) q,
+        )
+
+    same-after : (ms : List Moment) → SameFor s (after w ms) (after v ms) × (pick s (emitted w ms) ≡ pick s (emitted v ms))
+    same-after ms = same-lived ms ms (shared-after w v ms (r .shared)) refl
+
+    -- one that it does not see, and the event behind it
+    unseen-first : (t : ℕ) (l : Local) (o : Option Event) → eqb s t ≡ false
+        → SameFor s (after w (to t l ∷ happening o)) (after v (happening o))
+        × (pick s (emitted w (to t l ∷ happening o)) ≡ pick s (emitted v (happening o)))
+    unseen-first t l none e = same-lived (to t l ∷ []) [] (r .shared) (rw e)
+    unseen-first t l (some x) e =
+        same-lived (to t l ∷ happens x ∷ []) (happens x ∷ []) (ap (λ (g : Shared). changed g (by-event x)) (r .shared)) (rw e)
+
+    -- ==== a call that is for it
+
     session-same : (t : ℕ) → eqb s t ≡ true → session-at w t ≡ session-at v t
     session-same t e = subst (λ (n : ℕ). session-at w n ≡ session-at v n) (eqb-true s t e) (r .session)
 
@@ -110,10 +97,11 @@ module _ (s : ℕ) where
     answered-same : (c : Call) (n : ℕ) → Like (does w c) (does v c)
         → SameFor s ((answered w c n) .0) ((answered v c n) .0) × (told-to s (answered w c n) ≡ told-to s (answered v c n))
     answered-same c zero k =
+        let a = same-after (moments w c) in
         let e : moments w c ≡ moments v c = rw (k .moment, k .event) in (
-          subst (λ (ms : List Moment). SameFor s (after w (moments w c)) (after v ms)) e (same-after (moments w c) r),
+          subst (λ (ms : List Moment). SameFor s (after w (moments w c)) (after v ms)) e (a .0),
           ap₂ {C = Learned} (λ (es : List Emission) (b : Bool). record { number = 0; sent = es; took = b })
-              (same-emitted (moments w c) r ∙ ap (λ (ms : List Moment). pick s (emitted v ms)) e) (k .took),
+              (a .1 ∙ ap (λ (ms : List Moment). pick s (emitted v ms)) e) (k .took),
         )
     answered-same c (suc n) k = (r, refl)
 
@@ -139,19 +127,12 @@ module _ (s : ℕ) where
             record { number = 0; consumed = consumed; written = written; taken = 0 },
             emitted w (to t l ∷ happening o),
           )
-      after-other none written = (
-        unseen-next r t l e,
-        pick-append s (emits w (to t l)) [] ∙ ap (_++ []) (unseen-emits r t l e),
-        in-none s,
-      )
+      after-other none written = let u = unseen-first t l none e in (u .0, u .1, in-none s)
       after-other (some x) written =
-          let q = unseen-next r t l e in (
-            same-next q (happens x),
+          let u = unseen-first t l (some x) e in (
+            u .0,
             ap₂ {C = Learned} (λ (es : List Emission) (b : Bool). record { number = 0; sent = es; took = b })
-                (pick-append s (emits w (to t l)) (emitted (next w (to t l)) (happening (some x)))
-                ∙ ap₂ _++_ (unseen-emits r t l e)
-                (same-emitted (happening (some x)) q ∙ ap (pick s) (append-nil (emits v (happens x)))))
-                (in-none s),
+                (u .1 ∙ ap (pick s) (append-nil (emits v (happens x)))) (in-none s),
           )
 
     other-answered : (c : Call) (n : ℕ) → (sight s c) .own ≡ false → Fits (made-known n ((does w c) .event)) (answered w c n)
@@ -175,37 +156,33 @@ module _ (s : ℕ) where
 
   -- ==== histories
 
-  -- WHAT SESSION s IS TOLD is a fold over its view-of, from any world that is the same for it
+  -- what it is told is a fold over its view-of, from any world that is the same for it, and so is its state
+  same-history : (w v : World) (cs : List (Lent × Call)) → SameFor s w v → AllAmple cs
+      → (told-in s w cs ≡ folded s v (view-of s w cs)) × SameFor s (world-after w cs) (world-folded s v (view-of s w cs))
+  same-history w v [] r h = (refl, r)
+  same-history w v (c ∷ cs) r h =
+      go (glance s (c .0) w (c .1)) (fits r (c .0) (c .1) (h .0)) (λ z k. same-history ((step (c .0) w (c .1)) .0) z cs k (h .1))
+    where
+      u : World
+      u = (step (c .0) w (c .1)) .0
+
+      go : (o : Option Glance) → Fits r o (step (c .0) w (c .1))
+          → ((z : World) → SameFor s u z
+          → (told-in s u cs ≡ folded s z (view-of s u cs)) × SameFor s (world-after u cs) (world-folded s z (view-of s u cs)))
+          → (if-seen o (λ x. told-to s (step (c .0) w (c .1))) (told-in s u cs) ≡ folded s v (if-seen o (λ x. x) (view-of s u cs)))
+          × SameFor s (world-after u cs) (world-folded s v (if-seen o (λ x. x) (view-of s u cs)))
+      go none f ih = ih v (f .0)
+      go (some x) f ih = let k = ih ((glanced s v x) .0) (f .0) in (ap₂ _∷_ (f .1) (k .0), k .1)
+
+  -- WHAT SESSION s IS TOLD
   pub told-same : (w v : World) (cs : List (Lent × Call)) → SameFor s w v → AllAmple cs
       → told-in s w cs ≡ folded s v (view-of s w cs)
-  told-same w v [] r h = refl
-  told-same w v (c ∷ cs) r h =
-      go (glance s (c .0) w (c .1)) (fits r (c .0) (c .1) (h .0)) (λ z k. told-same ((step (c .0) w (c .1)) .0) z cs k (h .1))
-    where
-      u : World
-      u = (step (c .0) w (c .1)) .0
+  told-same w v cs r h = same-history w v cs r h .0
 
-      go : (o : Option Glance) → Fits r o (step (c .0) w (c .1))
-          → ((z : World) → SameFor s u z → told-in s u cs ≡ folded s z (view-of s u cs))
-          → if-seen o (λ x. told-to s (step (c .0) w (c .1))) (told-in s u cs) ≡ folded s v (if-seen o (λ x. x) (view-of s u cs))
-      go none f ih = ih v (f .0)
-      go (some x) f ih = ap₂ _∷_ (f .1) (ih ((glanced s v x) .0) (f .0))
-
-  -- and so is its STATE, with what all share
+  -- and its STATE, with what all share
   pub state-same : (w v : World) (cs : List (Lent × Call)) → SameFor s w v → AllAmple cs
       → SameFor s (world-after w cs) (world-folded s v (view-of s w cs))
-  state-same w v [] r h = r
-  state-same w v (c ∷ cs) r h =
-      go (glance s (c .0) w (c .1)) (fits r (c .0) (c .1) (h .0)) (λ z k. state-same ((step (c .0) w (c .1)) .0) z cs k (h .1))
-    where
-      u : World
-      u = (step (c .0) w (c .1)) .0
-
-      go : (o : Option Glance) → Fits r o (step (c .0) w (c .1))
-          → ((z : World) → SameFor s u z → SameFor s (world-after u cs) (world-folded s z (view-of s u cs)))
-          → SameFor s (world-after u cs) (world-folded s v (if-seen o (λ x. x) (view-of s u cs)))
-      go none f ih = ih v (f .0)
-      go (some x) f ih = ih ((glanced s v x) .0) (f .0)
+  state-same w v cs r h = same-history w v cs r h .1
 
   -- of a call that it does not see it is told nothing
   pub unseen : {w : World} → SameFor s w w → (l : Lent) (c : Call) → Ample l → glance s l w c ≡ none

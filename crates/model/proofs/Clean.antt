@@ -1,4 +1,5 @@
--- Clean texts: whatever a start or a tool record brings in was tested, and a run is cut at its NUL, so that nothing of it has one.
+-- Clean texts: whatever a start or a tool record brings in was tested, so that its values are within their items, and a run is cut at its
+-- NUL, so that nothing of it has one.
 use Prim.Native.Nat.{ℕ, suc, _+_, _≤_, _<_}
 use mathlib.Core.Path.{_≡_, refl, sym, _∙_, subst}
 use mathlib.Core.Bool.{Bool, true, false, cond, not, _&&_, _||_}
@@ -8,24 +9,23 @@ use native.Mathlib.Omega.{arith}
 use lib.Dec.{leb, ltb, eqb}
 use lib.ListN.{length, take, drop, length-take, length-drop}
 use lib.Seq.{take-all, take-take, length-take-le}
-use borrow.Author.Tests.{leb-true, ltb-true, eqb-true, eqb-false}
-use Rattle.model.specs.Limits.{header-length, identifier-length, number-greatest, message-longest, run-kept}
-use Rattle.model.specs.Bytes.{NUL, dash, colon, is-digit, is-text, is-space, all, places, decimal}
-use Rattle.model.specs.Tests.{first}
-use Rattle.model.specs.Records.{is-record, payload, Item, number, text, time, item-length, payload-length, parts-from, parts}
-use Rattle.model.specs.Records.{good-in-time, is-time-from, good-item, good-parts, good-payload, good-record}
-use Rattle.model.specs.Records.{value-of, values-of, values}
-use Rattle.model.specs.Records.{settings-record-kind, tightening-record-kind, scanned-record-kind}
-use Rattle.model.specs.Records.{Settings, settings-items, settings-of, read-settings}
-use Rattle.model.specs.Records.{tightening-items, tightening-of, identifier-in, scanned-items, Tool, scanned, tightening, read-tool}
-use Rattle.model.specs.Runs.{Run, longer, Piece, cut, Message, is-flag, is-message, message-of, read-run}
+use borrow.Author.Tests.{leb-true, eqb-true, eqb-false, eq-eqb, not-false}
+use Rattle.model.specs.Limits.{header-length, identifier-length, number-greatest, run-kept}
+use Rattle.model.specs.Bytes.{NUL, dash, colon, is-digit, is-text, all, places, decimal}
+use Rattle.model.specs.Records.{is-record, payload, Item, number, text, time, item-length, payload-length, parts-from, good-in-time}
+use Rattle.model.specs.Records.{is-time-from, good-item, good-parts, good-payload, good-record, value-of, values-of, values}
+use Rattle.model.specs.Records.{settings-record-kind, tightening-record-kind, scanned-record-kind, settings-items, settings-of}
+use Rattle.model.specs.Records.{read-settings, tightening-items, tightening-of, identifier-in, scanned-items, Tool, scanned}
+use Rattle.model.specs.Records.{tightening, read-tool}
+use Rattle.model.specs.Runs.{Run, longer, cut, Message, is-message, message-of, read-run}
 use Rattle.model.specs.Messages.{Effect, starts, stops, identifies, subscribes, unsubscribes, acknowledges, mirrors, Entry, table}
 use Rattle.model.specs.Messages.{listed, entry-of, Error, already-started, wrong-length, wrong-revision, wrong-data, own, code}
 use Rattle.model.specs.Messages.{Standing, good-length, good-among, own-test, tested}
 use Rattle.model.specs.Wire.{Every, NoNUL, Framed}
-use Rattle.model.specs.FieldsRead.{all-within}
-use Rattle.model.proofs.Framed.{both, either, every-take, Shown, nul-append, nul-text, Fit, Text, Identifier, CleanSettings}
-use Rattle.model.proofs.Legible.{payload-within, reported-items, number-within}
+use Rattle.model.specs.FieldsRead.{is-within, all-within}
+use Rattle.model.proofs.Framed.{both, left, right, either, every-take, every-of, IfAny, Shown, nul-append, nul-text, Fit, Text}
+use Rattle.model.proofs.Framed.{Identifier, CleanSettings}
+use Rattle.model.proofs.Legible.{reported-items, number-within}
 
 -- ==== records: the texts of a good one
 
@@ -44,89 +44,83 @@ nul-time place (b ∷ bs) h =
     let k = both (good-in-time place b) (is-time-from (suc place) bs) h in
     (nul-in-time place b (k .0), nul-time (suc place) bs (k .1))
 
--- what a good payload says can stand in fields, if no item is longer
+-- what a good payload says is within its items, and can stand in fields, if no item is longer
 abbrev slim-item : Item → Bool
 slim-item e = leb (item-length e) identifier-length
 
-fit-value : (e : Item) (bs : List ℕ) → slim-item e ≡ true → good-item e bs ≡ true → length bs ≤ item-length e → Fit (value-of e bs)
-fit-value (number size greatest) bs s h k = tt
-fit-value (text size) bs s h k = record { no-NUL = nul-text bs h; short = omega (arith, leb-true size identifier-length s) }
-fit-value time bs s h k = record { no-NUL = nul-time 1 bs h; short = omega arith }
+good-value : (e : Item) (bs : List ℕ) → good-item e bs ≡ true → length bs ≡ item-length e
+    → (slim-item e ≡ true → Fit (value-of e bs)) × (is-within e (value-of e bs) ≡ true)
+good-value (number size greatest) bs h n = (λ s. tt, h)
+good-value (text size) bs h n =
+    (λ s. record { no-NUL = nul-text bs h; short = omega (arith, leb-true size identifier-length s) }, eq-eqb (length bs) size n)
+good-value time bs h n = (λ s. record { no-NUL = nul-time 1 bs h; short = omega arith }, eq-eqb (length bs) _ n)
 
-fit-parts : (es : List Item) (at : ℕ) (bs : List ℕ) → all slim-item es ≡ true → good-parts es (parts-from at es bs) ≡ true
-    → Every Fit (values-of es (parts-from at es bs))
-fit-parts [] at bs s h = tt
-fit-parts (e ∷ es) at bs s h =
+good-values : (es : List Item) (at : ℕ) (bs : List ℕ) → good-parts es (parts-from at es bs) ≡ true → at + payload-length es ≤ length bs
+    → (all slim-item es ≡ true → Every Fit (values-of es (parts-from at es bs)))
+    × (all-within es (values-of es (parts-from at es bs)) ≡ true)
+good-values [] at bs h n = (λ s. tt, refl)
+good-values (e ∷ es) at bs h n =
     let p = take (item-length e) (drop at bs) in
-    let t = both (slim-item e) (all slim-item es) s in
-    let g = both (good-item e p) _ h in (
-      fit-value e p (t .0) (g .0) (omega (arith, length-take (item-length e) (drop at bs))),
-      fit-parts es (at + item-length e) bs (t .1) (g .1),
-    )
+    let g = both (good-item e p) _ h in
+    let v = good-value e p (g .0) (omega (arith, length-take (item-length e) (drop at bs), length-drop at bs)) in
+    let vs = good-values es (at + item-length e) bs (g .1) (omega arith) in
+    (λ s. let t = both (slim-item e) (all slim-item es) s in (v .0 (t .0), vs .0 (t .1)), rw (v .1) (vs .1))
 
-fit-payload : (es : List Item) (bs : List ℕ) → all slim-item es ≡ true → good-payload es bs ≡ true → Every Fit (values es bs)
+payload-says : (es : List Item) (bs : List ℕ) → good-payload es bs ≡ true
+    → (all slim-item es ≡ true → Every Fit (values es bs)) × (all-within es (values es bs) ≡ true) × (length bs ≡ payload-length es)
 unfolding good-payload
-fit-payload es bs s h = fit-parts es 0 bs s (both (eqb (length bs) (payload-length es)) (good-parts es (parts es bs)) h .1)
+payload-says es bs h =
+    let g = both (eqb (length bs) (payload-length es)) _ h in
+    let e = eqb-true (length bs) (payload-length es) (g .0) in
+    let v = good-values es 0 bs (g .1) (omega arith) in
+    (v .0, v .1, e)
 
-good-of : (record-kind : ℕ) (es : List Item) (slice : List ℕ) → good-record record-kind es slice ≡ true
-    → good-payload es (payload slice) ≡ true
+pub payload-within : (es : List Item) (bs : List ℕ) → good-payload es bs ≡ true → all-within es (values es bs) ≡ true
+payload-within es bs h = payload-says es bs h .1
+
+good-said : (record-kind : ℕ) (es : List Item) (slice : List ℕ) → all slim-item es ≡ true → good-record record-kind es slice ≡ true
+    → Every Fit (values es (payload slice)) × (all-within es (values es (payload slice)) ≡ true)
+    × (length (payload slice) ≡ payload-length es)
 unfolding good-record
-good-of record-kind es slice h = both (is-record record-kind slice) (good-payload es (payload slice)) h .1
-
-abbrev pub CleanStart : Option Settings → Type 0
-CleanStart none = Unit {0}
-CleanStart (some st) = CleanSettings st
+good-said record-kind es slice s h =
+    let v = payload-says es (payload slice) (both (is-record record-kind slice) _ h .1) in (v .0 s, v .1, v .2)
 
 -- a start takes good settings only
-pub clean-start : (slice : List ℕ) → CleanStart (read-settings slice)
+pub clean-start : (slice : List ℕ) → IfAny CleanSettings (read-settings slice)
 unfolding read-settings settings-of
 clean-start slice = go (good-record settings-record-kind settings-items slice) refl
   where
-    go : (b : Bool) → good-record settings-record-kind settings-items slice ≡ b
-        → CleanStart (cond b (some (settings-of (payload slice))) none)
+    go : (b : Bool) → good-record settings-record-kind settings-items slice ≡ b → IfAny CleanSettings (read-settings slice)
     go true e =
-        let good = good-of settings-record-kind settings-items slice e in
-        let w = payload-within settings-items (payload slice) good in
-        record {
-          texts = fit-payload settings-items (payload slice) refl good;
-          within = w;
-          last = omega (arith, number-within (suc number-greatest) settings-items (values settings-items (payload slice)) 4 w refl);
+        let v = good-said settings-record-kind settings-items slice refl e in
+        rw e record {
+          texts = v .0;
+          within = v .1;
+          last = omega (arith, number-within (suc number-greatest) settings-items (values settings-items (payload slice)) 4 (v .1) refl);
         }
-    go false e = tt
+    go false e = rw e tt
 
-abbrev pub CleanTool : Option Tool → Type 0
-CleanTool none = Unit {0}
-CleanTool (some (scanned x)) = Identifier x
-CleanTool (some (tightening x t)) = Identifier x × Every Fit t × (all-within reported-items t ≡ true)
+abbrev pub CleanTool : Tool → Type 0
+CleanTool (scanned x) = Identifier x
+CleanTool (tightening x t) = Identifier x × Every Fit t × (all-within reported-items t ≡ true)
 
 -- and a tool record is good
-pub clean-tool : (slice : List ℕ) → CleanTool (read-tool slice)
-unfolding read-tool tightening-of good-payload
+pub clean-tool : (slice : List ℕ) → IfAny CleanTool (read-tool slice)
+unfolding read-tool tightening-of
 clean-tool slice =
     go (good-record tightening-record-kind tightening-items slice) (good-record scanned-record-kind scanned-items slice) refl refl
   where
     go : (a b : Bool) → good-record tightening-record-kind tightening-items slice ≡ a
-        → good-record scanned-record-kind scanned-items slice ≡ b
-        → CleanTool
-        (cond a (some (tightening (identifier-in (payload slice)) (tightening-of (payload slice))))
-        (cond b (some (scanned (payload slice))) none))
+        → good-record scanned-record-kind scanned-items slice ≡ b → IfAny CleanTool (read-tool slice)
     go true b e f =
-        let p = payload slice in
-        let g = good-of tightening-record-kind tightening-items slice e in
-        let fit = fit-payload tightening-items p refl g in
-        let n = length (identifier-in p) in
-        let w = both (eqb n identifier-length) (all-within reported-items (tightening-of p)) (payload-within tightening-items p g) in
-        (record { clean = fit .0; whole = eqb-true n identifier-length (w .0) }, fit .1, w .1)
+        let v = good-said tightening-record-kind tightening-items slice refl e in
+        let n = length (identifier-in (payload slice)) in
+        let w = both (eqb n identifier-length) (all-within reported-items (tightening-of (payload slice))) (v .1) in
+        rw e (record { clean = v .0 .0; whole = eqb-true n identifier-length (w .0) }, v .0 .1, w .1)
     go false true e f =
-        let g = good-of scanned-record-kind scanned-items slice f in
-        let good = good-parts scanned-items (parts scanned-items (payload slice)) in
-        let n = eqb-true (length (payload slice)) identifier-length (both (eqb (length (payload slice)) identifier-length) good g .0) in
-        record {
-          clean =
-              subst Text (take-all identifier-length (payload slice) (omega arith)) (fit-payload scanned-items (payload slice) refl g .0);
-          whole = n;
-        }
-    go false false e f = tt
+        let v = good-said scanned-record-kind scanned-items slice refl f in
+        rw (e, f) record { clean = subst Text (take-all identifier-length (payload slice) (omega arith)) (v .0 .0); whole = v .2 }
+    go false false e f = rw (e, f) tt
 
 -- ==== runs: a piece of bytes ends before its NUL, and so nothing that is kept has one
 
@@ -135,11 +129,9 @@ unfolding cut
 nul-cut [] = tt
 nul-cut (b ∷ bs) = go (eqb b NUL) refl (nul-cut bs)
   where
-    go : (t : Bool) → eqb b NUL ≡ t → NoNUL ((cut bs) .bytes)
-        → let more : Piece = record { bytes = b ∷ (cut bs) .bytes; ends = (cut bs) .ends } in
-        NoNUL ((cond {A = Piece} t (record { bytes = []; ends = true }) more) .bytes)
-    go true e h = tt
-    go false e h = (eqb-false b NUL e, h)
+    go : (t : Bool) → eqb b NUL ≡ t → NoNUL ((cut bs) .bytes) → NoNUL ((cut (b ∷ bs)) .bytes)
+    go true e h = rw e tt
+    go false e h = rw e (eqb-false b NUL e, h)
 
 abbrev pub CleanRun : Run → Type 0
 CleanRun r = NoNUL (r .kept)
@@ -148,29 +140,15 @@ pub clean-longer : (r : Run) (bs : List ℕ) → CleanRun r → NoNUL bs → Cle
 clean-longer r bs h k = every-take Shown run-kept (r .kept ++ bs) (nul-append (r .kept) bs h k)
 
 -- the number that four digits give, or fewer
-digit-most : (b : ℕ) (more : Bool) → (is-digit b && more) ≡ true → (b ≤ 0x39) × (more ≡ true)
-digit-most b more h =
-    let p = both (is-digit b) more h in
-    (leb-true b 0x39 (both (leb 0x30 b) (leb b 0x39) (p .0) .1), p .1)
+digit-most : (b : ℕ) → is-digit b ≡ true → b ≤ 0x39
+digit-most b h = leb-true b 0x39 (both (leb 0x30 b) (leb b 0x39) h .1)
 
 four-digits : (bs : List ℕ) → all is-digit (take 4 bs) ≡ true → decimal (take 4 bs) < 10_000
 four-digits [] h = omega arith
-four-digits (a ∷ []) h = let p = digit-most a (all is-digit []) h in omega arith
-four-digits (a ∷ b ∷ []) h =
-    let p = digit-most a (all is-digit (b ∷ [])) h in
-    let q = digit-most b (all is-digit []) (p .1) in
-    omega arith
-four-digits (a ∷ b ∷ c ∷ []) h =
-    let p = digit-most a (all is-digit (b ∷ c ∷ [])) h in
-    let q = digit-most b (all is-digit (c ∷ [])) (p .1) in
-    let r = digit-most c (all is-digit []) (q .1) in
-    omega arith
-four-digits (a ∷ b ∷ c ∷ d ∷ bs) h =
-    let p = digit-most a (all is-digit (b ∷ c ∷ d ∷ [])) h in
-    let q = digit-most b (all is-digit (c ∷ d ∷ [])) (p .1) in
-    let r = digit-most c (all is-digit (d ∷ [])) (q .1) in
-    let s = digit-most d (all is-digit []) (r .1) in
-    omega arith
+four-digits (a ∷ []) h = let k = every-of is-digit (a ∷ []) h in omega (arith, digit-most)
+four-digits (a ∷ b ∷ []) h = let k = every-of is-digit (a ∷ b ∷ []) h in omega (arith, digit-most)
+four-digits (a ∷ b ∷ c ∷ []) h = let k = every-of is-digit (a ∷ b ∷ c ∷ []) h in omega (arith, digit-most)
+four-digits (a ∷ b ∷ c ∷ d ∷ bs) h = let k = every-of is-digit (a ∷ b ∷ c ∷ d ∷ []) h in omega (arith, digit-most)
 
 -- the header of a message of 20 bytes is a frame, its data field is no longer than an identifier, and its number has four digits
 pub record CleanMessage (m : Message) : Type 0 where
@@ -178,44 +156,28 @@ pub record CleanMessage (m : Message) : Type 0 where
   pub short : length (m .data-field) ≤ identifier-length
   pub mid : m .mid < 10_000
 
-clean-message : (r : Run) → CleanRun r → length (r .kept) ≤ run-kept → is-message r ≡ true → CleanMessage (message-of r)
-clean-message r h short e =
-    let long = leb header-length (length (r .kept)) in
-    let most = leb (r .count) message-longest in
-    let length-digits = all is-digit (places 1 4 (r .kept)) in
-    let own-length = eqb (decimal (places 1 4 (r .kept))) (r .count) in
-    let mid = all is-digit (places 5 8 (r .kept)) in
-    let revision = all is-digit (places 9 11 (r .kept)) || all is-space (places 9 11 (r .kept)) in
-    let byte-12 = all is-flag (places 12 12 (r .kept)) in
-    let six = both (long && most && length-digits && own-length && mid && revision) byte-12 e .0 in
-    let five = both (long && most && length-digits && own-length && mid) revision six .0 in
-    let own = both (long && most && length-digits) own-length (both (long && most && length-digits && own-length) mid five .0) in
-    let digits = both (long && most) length-digits (own .0) in
-    let n = leb-true header-length (length (r .kept)) (both long most (digits .0) .0) in
-    let header-is = length-take-le header-length (r .kept) n in
-    record {
-      own = λ size. record {
-        no-NUL = every-take Shown header-length (r .kept) h;
-        has-header = omega arith;
-        in-digits = rw (take-take 4 20 (r .kept) (omega arith)) (digits .1);
-        own-length =
-            rw (take-take 4 20 (r .kept) (omega arith))
-            (eqb-true (decimal (places 1 4 (r .kept))) (r .count) (own .1) ∙ size ∙ sym header-is);
-      };
-      short = omega (arith, length-drop header-length (r .kept));
-      mid = four-digits (drop 4 (r .kept)) (both (long && most && length-digits && own-length) mid five .1);
-    }
-
-abbrev pub CleanEnd : Option Message → Type 0
-CleanEnd none = Unit {0}
-CleanEnd (some m) = CleanMessage m
-
-pub clean-end : (r : Run) → CleanRun r → length (r .kept) ≤ run-kept → CleanEnd (read-run r)
+pub clean-end : (r : Run) → CleanRun r → length (r .kept) ≤ run-kept → IfAny CleanMessage (read-run r)
 unfolding read-run
-clean-end r h n = go (is-message r) refl
+clean-end r h short = go (is-message r) refl
   where
-    go : (b : Bool) → is-message r ≡ b → CleanEnd (cond b (some (message-of r)) none)
-    go true e = clean-message r h n e
+    go : (b : Bool) → is-message r ≡ b → IfAny CleanMessage (cond b (some (message-of r)) none)
+    go true e =
+        let n = leb-true header-length (length (r .kept)) (search (left, right) depth 8) in
+        let is : all is-digit (places 1 4 (r .kept)) ≡ true = search (left, right) depth 8 in
+        let own : eqb (decimal (places 1 4 (r .kept))) (r .count) ≡ true = search (left, right) depth 8 in
+        let header-is = length-take-le header-length (r .kept) n in
+        record {
+          own = λ size. record {
+            no-NUL = every-take Shown header-length (r .kept) h;
+            has-header = omega arith;
+            in-digits = rw (take-take 4 20 (r .kept) (omega arith)) is;
+            own-length =
+                rw (take-take 4 20 (r .kept) (omega arith))
+                (eqb-true (decimal (places 1 4 (r .kept))) (r .count) own ∙ size ∙ sym header-is);
+          };
+          short = omega (arith, length-drop header-length (r .kept));
+          mid = four-digits (drop 4 (r .kept)) (search (left, right) depth 8);
+        }
     go false e = tt
 
 -- (what is there is not missing)
@@ -250,74 +212,41 @@ mirrors-only (unsubscribes kind n) mid least greatest = true
 mirrors-only (acknowledges kind) mid least greatest = true
 mirrors-only mirrors mid least greatest = eqb mid 9999 && eqb least header-length && eqb greatest header-length
 
-abbrev own-entry : Entry → Bool
-own-entry e = mirrors-only (e .effect) (e .mid) (e .least) (e .greatest)
-
-abbrev pub Listed : ℕ → Option Entry → Type 0
-Listed mid none = Unit {0}
-Listed mid (some e) = mirrors-only (e .effect) mid (e .least) (e .greatest) ≡ true
-
-pub entry-so : (mid : ℕ) → Listed mid (entry-of mid)
-entry-so mid = go (entry-of mid) refl
-  where
-    go : (o : Option Entry) → entry-of mid ≡ o → Listed mid o
-    go none q = tt
-    go (some e) q =
-        let s = entry-at own-entry refl mid e q in
-        subst (λ (n : ℕ). mirrors-only (e .effect) n (e .least) (e .greatest) ≡ true) (s .0) (s .1)
+pub mirrored : (mid : ℕ) (e : Entry) → entry-of mid ≡ some e → mirrors-only (e .effect) mid (e .least) (e .greatest) ≡ true
+mirrored mid e q =
+    let s = entry-at (λ f. mirrors-only (f .effect) (f .mid) (f .least) (f .greatest)) refl mid e q in
+    rw (← (s .0)) (s .1)
 
 -- ==== the number of an error has two digits
 
-abbrev pub ShortCode : Option Error → Type 0
-ShortCode none = Unit {0}
-ShortCode (some e) = code e < 100
+abbrev pub short-code : Option Error → Bool
+short-code none = true
+short-code (some e) = ltb (code e) 100
 
-abbrev own-short : Effect → Bool
-own-short starts = true
-own-short stops = true
-own-short (identifies n) = ltb n 100
-own-short (subscribes kind n) = ltb n 100
-own-short (unsubscribes kind n) = ltb n 100
-own-short (acknowledges kind) = true
-own-short mirrors = true
-
-own-code : (x : Standing) (f : Effect) → own-short f ≡ true → ShortCode (first none (own-test x f ∷ []))
-own-code x starts h = tt
-own-code x stops h = tt
-own-code x (identifies n) h = either ShortCode (not (x .granted)) (some (own n)) none (ltb-true n 100 h) tt
-own-code x (subscribes kind n) h = either ShortCode (x .subscribed kind) (some (own n)) none (ltb-true n 100 h) tt
-own-code x (unsubscribes kind n) h = either ShortCode (not (x .subscribed kind)) (some (own n)) none (ltb-true n 100 h) tt
-own-code x (acknowledges kind) h = tt
-own-code x mirrors h = tt
-
-pub code-short : (x : Standing) (mid size revision : ℕ) (bs : List ℕ) → ShortCode (tested x (entry-of mid) size revision bs)
-code-short x mid size revision bs = go (entry-of mid) refl
+pub code-short : (x : Standing) (mid : ℕ) (o : Option Entry) → entry-of mid ≡ o → (size revision : ℕ) (bs : List ℕ)
+    → short-code (tested x o size revision bs) ≡ true
+code-short x mid none q size revision bs = refl
+code-short x mid (some e) q size revision bs =
+    let own-short = entry-at (λ f. short-code ((own-test x (f .effect)) .answer)) refl mid e q .1 in
+    by-test (x .started && eqb (e .mid) 0001) _ _ refl
+    (by-test (not (good-length e size)) _ _ refl
+    (by-test (not (good-among (e .revision) revision)) _ _ refl
+    (by-test (not (all is-text bs)) _ _ refl
+    (by-test ((own-test x (e .effect)) .applies) _ none own-short refl))))
   where
-    by-test : (b : Bool) (e : Error) (o : Option Error) → code e < 100 → ShortCode o → ShortCode (cond b (some e) o)
-    by-test b e o h k = either ShortCode b (some e) o h k
-
-    go : (o : Option Entry) → entry-of mid ≡ o → ShortCode (tested x o size revision bs)
-    go none q = omega arith
-    go (some e) q =
-        by-test (x .started && eqb (e .mid) 0001) already-started _ (omega arith)
-        (by-test (not (good-length e size)) wrong-length _ (omega arith)
-        (by-test (not (good-among (e .revision) revision)) wrong-revision _ (omega arith)
-        (by-test (not (all is-text bs)) wrong-data _ (omega arith)
-        (own-code x (e .effect) (entry-at (λ f. own-short (f .effect)) refl mid e q .1)))))
+    by-test : (b : Bool) (o p : Option Error) → short-code o ≡ true → short-code p ≡ true → short-code (cond b o p) ≡ true
+    by-test = either (λ (o : Option Error). short-code o ≡ true)
 
 -- a message that has no error has a good length, and its data are text
 pub passed : (x : Standing) (e : Entry) (size revision : ℕ) (bs : List ℕ) → tested x (some e) size revision bs ≡ none
     → (good-length e size ≡ true) × (all is-text bs ≡ true)
-passed x e size revision bs =
-    go (x .started && eqb (e .mid) 0001) (good-length e size) (good-among (e .revision) revision) (all is-text bs)
-    (first none (own-test x (e .effect) ∷ []))
+passed x e size revision bs h =
+    let a = past (x .started && eqb (e .mid) 0001) already-started _ h in
+    let b = past (not (good-length e size)) wrong-length _ (a .1) in
+    let c = past (not (good-among (e .revision) revision)) wrong-revision _ (b .1) in
+    let d = past (not (all is-text bs)) wrong-data _ (c .1) in
+    (not-false (good-length e size) (b .0), not-false (all is-text bs) (d .0))
   where
-    go : (a b c d : Bool) (o : Option Error)
-        → cond a (some already-started)
-        (cond (not b) (some wrong-length) (cond (not c) (some wrong-revision) (cond (not d) (some wrong-data) o))) ≡ none
-        → (b ≡ true) × (d ≡ true)
-    go true b c d o h = absurd (there h)
-    go false false c d o h = absurd (there h)
-    go false true false d o h = absurd (there h)
-    go false true true false o h = absurd (there h)
-    go false true true true o h = (refl, refl)
+    past : (b : Bool) (x : Error) (o : Option Error) → cond b (some x) o ≡ none → (b ≡ false) × (o ≡ none)
+    past true x o e = absurd (there e)
+    past false x o e = (refl, e)

@@ -1,6 +1,6 @@
 -- What the proofs ask of an entry of the table of messages: one computed test over the table, and its law for any number.
 use Prim.Native.Nat.{ℕ}
-use mathlib.Core.Path.{_≡_, refl, sym, _∙_, ap, subst}
+use mathlib.Core.Path.{_≡_, refl}
 use mathlib.Core.Bool.{Bool, true, false, not, _&&_, _||_}
 use mathlib.Core.Option.{some}
 use lib.Dec.{leb, eqb}
@@ -10,7 +10,7 @@ use Rattle.model.specs.Bytes.{all, decimal, digits}
 use Rattle.model.specs.Kinds.{kinds}
 use Rattle.model.specs.Messages.{Revisions, not-read, revisions, Entry, table, entry-of, gets-reply}
 use Rattle.model.specs.Wire.{has-notice}
-use Rattle.model.proofs.Framed.{both}
+use Rattle.model.proofs.Framed.{left, right}
 use Rattle.model.proofs.Clean.{entry-at}
 
 -- ==== the test
@@ -46,19 +46,13 @@ pub record SoundEntry (mid : ℕ) (e : Entry) : Type 0 where
   pub not-ours : is-ours mid ≡ false
   pub by-length : (gets-reply (e .effect) || has-length-only e) ≡ true
 
-sound-so : (mid : ℕ) (e : Entry) → e .mid ≡ mid → sound e ≡ true → SoundEntry mid e
-sound-so mid e n h =
-    let four = eqb (decimal (digits 4 (e .mid))) (e .mid) in
-    let more = gets-reply (e .effect) || has-length-only e in
-    let a = both (four && not (is-ours (e .mid))) more h in
-    let b = both four (not (is-ours (e .mid))) (a .0) in
-    record {
-      number = n;
-      four-digits =
-          subst (λ (m : ℕ). decimal (digits 4 m) ≡ m) n (eqb-true (decimal (digits 4 (e .mid))) (e .mid) (b .0));
-      not-ours = ap is-ours (sym n) ∙ not-true (is-ours (e .mid)) (b .1);
-      by-length = a .1;
-    }
-
 pub entry-sound : (mid : ℕ) (e : Entry) → entry-of mid ≡ some e → SoundEntry mid e
-entry-sound mid e q = let s = entry-at sound the-table-is-sound mid e q in sound-so mid e (s .0) (s .1)
+entry-sound mid e q =
+    let s = entry-at sound the-table-is-sound mid e q in
+    let h = s .1 in
+    record {
+      number = s .0;
+      four-digits = rw (← (s .0)) (eqb-true (decimal (digits 4 (e .mid))) (e .mid) (search (left, right)));
+      not-ours = rw (← (s .0)) (not-true (is-ours (e .mid)) (search (left, right)));
+      by-length = search right;
+    }

@@ -1,10 +1,10 @@
 -- Event numbers are for speaking of histories only: a program need not keep them. From a world whose notices are all numbered 0
 -- each call gives the same answer and the same output bytes, and goes on to the same world but for the numbers; so what is proved
 -- of the numbered run speaks of the program's own.
-use Prim.Native.Nat.{ℕ, zero, suc, _+_, _%_}
-use mathlib.Core.Path.{_≡_, refl, sym, _∙_, ap, ap₂, fun-ext}
+use Prim.Native.Nat.{ℕ, zero, suc, _%_}
+use mathlib.Core.Path.{_≡_, refl, _∙_, ap, fun-ext}
 use mathlib.Core.Bool.{Bool, true, false, cond}
-use mathlib.Core.List.{List, [], _∷_, _++_, map, map-append, append-assoc}
+use mathlib.Core.List.{List, [], _∷_, _++_, map, map-append, append-assoc, map-map}
 use mathlib.Core.Option.{Option, none, some, Option·map as option-map}
 use lib.Dec.{eqb}
 use lib.ListN.{getD, length-map, List·getD-map}
@@ -18,25 +18,20 @@ use Rattle.model.specs.Events.{Event, identified, Notice, kind-of}
 use Rattle.model.specs.Sharing.{Shared, unnumbered, notice-of, reported}
 use Rattle.model.specs.Frames.{frame-0004}
 use Rattle.model.specs.Notices.{empty, busy, Subscription, unsubscribed, plain, acked, is-subscribed, has-room, takes as takes-event}
-use Rattle.model.specs.Notices.{Deed, nothing, beats, news, asks, drops, acks, next-one, waits, clock-at, act}
+use Rattle.model.specs.Notices.{Deed, nothing, beats, news, asks, drops, acks, next-one, waits, act}
 use Rattle.model.specs.Row.{Tagged, said}
-use Rattle.model.specs.Session.{Session, closed, opened, started, is-closed, subscribed-to, Copy, Emission, reply, copy, close}
+use Rattle.model.specs.Session.{Session, closed, opened, started, is-closed, Copy, Emission, reply, copy, close}
 use Rattle.model.specs.Session.{frame-to, copies-to, deal, dealt, only}
-use Rattle.model.specs.Hearing.{message-error, started-standing, opened-standing, error-reply, accepted, carry-out, judged, hear}
-use Rattle.model.specs.Hearing.{begin, hear-opened}
+use Rattle.model.specs.Hearing.{message-error, started-standing, opened-standing, accepted, carry-out, judged, begin}
 use Rattle.model.specs.Local.{end-run, end-run-opened, Local, opening, hang-up, receives, tick, event, elsewhere, tick-at, receive}
 use Rattle.model.specs.Local.{receive-opened, step as session-step, takes, identifier-run, announces}
 use Rattle.model.specs.World.{World, uncounted, session-at, Change, no-change, by-event, by-start, Moment, to, opens, hangs-up, hears}
-use Rattle.model.specs.World.{ticks, happens, begins, changed, each, sessions-after, next, emits, after, emitted}
+use Rattle.model.specs.World.{ticks, happens, begins, changed, each, next, emits, after, emitted}
 use Rattle.model.specs.Calls.{Call, start, open-session, hang-up-session, bytes, one-tick, tool, Lent, refusal, at-most-one}
 use Rattle.model.specs.Calls.{happening, moments, output-record, output, takers, taken-by, does, Answer, answered, step, run}
 use Rattle.model.specs.Erased.{erase, erase-sub, erase-session, erase-world, observed}
+use Rattle.model.proofs.Framed.{chosen}
 use Rattle.model.proofs.RowLaws.{retag, row-map, said-map}
-
--- a function of a choice is a choice of its values
-chosen : {A B : Type 0} (f : A → B) (b : Bool) (x y : A) → cond b (f x) (f y) ≡ f (cond b x y)
-chosen f true x y = refl
-chosen f false x y = refl
 
 -- ==== a subscription
 
@@ -65,22 +60,15 @@ waits-erased (up-to most) n q =
     rw (has-room-erased (up-to most) q, ← map-append erase q (n ∷ []))
     (chosen (map erase) (has-room (up-to most) q) (q ++ n ∷ []) q)
 
-clock-at-erased : (r : ℕ) (x : Notice) (c : ℕ) (q : List Notice) → clock-at r (erase x) c (map erase q) ≡ erased (clock-at r x c q)
-clock-at-erased r x c q = go (eqb c given-up-at) (eqb (c % copy-every) 0)
-  where
-    go : (b d : Bool)
-        → cond b (next-one r (map erase q)) (acked r (busy (erase x) c (map erase q)), cond d (erase x ∷ []) [])
-        ≡ erased (cond b (next-one r q) (acked r (busy x c q), cond d (x ∷ []) []))
-    go true d = next-one-erased r q
-    go false true = refl
-    go false false = refl
-
 act-erased : (room : Room) (d : Deed) (s : Subscription) → act room (erase-deed d) (erase-sub s) ≡ erased (act room d s)
 act-erased room nothing s = refl
 act-erased room beats unsubscribed = refl
 act-erased room beats (plain r) = refl
 act-erased room beats (acked r empty) = refl
-act-erased room beats (acked r (busy x c q)) = clock-at-erased r x (suc c) q
+act-erased room beats (acked r (busy x c q)) =
+    let due = eqb (suc c % copy-every) 0 in
+    rw (next-one-erased r q, chosen (map erase) due (x ∷ []) [])
+    (chosen erased (eqb (suc c) given-up-at) (next-one r q) (acked r (busy x (suc c) q), cond due (x ∷ []) []))
 act-erased room (news n) unsubscribed = refl
 act-erased room (news n) (plain r) = refl
 act-erased room (news n) (acked r empty) = refl
@@ -95,17 +83,14 @@ act-erased room acks (plain r) = refl
 act-erased room acks (acked r empty) = refl
 act-erased room acks (acked r (busy x c q)) = next-one-erased r q
 
-subscribed-erased : (s : Subscription) → is-subscribed (erase-sub s) ≡ is-subscribed s
-subscribed-erased unsubscribed = refl
-subscribed-erased (plain r) = refl
-subscribed-erased (acked r empty) = refl
-subscribed-erased (acked r (busy x c q)) = refl
-
-takes-event-erased : (room : Room) (s : Subscription) → takes-event room (erase-sub s) ≡ takes-event room s
-takes-event-erased room unsubscribed = refl
-takes-event-erased room (plain r) = refl
-takes-event-erased room (acked r empty) = refl
-takes-event-erased room (acked r (busy x c q)) = has-room-erased room q
+-- what is read of it but its notices
+kept : (s : Subscription)
+    → (is-subscribed (erase-sub s) ≡ is-subscribed s) × ((room : Room) → takes-event room (erase-sub s) ≡ takes-event room s)
+    × ((st : Settings) (n : Notice) → frame-to st (erase-sub s) (erase n) ≡ frame-to st s n)
+kept unsubscribed = (refl, λ room. refl, λ st n. refl)
+kept (plain r) = (refl, λ room. refl, λ st n. refl)
+kept (acked r empty) = (refl, λ room. refl, λ st n. refl)
+kept (acked r (busy x c q)) = (refl, λ room. has-room-erased room q, λ st n. refl)
 
 -- ==== a session
 
@@ -120,20 +105,10 @@ erase-emission close = close
 abbrev both : Session × List Emission → Session × List Emission
 both a = (erase-session (a .0), map erase-emission (a .1))
 
-frame-to-erased : (st : Settings) (s : Subscription) (n : Notice) → frame-to st (erase-sub s) (erase n) ≡ frame-to st s n
-frame-to-erased st unsubscribed n = refl
-frame-to-erased st (plain r) n = refl
-frame-to-erased st (acked r empty) n = refl
-frame-to-erased st (acked r (busy x c q)) n = refl
-
 copies-to-erased : (st : Settings) (s : Subscription) (ns : List Notice)
     → copies-to st (erase-sub s) (map erase ns) ≡ map erase-copy (copies-to st s ns)
 copies-to-erased st s [] = refl
-copies-to-erased st s (n ∷ ns) = rw (frame-to-erased st s n, copies-to-erased st s ns)
-
-map-copy : (xs : List (Tagged Copy)) → map copy (map (retag erase-copy) xs) ≡ map erase-emission (map copy xs)
-map-copy [] = refl
-map-copy (x ∷ xs) = ap (copy (retag erase-copy x) ∷_) (map-copy xs)
+copies-to-erased st s (n ∷ ns) = rw (kept s .2 st n, copies-to-erased st s ns)
 
 module _ (st : Settings) where
   dealt-erased : (i : ℕ) (run : Run) (C D : ℕ → Deed) (subs : List Subscription) → ((j : ℕ) → C j ≡ erase-deed (D j))
@@ -142,7 +117,8 @@ module _ (st : Settings) where
       rw (
         row-map (deal st D) (deal st C) erase-sub erase-copy same 0 subs,
         said-map (deal st D) (deal st C) erase-sub erase-copy same 0 subs,
-        map-copy (said (deal st D) 0 subs),
+        map-map copy (retag erase-copy) (said (deal st D) 0 subs),
+        map-map erase-emission copy (said (deal st D) 0 subs),
       )
     where
       same : (j : ℕ) (x : Subscription)
@@ -157,18 +133,9 @@ module _ (st : Settings) where
 -- what is shared counts no events on the changed
 
 module _ (g : Shared) where
-  at-erased : (subs : List Subscription) (kind : ℕ) → subscribed-to (map erase-sub subs) kind ≡ subscribed-to subs kind
-  at-erased subs kind =
-      ap is-subscribed (List·getD-map erase-sub subs kind unsubscribed) ∙ subscribed-erased (getD subs kind unsubscribed)
-
   standing-erased : (subs : List Subscription) → started-standing (unnumbered g) (map erase-sub subs) ≡ started-standing g subs
-  standing-erased subs = rw (fun-ext (at-erased subs))
-
-  error-reply-erased : (m : Message) (o : Option Entry) (error : Error)
-      → error-reply m o error ≡ map erase-emission (error-reply m o error)
-  error-reply-erased m none error = refl
-  error-reply-erased m (some e) error =
-      chosen (map erase-emission) (gets-reply (e .effect)) (reply (frame-0004 (m .mid) (code error)) ∷ []) []
+  standing-erased subs =
+      rw (fun-ext λ kind. ap is-subscribed (List·getD-map erase-sub subs kind unsubscribed) ∙ kept (getD subs kind unsubscribed) .0)
 
   carry-out-erased : (subs : List Subscription) (m : Message) (e : Effect)
       → carry-out (unnumbered g) (map erase-sub subs) m e ≡ both (carry-out g subs m e)
@@ -183,33 +150,26 @@ module _ (g : Shared) where
 
   judged-erased : (subs : List Subscription) (m : Message) (o : Option Entry) (error : Option Error)
       → judged (unnumbered g) (map erase-sub subs) m o error ≡ both (judged g subs m o error)
-  judged-erased subs m o (some error) = rw (← error-reply-erased m o error)
+  judged-erased subs m none (some error) = refl
+  judged-erased subs m (some e) (some error) =
+      rw (← chosen (map erase-emission) (gets-reply (e .effect)) (reply (frame-0004 (m .mid) (code error)) ∷ []) [])
   judged-erased subs m (some e) none = carry-out-erased subs m (e .effect)
   judged-erased subs m none none = refl
-
-  hear-erased : (subs : List Subscription) (m : Message) → hear (unnumbered g) (map erase-sub subs) m ≡ both (hear g subs m)
-  hear-erased subs m =
-      rw (standing-erased subs) (judged-erased subs m (entry-of (m .mid)) (message-error (started-standing g subs) m))
-
-  end-run-erased : (i : ℕ) (subs : List Subscription) (o : Option Message)
-      → end-run (unnumbered g) i (map erase-sub subs) o ≡ both (end-run g i subs o)
-  end-run-erased i subs none = refl
-  end-run-erased i subs (some m) = hear-erased subs m
 
   receive-erased : (i : ℕ) (run : Run) (subs : List Subscription) (b : Bool)
       → receive (unnumbered g) i run (map erase-sub subs) b ≡ both (receive g i run subs b)
   receive-erased i run subs false = refl
-  receive-erased i run subs true = end-run-erased i subs (read-run run)
+  receive-erased i run subs true = go (read-run run)
+    where
+      go : (o : Option Message) → end-run (unnumbered g) i (map erase-sub subs) o ≡ both (end-run g i subs o)
+      go none = refl
+      go (some m) = rw (standing-erased subs) (judged-erased subs m (entry-of (m .mid)) (message-error (started-standing g subs) m))
 
-  begin-erased : (i : ℕ) (m : Message) (error : Option Error) → begin (unnumbered g) i m error ≡ both (begin g i m error)
-  begin-erased i m none = refl
-  begin-erased i m (some error) = refl
-
-  hear-opened-erased : (i : ℕ) (m : Message) → hear-opened (unnumbered g) i m ≡ both (hear-opened g i m)
-  hear-opened-erased i m =
-      let error = message-error (opened-standing g) m in
-      ap (λ a. cond (eqb (m .mid) 0001) a (opened i empty-run, [])) (begin-erased i m error)
-      ∙ chosen both (eqb (m .mid) 0001) (begin g i m error) (opened i empty-run, [])
+  begin-erased : (b : Bool) (i : ℕ) (m : Message) (error : Option Error)
+      → cond b (begin (unnumbered g) i m error) (opened i empty-run, []) ≡ both (cond b (begin g i m error) (opened i empty-run, []))
+  begin-erased true i m none = refl
+  begin-erased true i m (some error) = refl
+  begin-erased false i m error = refl
 
   receive-opened-erased : (i : ℕ) (run : Run) (b : Bool) → receive-opened (unnumbered g) i run b ≡ both (receive-opened g i run b)
   receive-opened-erased i run false = refl
@@ -217,11 +177,10 @@ module _ (g : Shared) where
     where
       go : (o : Option Message) → end-run-opened (unnumbered g) i o ≡ both (end-run-opened g i o)
       go none = refl
-      go (some m) = hear-opened-erased i m
+      go (some m) = begin-erased (eqb (m .mid) 0001) i m (message-error (opened-standing g) m)
 
   tick-at-erased : (i : ℕ) (a b : Session × List Emission) → a ≡ both b → tick-at i a ≡ both (tick-at i b)
-  tick-at-erased i a b h =
-      ap (cond (eqb i idle-limit) (closed, close ∷ [])) h ∙ chosen both (eqb i idle-limit) (closed, close ∷ []) b
+  tick-at-erased i a b h = rw h (chosen both (eqb i idle-limit) (closed, close ∷ []) b)
 
   step-erased : (l : Local) (x : Session) → session-step (unnumbered g) l (erase-session x) ≡ both (session-step g l x)
   step-erased elsewhere x = refl
@@ -244,31 +203,42 @@ module _ (g : Shared) where
 
 -- ==== what the others learn of a session
 
-is-closed-erased : (x : Session) → is-closed (erase-session x) ≡ is-closed x
-is-closed-erased closed = refl
-is-closed-erased (opened i run) = refl
-is-closed-erased (started i run subs) = refl
-
-takes-erased : (kind : ℕ) (x : Session) → takes kind (erase-session x) ≡ takes kind x
-takes-erased kind closed = refl
-takes-erased kind (opened i run) = refl
-takes-erased kind (started i run subs) =
-    ap (takes-event (room-of kind)) (List·getD-map erase-sub subs kind unsubscribed)
-    ∙ takes-event-erased (room-of kind) (getD subs kind unsubscribed)
+session-kept : (x : Session)
+    → (is-closed (erase-session x) ≡ is-closed x) × ((kind : ℕ) → takes kind (erase-session x) ≡ takes kind x)
+    × ((g : Shared) (p : Piece) → announces (unnumbered g) p (erase-session x) ≡ announces g p x)
+session-kept closed = (refl, λ kind. refl, λ g p. refl)
+session-kept (opened i run) = (refl, λ kind. refl, λ g p. refl)
+session-kept (started i run subs) = (
+  refl,
+  λ kind.
+      ap (takes-event (room-of kind)) (List·getD-map erase-sub subs kind unsubscribed)
+      ∙ kept (getD subs kind unsubscribed) .1 (room-of kind),
+  λ g p. ap (λ o. cond (p .ends) o none) (go g (read-run (longer run (p .bytes)))),
+)
+  where
+    go : (g : Shared) (o : Option Message) → identifier-run (unnumbered g) (map erase-sub subs) o ≡ identifier-run g subs o
+    go g none = refl
+    go g (some m) = rw (standing-erased g subs)
 
 takers-erased : (kind s : ℕ) (xs : List Session) → takers kind s (map erase-session xs) ≡ takers kind s xs
 takers-erased kind s [] = refl
-takers-erased kind s (x ∷ xs) = rw (takes-erased kind x, takers-erased kind (suc s) xs)
+takers-erased kind s (x ∷ xs) = rw (session-kept x .1 kind, takers-erased kind (suc s) xs)
 
-run-erased : (g : Shared) (subs : List Subscription) (o : Option Message)
-    → identifier-run (unnumbered g) (map erase-sub subs) o ≡ identifier-run g subs o
-run-erased g subs none = refl
-run-erased g subs (some m) = rw (standing-erased g subs)
+-- ==== the output
 
-announces-erased : (g : Shared) (p : Piece) (x : Session) → announces (unnumbered g) p (erase-session x) ≡ announces g p x
-announces-erased g p closed = refl
-announces-erased g p (opened i run) = refl
-announces-erased g p (started i run subs) = rw (run-erased g subs (read-run (longer run (p .bytes))))
+record-erased : (s : ℕ) (e : Emission)
+    → output-record (record { who = s; what = erase-emission e }) ≡ output-record (record { who = s; what = e })
+record-erased s (reply frame) = refl
+record-erased s (copy c) = refl
+record-erased s close = refl
+
+output-erased : (xs : List (Tagged Emission)) → output (map (retag erase-emission) xs) ≡ output xs
+output-erased [] = refl
+output-erased (x ∷ xs) = rw (record-erased (x .who) (x .what), output-erased xs)
+
+pub output-append : (xs ys : List (Tagged Emission)) → output (xs ++ ys) ≡ output xs ++ output ys
+output-append [] ys = refl
+output-append (x ∷ xs) ys = rw (output-append xs ys, append-assoc)
 
 -- ==== the world
 
@@ -277,42 +247,24 @@ left-erased g no-change = refl
 left-erased g (by-event e) = refl
 left-erased g (by-start st) = refl
 
-module _ (w : World) where
-  module _ (m : Moment) where
-    each-erased : (s : ℕ) (x : Session) → each (erase-world w) m s (erase-session x) ≡ both (each w m s x)
-    each-erased s x = step-erased (w .shared) (m .sees s) x
+session-erased : (w : World) (s : ℕ) → session-at (erase-world w) s ≡ erase-session (session-at w s)
+session-erased w s = List·getD-map erase-session (w .sessions) s closed
 
-    sessions-erased : sessions-after (erase-world w) m ≡ map erase-session (sessions-after w m)
-    sessions-erased = row-map (each w m) (each (erase-world w) m) erase-session erase-emission each-erased 0 (w .sessions)
+module _ (w : World) (m : Moment) where
+  each-erased : (s : ℕ) (x : Session) → each (erase-world w) m s (erase-session x) ≡ both (each w m s x)
+  each-erased s x = step-erased (w .shared) (m .sees s) x
 
-    emits-erased : emits (erase-world w) m ≡ map (retag erase-emission) (emits w m)
-    emits-erased = said-map (each w m) (each (erase-world w) m) erase-session erase-emission each-erased 0 (w .sessions)
+  next-erased : uncounted (next (erase-world w) m) ≡ erase-world (next w m)
+  next-erased =
+      rw (
+        row-map (each w m) (each (erase-world w) m) erase-session erase-emission each-erased 0 (w .sessions),
+        left-erased (w .shared) (m .leaves),
+      )
 
-    next-erased : uncounted (next (erase-world w) m) ≡ erase-world (next w m)
-    next-erased = rw (sessions-erased, left-erased (w .shared) (m .leaves))
-
-  session-erased : (s : ℕ) → session-at (erase-world w) s ≡ erase-session (session-at w s)
-  session-erased s = List·getD-map erase-session (w .sessions) s closed
-
--- ==== the output
-
-record-erased : (x : Tagged Emission) → output-record (retag erase-emission x) ≡ output-record x
-record-erased x = go (x .what)
-  where
-    go : (e : Emission)
-        → output-record (record { who = x .who; what = erase-emission e }) ≡ output-record (record { who = x .who; what = e })
-    go (reply frame) = refl
-    go (copy c) = refl
-    go close = refl
-
-output-erased : (xs : List (Tagged Emission)) → output (map (retag erase-emission) xs) ≡ output xs
-output-erased [] = refl
-output-erased (x ∷ xs) = rw (record-erased x, output-erased xs)
-
-pub output-append : (xs ys : List (Tagged Emission)) → output (xs ++ ys) ≡ output xs ++ output ys
-output-append [] ys = refl
-output-append (x ∷ xs) ys =
-    ap (output-record x ++_) (output-append xs ys) ∙ sym (append-assoc (output-record x) (output xs) (output ys))
+  first-alike : output (emits (erase-world w) m) ≡ output (emits w m)
+  first-alike =
+      ap output (said-map (each w m) (each (erase-world w) m) erase-session erase-emission each-erased 0 (w .sessions))
+      ∙ output-erased (emits w m)
 
 -- ==== calls
 
@@ -322,25 +274,16 @@ Alike w ms =
     (uncounted (after (erase-world w) ms) ≡ erase-world (after w ms))
     × (output (emitted (erase-world w) ms) ≡ output (emitted w ms))
 
-first-alike : (w : World) (m : Moment) → output (emits (erase-world w) m) ≡ output (emits w m)
-first-alike w m = ap output (emits-erased w m) ∙ output-erased (emits w m)
-
 -- the last moment may be an event; the one before it may not, since it leaves a count
 alike-one : (w : World) (m : Moment) → Alike w (m ∷ [])
-alike-one w m = (
-  next-erased w m,
-  output-append (emits (erase-world w) m) []
-      ∙ ap (_++ []) (first-alike w m) ∙ sym (output-append (emits w m) []),
-)
+alike-one w m = (next-erased w m, simp (output-append, first-alike))
 
 alike-to : (w : World) (s : ℕ) (l : Local) (ms : List Moment) → Alike (next w (to s l)) ms → Alike w (to s l ∷ ms)
 alike-to w s l ms h =
     let m = to s l in
     let e : next (erase-world w) m ≡ erase-world (next w m) = next-erased w m in (
       ap (λ v. uncounted (after v ms)) e ∙ h .0,
-      output-append (emits (erase-world w) m) (emitted (next (erase-world w) m) ms)
-          ∙ ap₂ (_++_) (first-alike w m) (ap (λ v. output (emitted v ms)) e ∙ h .1)
-          ∙ sym (output-append (emits w m) (emitted (next w m) ms)),
+      simp (output-append, first-alike, ap (λ v. output (emitted v ms)) e ∙ h .1),
     )
 
 alike-happening : (w : World) (o : Option Event) → Alike w (happening o)
@@ -373,10 +316,10 @@ alike w (tool slice) = alike-happening w (option-map (reported (w .shared)) (rea
 -- the table of calls
 does-erased : (w : World) (c : Call) → does (erase-world w) c ≡ does w c
 does-erased w (start slice) = refl
-does-erased w (open-session s) = rw (session-erased w s, is-closed-erased (session-at w s))
-does-erased w (hang-up-session s) = rw (session-erased w s, is-closed-erased (session-at w s))
+does-erased w (open-session s) = rw (session-erased w s, session-kept (session-at w s) .0)
+does-erased w (hang-up-session s) = rw (session-erased w s, session-kept (session-at w s) .0)
 does-erased w (bytes s bs) =
-    rw (session-erased w s, is-closed-erased (session-at w s), announces-erased (w .shared) (cut bs) (session-at w s))
+    rw (session-erased w s, session-kept (session-at w s) .0, session-kept (session-at w s) .2 (w .shared) (cut bs))
 does-erased w one-tick = refl
 does-erased w (tool slice) =
     let t = read-tool slice in

@@ -4,25 +4,33 @@ use Prim.Native.Nat.{ℕ, zero, suc, _+_, _*_, _-_, _/_, _%_, _≤_, _<_}
 use mathlib.Core.Path.{_≡_, refl, _∙_}
 use mathlib.Core.Bool.{Bool, true, false, cond, _&&_, and-eq-true-iff}
 use mathlib.Core.List.{List, [], _∷_, _++_}
+use mathlib.Core.Option.{Option, none, some}
 use native.Mathlib.Omega.{arith}
 use lib.Dec.{leb, eqb}
 use lib.ListN.{length, getD, take, length-append, length-replicate}
 use borrow.Author.Tests.{le-leb, leb-true}
-use Rattle.model.specs.Limits.{header-length, identifier-length, number-greatest}
+use Rattle.model.specs.Limits.{identifier-length, number-greatest}
 use Rattle.model.specs.Bytes.{NUL, space, digit-0, digit-1, is-digit, is-text, all, spaces, decimal, digits}
-use Rattle.model.specs.Records.{Value, counted, said, number-at, text-at, Settings}
-use Rattle.model.specs.Layouts.{Sources, settings, source, Row, number, text, blank, known, width-of, characters, label-length, label}
+use Rattle.model.specs.Records.{Value, counted, said, text-in, value-at, number-at, text-at, Settings}
+use Rattle.model.specs.Layouts.{Sources, settings, source, Row, number, text, blank, known, width-of, characters, label-length}
 use Rattle.model.specs.Layouts.{Layout, data-from, data-of, layout-0002, layout-0004, layout-0005}
 use Rattle.model.specs.Layouts.{Layouts, layout-at, layouts-0052, layouts-0061}
 use Rattle.model.specs.Kinds.{kind-at}
 use Rattle.model.specs.Events.{Event, identified, tightened, kind-of, told-of}
-use Rattle.model.specs.Sharing.{last-after}
+use Rattle.model.specs.Sharing.{last-after, in-force-after}
 use Rattle.model.specs.Frames.{header, frame, sources, nothing, frame-0002, frame-0004, frame-0005, event-frame}
 use Rattle.model.specs.FieldsRead.{settings-within, told-within}
 use Rattle.model.specs.Wire.{Every, NoNUL, Framed, is-notice}
 
 pub both : (a b : Bool) → (a && b) ≡ true → (a ≡ true) × (b ≡ true)
 both a b h = and-eq-true-iff a b .0 h
+
+-- (the halves, for `search` to go by)
+pub left : (a b : Bool) → (a && b) ≡ true → a ≡ true
+left a b h = both a b h .0
+
+pub right : (a b : Bool) → (a && b) ≡ true → b ≡ true
+right a b h = both a b h .1
 
 -- ==== lists of which each element is so
 
@@ -36,24 +44,38 @@ module _ {A : Type 0} (P : A → Type 0) where
   every-take (suc n) [] h = tt
   every-take (suc n) (x ∷ xs) h = (h .0, every-take n xs (h .1))
 
+  pub every-at : (xs : List A) (i : ℕ) (d : A) → P d → Every P xs → P (getD xs i d)
+  every-at [] i d h k = h
+  every-at (x ∷ xs) zero d h k = k .0
+  every-at (x ∷ xs) (suc i) d h k = every-at xs i d h (k .1)
+
+-- each passes a test that all pass
+pub every-of : {A : Type 0} (test : A → Bool) (xs : List A) → all test xs ≡ true → Every (λ x. test x ≡ true) xs
+every-of test [] h = tt
+every-of test (x ∷ xs) h = let k = both (test x) (all test xs) h in (k .0, every-of test xs (k .1))
+
+-- what there is, if there is any, is so
+abbrev pub IfAny : {A : Type 0} → (A → Type 0) → Option A → Type 0
+IfAny P none = Unit {0}
+IfAny P (some a) = P a
+
 -- of two, whichever is chosen is so
 pub either : {A : Type 0} (P : A → Type 0) (b : Bool) (x y : A) → P x → P y → P (cond b x y)
 either P true x y h k = h
 either P false x y h k = k
 
--- ==== the layouts of a notice: what a test finds of each of them it finds of every revision
+-- a function of a choice is a choice of its values
+pub chosen : {A B : Type 0} (f : A → B) (b : Bool) (x y : A) → cond b (f x) (f y) ≡ f (cond b x y)
+chosen f true x y = refl
+chosen f false x y = refl
 
-pub getD-all : {A : Type 0} (test : A → Bool) (xs : List A) (i : ℕ) (d : A) → test d ≡ true → all test xs ≡ true
-    → test (getD xs i d) ≡ true
-getD-all test [] i d h k = h
-getD-all test (x ∷ xs) zero d h k = and-eq-true-iff (test x) (all test xs) .0 k .0
-getD-all test (x ∷ xs) (suc i) d h k = getD-all test xs i d h (and-eq-true-iff (test x) (all test xs) .0 k .1)
+-- ==== the layouts of a notice: what a test finds of each of them it finds of every revision
 
 pub at-every : (test : Layout → Bool) (ls : Layouts) → all test (ls .newest ∷ ls .older) ≡ true → (revision : ℕ)
     → test (layout-at ls revision) ≡ true
 at-every test ls h revision =
-    let t = and-eq-true-iff (test (ls .newest)) (all test (ls .older)) .0 h in
-    getD-all test (ls .older) (revision - 1) (ls .newest) (t .0) (t .1)
+    let t = every-of test (ls .newest ∷ ls .older) h in
+    every-at (λ l. test l ≡ true) (ls .older) (revision - 1) (ls .newest) (t .0) (t .1)
 
 -- ==== bytes that are no NUL
 
@@ -94,9 +116,7 @@ unfolding digits
 four-digits n h = omega arith
 
 digit-test : (n : ℕ) → is-digit (0x30 + n % 10) ≡ true
-digit-test n =
-    and-eq-true-iff (leb 0x30 (0x30 + n % 10)) (leb (0x30 + n % 10) 0x39) .1
-    (le-leb 0x30 (0x30 + n % 10) (omega arith), le-leb (0x30 + n % 10) 0x39 (omega arith))
+digit-test n = rw (le-leb 0x30 (0x30 + n % 10) (omega arith), le-leb (0x30 + n % 10) 0x39 (omega arith))
 
 digits-test : (n : ℕ) → all is-digit (digits 4 n) ≡ true
 unfolding digits
@@ -105,14 +125,7 @@ digits-test n = rw (digit-test n, digit-test (n / 10), digit-test (n / 10 / 10),
 module _ (mid revision byte-12 : ℕ) (bs : List ℕ) where
   nul-frame : Shown byte-12 → NoNUL bs → NoNUL (frame mid revision byte-12 bs)
   unfolding frame header
-  nul-frame h k =
-      let size = header-length + length bs in
-      let end = byte-12 ∷ spaces 8 in
-      nul-append (digits 4 size ++ digits 4 mid ++ digits 3 revision ++ end) bs
-      (nul-append (digits 4 size ++ digits 4 mid ++ digits 3 revision) end
-      (nul-append (digits 4 size ++ digits 4 mid) (digits 3 revision)
-      (nul-append (digits 4 size) (digits 4 mid) (nul-digits 4 size) (nul-digits 4 mid)) (nul-digits 3 revision))
-      (h, nul-spaces 8)) k
+  nul-frame h k = search (nul-append, nul-digits, nul-spaces)
 
   framed : Shown byte-12 → NoNUL bs → length bs < 9_980 → Framed (frame mid revision byte-12 bs)
   unfolding frame header digits
@@ -139,11 +152,9 @@ pub record Fits (b : Sources) : Type 0 where
   pub settings : Every Fit (b .settings)
   pub told : Every Fit (b .told)
 
-fit-at : (vs : List Value) (i : ℕ) → Every Fit vs → Text (text-at vs i)
-fit-at [] i h = record { no-NUL = tt; short = omega arith }
-fit-at (counted n ∷ vs) zero h = record { no-NUL = tt; short = omega arith }
-fit-at (said bs ∷ vs) zero h = h .0
-fit-at (v ∷ vs) (suc i) h = fit-at vs i (h .1)
+fit-text : (v : Value) → Fit v → Text (text-in v)
+fit-text (counted n) h = record { no-NUL = tt; short = omega arith }
+fit-text (said bs) h = h
 
 -- ==== layouts of which no field is longer, and which have so few that a frame's length goes into its digits
 
@@ -155,56 +166,39 @@ slim l = leb (length (l .rows)) 300 && all slim-row (l .rows)
 
 module _ (b : Sources) (h : Fits b) where
   fit-source : (from i : ℕ) → Text (text-at (source b from) i)
-  fit-source from i = fit-at (source b from) i (either (Every Fit) (eqb from settings) (b .settings) (b .told) (h .settings) (h .told))
+  fit-source from i =
+      let texts = either (Every Fit) (eqb from settings) (b .settings) (b .told) (h .settings) (h .told) in
+      fit-text (value-at (source b from) i) (every-at Fit (source b from) i (counted 0) tt texts)
 
-  nul-characters : (row : Row) → NoNUL (characters b row)
+  field-fits : (row : Row) → NoNUL (characters b row) × (slim-row row ≡ true → length (characters b row) ≤ identifier-length)
   unfolding characters
-  nul-characters (number width from i) = nul-digits width _
-  nul-characters (text width from i) = fit-source from i .no-NUL
-  nul-characters (blank width) = nul-spaces width
-  nul-characters (known width n) = nul-digits width n
+  field-fits (number width from i) =
+      let n = number-at (source b from) i in
+      (nul-digits width n, λ e. omega (arith, length-digits width n, leb-true width identifier-length e))
+  field-fits (text width from i) = let f = fit-source from i in (f .no-NUL, λ e. f .short)
+  field-fits (blank width) = (nul-spaces width, λ e. omega (arith, length-replicate width space, leb-true width identifier-length e))
+  field-fits (known width n) = (nul-digits width n, λ e. omega (arith, length-digits width n, leb-true width identifier-length e))
 
-  length-characters : (row : Row) → slim-row row ≡ true → length (characters b row) ≤ identifier-length
-  unfolding characters
-  length-characters (number width from i) e =
-      omega (arith, length-digits width (number-at (source b from) i), leb-true width identifier-length e)
-  length-characters (text width from i) e = fit-source from i .short
-  length-characters (blank width) e = omega (arith, length-replicate width space, leb-true width identifier-length e)
-  length-characters (known width n) e = omega (arith, length-digits width n, leb-true width identifier-length e)
-
-  module _ (numbered : Bool) where
-    label-few : label-length numbered ≤ 2
-    label-few = either (λ (n : ℕ). n ≤ 2) numbered 2 0 (omega arith) (omega arith)
-
-    nul-data : (i : ℕ) (rows : List Row) → NoNUL (data-from numbered i rows b)
-    unfolding data-from
-    nul-data i [] = tt
-    nul-data i (row ∷ rows) =
-        nul-append (label numbered i ++ characters b row) (data-from numbered (suc i) rows b)
-        (nul-append (label numbered i) (characters b row) (nul-digits (label-length numbered) i) (nul-characters row))
-        (nul-data (suc i) rows)
-
-    length-data : (i : ℕ) (rows : List Row) → all slim-row rows ≡ true → length (data-from numbered i rows b) ≤ 27 * length rows
-    unfolding data-from
-    length-data i [] e = omega arith
-    length-data i (row ∷ rows) e =
-        let t = and-eq-true-iff (slim-row row) (all slim-row rows) .0 e in
-        let ih = length-data (suc i) rows (t .1) in
-        let few = label-few in
-        omega (
-          arith,
-          length-digits (label-length numbered) i,
-          length-characters row (t .0),
-          length-append (label numbered i ++ characters b row) (data-from numbered (suc i) rows b),
-          length-append (label numbered i) (characters b row),
-        )
+  data-fits : (numbered : Bool) (i : ℕ) (rows : List Row)
+      → NoNUL (data-from numbered i rows b) × (all slim-row rows ≡ true → length (data-from numbered i rows b) ≤ 27 * length rows)
+  unfolding data-from
+  data-fits numbered i [] = (tt, λ e. omega arith)
+  data-fits numbered i (row ∷ rows) =
+      let f = field-fits row in
+      let more = data-fits numbered (suc i) rows in
+      let few = either (λ (n : ℕ). n ≤ 2) numbered 2 0 (omega arith) (omega arith) in (
+        search (nul-append, nul-digits),
+        λ e.
+            let t = both (slim-row row) (all slim-row rows) e in
+            simp length-append (omega (arith, length-digits (label-length numbered) i, f .1 (t .0), more .1 (t .1))),
+      )
 
   framed-layout : (mid revision byte-12 : ℕ) (l : Layout) → Shown byte-12 → slim l ≡ true
       → Framed (frame mid revision byte-12 (data-of l b))
   framed-layout mid revision byte-12 l k e =
-      let t = and-eq-true-iff (leb (length (l .rows)) 300) (all slim-row (l .rows)) .0 e in
-      framed mid revision byte-12 (data-of l b) k (nul-data (l .numbered) 1 (l .rows))
-      (omega (arith, length-data (l .numbered) 1 (l .rows) (t .1), leb-true (length (l .rows)) 300 (t .0)))
+      let t = both (leb (length (l .rows)) 300) (all slim-row (l .rows)) e in
+      let d = data-fits (l .numbered) 1 (l .rows) in
+      framed mid revision byte-12 (data-of l b) k (d .0) (omega (arith, d .1 (t .1), leb-true (length (l .rows)) 300 (t .0)))
 
 -- ==== the frames
 
@@ -217,7 +211,7 @@ pub identifier-spaces : Identifier (spaces identifier-length)
 identifier-spaces = record { clean = record { no-NUL = nul-spaces identifier-length; short = omega arith }; whole = refl }
 
 -- settings, and events, whose texts can stand in fields, and whose values are within their items; the last number that they leave is one
--- that there is
+-- that there is, and what an event leaves in force is an identifier
 pub record CleanSettings (st : Settings) : Type 0 where
   pub texts : Every Fit (st .values)
   pub within : settings-within st ≡ true
@@ -227,9 +221,7 @@ pub record CleanEvent (e : Event) : Type 0 where
   pub texts : Every Fit (told-of e)
   pub within : told-within e ≡ true
   pub last : (n : ℕ) → n ≤ number-greatest → last-after n e ≤ number-greatest
-
-nothing-fits : Fits nothing
-nothing-fits = record { settings = tt; told = tt }
+  pub in-force : (x : List ℕ) → Identifier x → Identifier (in-force-after x e)
 
 pub framed-0002 : (st : Settings) → CleanSettings st → Framed (frame-0002 st)
 unfolding frame-0002
@@ -238,14 +230,12 @@ framed-0002 st h =
 
 pub framed-0004 : (mid error : ℕ) → Framed (frame-0004 mid error)
 unfolding frame-0004
-framed-0004 mid error = framed-layout nothing nothing-fits 4 1 space (layout-0004 mid error) (λ e. omega arith) refl
+framed-0004 mid error =
+    framed-layout nothing (record { settings = tt; told = tt }) 4 1 space (layout-0004 mid error) (λ e. omega arith) refl
 
 pub framed-0005 : (mid : ℕ) → Framed (frame-0005 mid)
 unfolding frame-0005
-framed-0005 mid = framed-layout nothing nothing-fits 5 1 space (layout-0005 mid) (λ e. omega arith) refl
-
-byte-12-shown : (b : Bool) → Shown (cond b digit-1 digit-0)
-byte-12-shown b = either Shown b digit-1 digit-0 (λ e. omega arith) (λ e. omega arith)
+framed-0005 mid = framed-layout nothing (record { settings = tt; told = tt }) 5 1 space (layout-0005 mid) (λ e. omega arith) refl
 
 slim-notice : (e : Event) (revision : ℕ) → slim (layout-at ((kind-at (kind-of e)) .layouts) revision) ≡ true
 slim-notice (identified x) revision = at-every slim layouts-0052 refl revision
@@ -255,9 +245,10 @@ module _ (st : Settings) (clean : CleanSettings st) (revision : ℕ) (no-acknowl
   pub framed-event : (e : Event) → CleanEvent e → Framed (event-frame st revision no-acknowledge e)
   unfolding event-frame
   framed-event e h =
-      framed-layout (sources st (told-of e)) (record { settings = clean .texts; told = h .texts }) ((kind-at (kind-of e)) .notice) revision
-      (cond no-acknowledge digit-1 digit-0) (layout-at ((kind-at (kind-of e)) .layouts) revision) (byte-12-shown no-acknowledge)
-      (slim-notice e revision)
+      let shown = either Shown no-acknowledge digit-1 digit-0 (λ z. omega arith) (λ z. omega arith) in
+      let kind = kind-at (kind-of e) in
+      framed-layout (sources st (told-of e)) (record { settings = clean .texts; told = h .texts }) (kind .notice) revision
+      (cond no-acknowledge digit-1 digit-0) (layout-at (kind .layouts) revision) shown (slim-notice e revision)
 
   pub notice-event : (e : Event) → is-notice (event-frame st revision no-acknowledge e) ≡ true
   unfolding event-frame frame header digits

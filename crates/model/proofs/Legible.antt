@@ -1,18 +1,16 @@
--- What a reader gets out of the frames that we write: a payload that is good says only values that are within its items, and rows that have
--- room for whatever the items say are legible. So the data of our frames reads back as the values that they were made of.
-use Prim.Native.Nat.{ℕ, zero, suc, _+_, _≤_, _<_, _^_}
+-- What a reader gets out of the frames that we write: rows that have room for whatever the items say are legible, whatever values within
+-- the items there are. So the data of our frames reads back as the values that they were made of.
+use Prim.Native.Nat.{ℕ, zero, suc, _≤_, _<_, _^_}
 use mathlib.Core.Path.{_≡_, refl, sym, ap, _∙_}
-use mathlib.Core.Bool.{Bool, true, false, cond, and-eq-true-iff, true≢false}
+use mathlib.Core.Bool.{Bool, true, false, cond, true≢false}
 use mathlib.Core.List.{List, [], _∷_, _++_, append-nil}
 use native.Mathlib.Omega.{arith}
 use lib.Dec.{leb, eqb}
-use lib.ListN.{length, take, drop, length-take, length-drop}
+use lib.ListN.{length, drop}
 use borrow.Author.Tests.{leb-true, ltb-true, eqb-true, le-leb, lt-ltb, eq-eqb}
-use Rattle.model.specs.Limits.{header-length, identifier-length, number-length, number-greatest}
+use Rattle.model.specs.Limits.{identifier-length, number-length, number-greatest}
 use Rattle.model.specs.Bytes.{space, digit-0, digit-1, all, digits}
-use Rattle.model.specs.Records.{Item, number as number-item, text as text-item, time, item-length, payload-length}
-use Rattle.model.specs.Records.{parts-from, parts, good-item, good-parts, good-payload}
-use Rattle.model.specs.Records.{Value, counted, said, value-of, values-of, values, number-at, text-at}
+use Rattle.model.specs.Records.{Item, number as number-item, text as text-item, time, Value, counted, said, number-at, text-at}
 use Rattle.model.specs.Records.{Settings, settings-items, tightening-items, result-items, scanned-items}
 use Rattle.model.specs.Layouts.{Sources, settings, source, Row, number, text, blank, known, Layout, data-of}
 use Rattle.model.specs.Layouts.{layout-0002, layout-0004, layout-0005, layouts-0052, layouts-0061}
@@ -24,30 +22,6 @@ use Rattle.model.specs.FieldsRead.{layout-for, ReadsBack, is-within, all
 use Rattle.model.specs.Wire.{Every}
 use Rattle.model.proofs.Framed.{both, every-append, at-every, Fit, Identifier, CleanSettings, CleanEvent}
 use Rattle.model.proofs.ReadBack.{read-back}
-
--- ==== a good payload says values that are within its items
-
-value-within : (e : Item) (bs : List ℕ) → good-item e bs ≡ true → length bs ≡ item-length e → is-within e (value-of e bs) ≡ true
-value-within (number-item size greatest) bs good n = good
-value-within (text-item size) bs good n = eq-eqb (length bs) size n
-value-within time bs good n = eq-eqb (length bs) _ n
-
-parts-within : (es : List Item) (at : ℕ) (bs : List ℕ) → good-parts es (parts-from at es bs) ≡ true
-    → at + payload-length es ≤ length bs → all-within es (values-of es (parts-from at es bs)) ≡ true
-parts-within [] at bs good n = refl
-parts-within (e ∷ es) at bs good n =
-    let p = take (item-length e) (drop at bs) in
-    let g = both (good-item e p) (good-parts es (parts-from (at + item-length e) es bs)) good in
-    and-eq-true-iff (is-within e (value-of e p)) (all-within es (values-of es (parts-from (at + item-length e) es bs))) .1 (
-      value-within e p (g .0) (omega (arith, length-take (item-length e) (drop at bs), length-drop at bs)),
-      parts-within es (at + item-length e) bs (g .1) (omega arith),
-    )
-
-pub payload-within : (es : List Item) (bs : List ℕ) → good-payload es bs ≡ true → all-within es (values es bs) ≡ true
-unfolding good-payload
-payload-within es bs good =
-    let g = both (eqb (length bs) (payload-length es)) (good-parts es (parts es bs)) good in
-    parts-within es 0 bs (g .1) (omega (arith, eqb-true (length bs) (payload-length es) (g .0)))
 
 -- ==== rows that fit the items are legible, whatever values within them the sources have
 
@@ -75,11 +49,6 @@ text-within w (time ∷ es) (counted n ∷ vs) zero a f = absurd (true≢false (
 text-within w (time ∷ es) (said bs ∷ vs) zero a f =
     eq-eqb (length bs) w (eqb-true (length bs) _ (both _ (all-within es vs) a .0) ∙ eqb-true _ w f)
 
--- the data of a frame stands behind its header
-data-behind : (mid revision byte-12 : ℕ) (bs : List ℕ) → drop header-length (frame mid revision byte-12 bs) ≡ bs
-unfolding frame header digits
-data-behind mid revision byte-12 bs = refl
-
 -- sources whose values are within these items
 module _ (ss ts : List Item) (b : Sources) (s : all-within ss (b .settings) ≡ true) (t : all-within ts (b .told) ≡ true) where
   source-within : (from : ℕ) → all-within (cond (eqb from settings) ss ts) (source b from) ≡ true
@@ -101,14 +70,14 @@ module _ (ss ts : List Item) (b : Sources) (s : all-within ss (b .settings) ≡ 
   all-legible [] f = refl
   all-legible (row ∷ rows) f =
       let g = both (row-fits ss ts row) (all (row-fits ss ts) rows) f in
-      and-eq-true-iff (legible b row) (all (legible b) rows) .1 (fit-legible row (g .0), all-legible rows (g .1))
+      rw (fit-legible row (g .0)) (all-legible rows (g .1))
 
   -- so a frame that has them reads back
   pub frame-back : (mid revision byte-12 : ℕ) (l : Layout) → all (row-fits ss ts) (l .rows) ≡ true
       → read-frame l (frame mid revision byte-12 (data-of l b)) ≡ values-in b l
+  unfolding frame header digits
   frame-back mid revision byte-12 l f =
-      let d = data-of l b in
-      ap (read-fields (l .numbered) (l .rows)) (data-behind mid revision byte-12 d ∙ sym (append-nil d))
+      ap (read-fields (l .numbered) (l .rows)) (sym (append-nil (data-of l b)))
       ∙ read-back b (l .numbered) (l .rows) 1 [] (all-legible (l .rows) f)
 
 -- what a tool reports besides the identifier
@@ -162,6 +131,7 @@ identified-clean x h = record {
   texts = (h .clean, tt);
   within = rw (eq-eqb (length x) identifier-length (h .whole));
   last = λ n k. k;
+  in-force = λ y k. h;
 }
 
 all-within-append : (es : List Item) (vs : List Value) (fs : List Item) (ws : List Value) → all-within es vs ≡ true
@@ -171,7 +141,7 @@ all-within-append [] (v ∷ vs) fs ws h k = absurd (true≢false (sym h))
 all-within-append (e ∷ es) [] fs ws h k = absurd (true≢false (sym h))
 all-within-append (e ∷ es) (v ∷ vs) fs ws h k =
     let t = both (is-within e v) (all-within es vs) h in
-    and-eq-true-iff (is-within e v) (all-within (es ++ fs) (vs ++ ws)) .1 (t .0, all-within-append es vs fs ws (t .1) k)
+    rw (t .0) (all-within-append es vs fs ws (t .1) k)
 
 pub tightened-clean : (r : Result) → Identifier (r .identifier) → Every Fit (r .tightening)
     → all-within reported-items (r .tightening) ≡ true → r .number ≤ number-greatest → CleanEvent (tightened r)
@@ -181,10 +151,8 @@ tightened-clean r h k w n =
     record {
       texts = (h .clean, every-append Fit (r .tightening) numbers k (tt, tt));
       within =
-          and-eq-true-iff (eqb (length (r .identifier)) identifier-length)
-          (all-within (reported-items ++ number-items) (r .tightening ++ numbers)) .1 (
-            eq-eqb (length (r .identifier)) identifier-length (h .whole),
-            all-within-append reported-items (r .tightening) number-items numbers w (rw (le-leb (r .number) number-greatest n)),
-          );
+          rw (eq-eqb (length (r .identifier)) identifier-length (h .whole))
+          (all-within-append reported-items (r .tightening) number-items numbers w (rw (le-leb (r .number) number-greatest n)));
       last = λ m l. n;
+      in-force = λ y l. l;
     }

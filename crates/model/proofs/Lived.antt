@@ -4,58 +4,47 @@ use Prim.Native.Nat.{ℕ, zero, suc, _<_}
 use mathlib.Core.Path.{_≡_, refl, ap, ap₂, sym, _∙_}
 use mathlib.Core.List.{List, [], _∷_, _++_, append-assoc}
 use lib.ListN.{length}
-use Rattle.model.specs.Sharing.{Shared}
 use Rattle.model.specs.Session.{Session, Emission}
 use Rattle.model.specs.Row.{pick}
-use Rattle.model.specs.World.{World, session-at, Change, Moment, changed, each, next, emits, after, emitted}
-use Rattle.model.specs.Local.{Local}
-use Rattle.model.specs.Calls.{Call, Lent, refusal, moments, answered, step}
+use Rattle.model.specs.World.{World, session-at, Moment, changed, each, next, emits, after, emitted}
+use Rattle.model.specs.Calls.{Call, Lent, refusal, answered, step}
 use Rattle.model.specs.Own.{moments-done, moments-in, sent-in, seen-of, lived, world-after}
 use Rattle.model.proofs.RowLaws.{pick-append, length-row}
 use Rattle.model.proofs.Sessions.{session-next, session-emits}
 
 -- ==== moments one after another
 
-after-append : (w : World) (ms ns : List Moment) → after w (ms ++ ns) ≡ after (after w ms) ns
-after-append w [] ns = refl
-after-append w (m ∷ ms) ns = after-append (next w m) ms ns
-
-emitted-append : (w : World) (ms ns : List Moment) → emitted w (ms ++ ns) ≡ emitted w ms ++ emitted (after w ms) ns
-emitted-append w [] ns = refl
-emitted-append w (m ∷ ms) ns =
-    ap (emits w m ++_) (emitted-append (next w m) ms ns)
-    ∙ sym (append-assoc (emits w m) (emitted (next w m) ms) (emitted (after w (m ∷ ms)) ns))
+append-is : (w : World) (ms ns : List Moment)
+    → (after w (ms ++ ns) ≡ after (after w ms) ns) × (emitted w (ms ++ ns) ≡ emitted w ms ++ emitted (after w ms) ns)
+append-is w [] ns = (refl, refl)
+append-is w (m ∷ ms) ns =
+    let ih = append-is (next w m) ms ns in
+    (ih .0, rw (ih .1) (sym (append-assoc (emits w m) (emitted (next w m) ms) (emitted (after w (m ∷ ms)) ns))))
 
 -- a run of calls is its moments
-answered-after : (w : World) (c : Call) (n : ℕ) → (answered w c n) .0 ≡ after w (moments-done n w c)
-answered-after w c zero = refl
-answered-after w c (suc n) = refl
+answered-is : (w : World) (c : Call) (n : ℕ)
+    → ((answered w c n) .0 ≡ after w (moments-done n w c)) × ((answered w c n) .2 ≡ emitted w (moments-done n w c))
+answered-is w c zero = (refl, refl)
+answered-is w c (suc n) = (refl, refl)
 
-answered-emitted : (w : World) (c : Call) (n : ℕ) → (answered w c n) .2 ≡ emitted w (moments-done n w c)
-answered-emitted w c zero = refl
-answered-emitted w c (suc n) = refl
-
-run-after : (w : World) (cs : List (Lent × Call)) → world-after w cs ≡ after w (moments-in w cs)
+run-is : (w : World) (cs : List (Lent × Call)) → let ms = moments-in w cs in (world-after w cs ≡ after w ms) × (sent-in w cs ≡ emitted w ms)
 unfolding step
-run-after w [] = refl
-run-after w (c ∷ cs) =
-    let ms = moments-done (refusal (c .0) w (c .1)) w (c .1) in
-    let v = (step (c .0) w (c .1)) .0 in
-    run-after v cs ∙ ap (λ (u : World). after u (moments-in v cs)) (answered-after w (c .1) (refusal (c .0) w (c .1)))
-    ∙ sym (after-append w ms (moments-in v cs))
-
-run-emitted : (w : World) (cs : List (Lent × Call)) → sent-in w cs ≡ emitted w (moments-in w cs)
-unfolding step
-run-emitted w [] = refl
-run-emitted w (c ∷ cs) =
+run-is w [] = (refl, refl)
+run-is w (c ∷ cs) =
     let n = refusal (c .0) w (c .1) in
-    let ms = moments-done n w (c .1) in
     let v = (step (c .0) w (c .1)) .0 in
-    ap₂ _++_ (answered-emitted w (c .1) n)
-    (run-emitted v cs ∙ ap (λ (u : World). emitted u (moments-in v cs)) (answered-after w (c .1) n))
-    ∙ sym (emitted-append w ms (moments-in v cs))
+    let a = answered-is w (c .1) n in
+    let ih = run-is v cs in
+    let p = append-is w (moments-done n w (c .1)) (moments-in v cs) in (
+      ih .0 ∙ ap (λ (u : World). after u (moments-in v cs)) (a .0) ∙ sym (p .0),
+      ap₂ _++_ (a .1) (ih .1 ∙ ap (λ (u : World). emitted u (moments-in v cs)) (a .0)) ∙ sym (p .1),
+    )
 
 -- ==== one session
+
+pub length-after : (w : World) (ms : List Moment) → length ((after w ms) .sessions) ≡ length (w .sessions)
+length-after w [] = refl
+length-after w (m ∷ ms) = length-after (next w m) ms ∙ length-row (each w m) 0 (w .sessions)
 
 module _ (s : ℕ) where
   pub lives : (w : World) → s < length (w .sessions) → (ms : List Moment)
@@ -74,4 +63,4 @@ module _ (s : ℕ) where
   -- ITS STATE AND WHAT GOES OUT TO IT, after any calls
   pub own-fold : (w : World) → s < length (w .sessions) → (cs : List (Lent × Call))
       → (session-at (world-after w cs) s, pick s (sent-in w cs)) ≡ lived (w .shared) (session-at w s) (seen-of s (moments-in w cs))
-  own-fold w h cs = rw (run-after w cs, run-emitted w cs) (lives w h (moments-in w cs))
+  own-fold w h cs = rw (run-is w cs .0, run-is w cs .1) (lives w h (moments-in w cs))

@@ -1,15 +1,15 @@
 -- A reader gets back what was written, by the same rows, and needs to know no more rows than it wants.
-use mathlib.Core.Path.{_≡_, refl, sym, ap, ap₂, _∙_}
-use Prim.Native.Nat.{ℕ, zero, suc, _+_, _-_, _*_, _/_, _%_, _^_, _≤_, _<_}
-use native.Mathlib.Nat.{add-zero, suc-add, add-suc, div-add-mod', div-lt-iff-lt-mul, pow-suc}
+use mathlib.Core.Path.{_≡_, refl, ap, _∙_}
+use Prim.Native.Nat.{ℕ, zero, suc, _+_, _-_, _*_, _/_, _%_, _^_, _<_}
+use native.Mathlib.Nat.{add-zero, div-add-mod', div-lt-iff-lt-mul, pow-suc}
 use native.Mathlib.Omega.{arith}
 use mathlib.Core.Bool.{Bool, true, and-eq-true-iff}
 use mathlib.Core.List.{List, [], _∷_, _++_, map, append-assoc}
-use lib.ListN.{length, take, drop, length-replicate, take-append-drop}
-use lib.Seq.{take-at, drop-at, take-take}
+use lib.ListN.{length, length-replicate}
+use lib.Seq.{take-at, drop-at}
 use borrow.Author.Tests.{ltb-true, eqb-true}
 use Rattle.model.specs.Bytes.{space, all, digits, decimal, decimal-from}
-use Rattle.model.specs.Records.{Value, counted, number-at, text-at}
+use Rattle.model.specs.Records.{counted, number-at, text-at}
 use Rattle.model.specs.Layouts.{Sources, source, Row, number, text, blank, known, width-of, characters, label-length, label}
 use Rattle.model.specs.Layouts.{data-from}
 use Rattle.model.specs.FieldsRead.{read-field, read-fields, value-in, legible}
@@ -33,20 +33,15 @@ decimal-digits (suc w) n h =
 -- ==== one field
 
 module _ (b : Sources) where
-  -- what is legible has the row's width
-  width-kept : (row : Row) → legible b row ≡ true → length (characters b row) ≡ width-of row
+  -- what is legible has the row's width, and reads back
+  field-back : (row : Row) → legible b row ≡ true
+      → (length (characters b row) ≡ width-of row) × (read-field row (characters b row) ≡ value-in b row)
   unfolding characters
-  width-kept (number w f i) e = length-digits w (number-at (source b f) i)
-  width-kept (text w f i) e = eqb-true (length (text-at (source b f) i)) w e
-  width-kept (blank w) e = length-replicate w space
-  width-kept (known w n) e = length-digits w n
-
-  pub field-back : (row : Row) → legible b row ≡ true → read-field row (characters b row) ≡ value-in b row
-  unfolding characters
-  field-back (number w f i) e = ap counted (decimal-digits w _ (ltb-true (number-at (source b f) i) (10 ^ w) e))
-  field-back (text w f i) e = refl
-  field-back (blank w) e = refl
-  field-back (known w n) e = ap counted (decimal-digits w n (ltb-true n (10 ^ w) e))
+  field-back (number w f i) e =
+      let n = number-at (source b f) i in (length-digits w n, ap counted (decimal-digits w n (ltb-true n (10 ^ w) e)))
+  field-back (text w f i) e = (eqb-true (length (text-at (source b f) i)) w e, refl)
+  field-back (blank w) e = (length-replicate w space, refl)
+  field-back (known w n) e = (length-digits w n, ap counted (decimal-digits w n (ltb-true n (10 ^ w) e)))
 
   -- ==== all of them
 
@@ -58,44 +53,30 @@ module _ (b : Sources) where
     read-back [] i more ok = refl
     read-back (row ∷ rows) i more ok =
         let t = and-eq-true-iff (legible b row) (all (legible b) rows) .0 ok in
-        let l = label numbered i in
         let v = characters b row in
         let d = data-from numbered (suc i) rows b in
-        let w = width-kept row (t .0) in
-        let e : l ++ v ++ d ++ more ≡ l ++ (v ++ (d ++ more)) = append-assoc (l ++ v) d more ∙ append-assoc l v (d ++ more) in
-        let field : drop (label-length numbered) (l ++ v ++ d ++ more) ≡ v ++ (d ++ more) =
-        ap (drop (label-length numbered)) e ∙ drop-at l (v ++ (d ++ more)) _ (length-digits (label-length numbered) i) in
-        ap (λ (z : List ℕ). read-field row (take (width-of row) z) ∷ read-fields numbered rows (drop (width-of row) z)) field
-        ∙ ap₂ (λ (x y : List ℕ). read-field row x ∷ read-fields numbered rows y)
-        (take-at v (d ++ more) (width-of row) w) (drop-at v (d ++ more) (width-of row) w)
-        ∙ ap₂ (λ (x : Value) (y : List Value). x ∷ y) (field-back row (t .0)) (read-back rows (suc i) more (t .1))
+        let w = field-back row (t .0) in
+        let e : label numbered i ++ v ++ d ++ more ≡ label numbered i ++ (v ++ (d ++ more)) = simp append-assoc in
+        rw (
+          e,
+          drop-at (label numbered i) (v ++ (d ++ more)) _ (length-digits (label-length numbered) i),
+          take-at v (d ++ more) (width-of row) (w .0),
+          drop-at v (d ++ more) (width-of row) (w .0),
+          w .1,
+          read-back rows (suc i) more (t .1),
+        )
 
     -- the data of two lists of rows, the second numbered on from the first
     pub data-append : (xs ys : List Row) (i : ℕ)
         → data-from numbered i (xs ++ ys) b ≡ data-from numbered i xs b ++ data-from numbered (i + length xs) ys b
     unfolding data-from
-    data-append [] ys i = ap (λ (n : ℕ). data-from numbered n ys b) (sym (add-zero i))
+    data-append [] ys i = rw add-zero
     data-append (x ∷ xs) ys i =
-        ap (λ (l : List ℕ). label numbered i ++ characters b x ++ l)
-        (data-append xs ys (suc i)
-        ∙ ap (λ (n : ℕ). data-from numbered (suc i) xs b ++ data-from numbered n ys b)
-        (suc-add i (length xs) ∙ sym (add-suc i (length xs))))
-        ∙ sym (append-assoc (label numbered i ++ characters b x) (data-from numbered (suc i) xs b)
-        (data-from numbered (i + suc (length xs)) ys b))
+        let n : suc i + length xs ≡ i + suc (length xs) = omega arith in
+        rw (data-append xs ys (suc i), n) (simp append-assoc)
 
     -- so by fewer rows a reader gets the values of these out of data that has more
     pub read-fewer : (xs ys : List Row) → all (legible b) xs ≡ true
         → read-fields numbered xs (data-from numbered 1 (xs ++ ys) b) ≡ map (value-in b) xs
     read-fewer xs ys ok =
-        ap (read-fields numbered xs) (data-append xs ys 1) ∙ read-back xs 1 (data-from numbered (1 + length xs) ys b) ok
-
-    -- the data of the first so many rows is what that of more of them begins with
-    pub data-begins : (rows : List Row) (n m : ℕ) → n ≤ m
-        → take (length (data-from numbered 1 (take n rows) b)) (data-from numbered 1 (take m rows) b) ≡ data-from numbered 1 (take n rows) b
-    data-begins rows n m h =
-        let xs = take n rows in
-        let ys = drop n (take m rows) in
-        let d = data-from numbered 1 xs b in
-        let e : take m rows ≡ xs ++ ys = sym (take-append-drop n (take m rows)) ∙ ap (λ (l : List Row). l ++ ys) (take-take n m rows h) in
-        ap (λ (l : List Row). take (length d) (data-from numbered 1 l b)) e
-        ∙ ap (take (length d)) (data-append xs ys 1) ∙ take-at d (data-from numbered (1 + length xs) ys b) (length d) refl
+        rw (data-append xs ys 1) (read-back xs 1 (data-from numbered (1 + length xs) ys b) ok)

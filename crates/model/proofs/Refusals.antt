@@ -1,17 +1,17 @@
 -- Of what a call is lent, its refusal asks no more than the three tests do; and no call's own tests give their numbers.
-use Prim.Native.Nat.{ℕ, _<_}
-use mathlib.Core.Path.{_≡_, refl, sym, _∙_, ap}
-use mathlib.Core.Bool.{Bool, true, false, not, cond, _&&_}
+use Prim.Native.Nat.{ℕ, suc}
+use mathlib.Core.Path.{_≡_, refl}
+use mathlib.Core.Bool.{Bool, true, false, not, cond, _&&_, and-false}
 use mathlib.Core.List.{List, [], _∷_}
 use native.Mathlib.Omega.{arith}
-use lib.Dec.{leb, ltb, eqb}
-use Rattle.model.specs.Limits.{session-count, table-least, output-least, number-greatest}
-use Rattle.model.specs.Tests.{_gives_, first}
-use Rattle.model.specs.Records.{read-settings, read-tool}
-use Rattle.model.specs.Session.{is-closed}
-use Rattle.model.specs.World.{World, session-at}
-use Rattle.model.specs.Calls.{Call, start, open-session, hang-up-session, bytes, one-tick, tool, Lent, Asks, tests, is-none}
-use Rattle.model.specs.Calls.{is-tightening, does, refusal, answered, step}
+use lib.Dec.{ltb, eqb}
+use Rattle.model.specs.Limits.{table-least, output-least}
+use Rattle.model.specs.Tests.{Test, _gives_, first}
+use Rattle.model.specs.Bytes.{all}
+use Rattle.model.proofs.Framed.{left, right}
+use borrow.Author.Tests.{eqb-false, not-true}
+use Rattle.model.specs.World.{World}
+use Rattle.model.specs.Calls.{Call, start, open-session, hang-up-session, bytes, one-tick, tool, Lent, does, refusal, answered, step}
 
 -- ==== what is lent to it
 
@@ -29,59 +29,48 @@ module _ (l : Lent) (w : World) (e : ltb (l .table) table-least ≡ true) where
   unfolding step refusal
   step-1 c = rw e
 
--- ==== its own tests: 0, or a number behind those of what is lent
+-- ==== its own tests: none gives 2
 
-abbrev Beyond : ℕ → Type 0
-Beyond n = (n ≡ 0 → ⊥) → 3 < n
+own-not-2 : (w : World) (c : Call) → all (λ t. not (eqb (t .answer) 2)) ((does w c) .asks .own) ≡ true
+own-not-2 w (start slice) = refl
+own-not-2 w (open-session s) = refl
+own-not-2 w (hang-up-session s) = refl
+own-not-2 w (bytes s bs) = refl
+own-not-2 w one-tick = refl
+own-not-2 w (tool slice) = refl
 
-two : (a b : Bool) (m n : ℕ) → 3 < m → 3 < n → Beyond (first 0 (a gives m ∷ b gives n ∷ []))
-two true b m n h k z = h
-two false true m n h k z = k
-two false false m n h k z = absurd (z refl)
-
-own-beyond : (w : World) (c : Call) → Beyond (first 0 ((does w c) .asks .own))
-own-beyond w (start slice) = two false (is-none (read-settings slice)) 4 9 (omega arith) (omega arith)
-own-beyond w (open-session s) = two (leb session-count s) (not (is-closed (session-at w s))) 4 6 (omega arith) (omega arith)
-own-beyond w (hang-up-session s) = two (leb session-count s) (is-closed (session-at w s)) 4 5 (omega arith) (omega arith)
-own-beyond w (bytes s bs) = two (leb session-count s) (is-closed (session-at w s)) 4 5 (omega arith) (omega arith)
-own-beyond w one-tick = λ z. absurd (z refl)
-own-beyond w (tool slice) =
-    two (is-none (read-tool slice)) (cond (is-tightening (read-tool slice)) (eqb (w .shared .last) number-greatest) false) 7 8 (omega arith)
-    (omega arith)
+not-2 : (ts : List (Test ℕ)) → all (λ t. not (eqb (t .answer) 2)) ts ≡ true → first 0 ts ≡ 2 → ⊥
+not-2 [] h e = omega arith
+not-2 (t ∷ ts) h e = go (t .applies) e (not-2 ts (right (not (eqb (t .answer) 2)) _ h))
+  where
+    go : (b : Bool) → cond b (t .answer) (first 0 ts) ≡ 2 → (first 0 ts ≡ 2 → ⊥) → ⊥
+    go true q ih = eqb-false (t .answer) 2 (not-true (eqb (t .answer) 2) (left _ (all (λ t. not (eqb (t .answer) 2)) ts) h)) q
+    go false q ih = ih q
 
 -- ==== so of any call
 
-module _ (l : Lent) (w : World) (c : Call) where
-  -- the numbers of what is lent, and behind them that of its own tests
-  abbrev by-tests : Bool → Bool → Bool → ℕ → ℕ
-  by-tests a b d n = cond a 1 (cond b 2 (cond d 3 n))
+-- a test that gives a number does not apply where 0 is the answer
+pub past : (b : Bool) (m r : ℕ) → cond b (suc m) r ≡ 0 → (b ≡ false) × (r ≡ 0)
+past true m r e = absurd (omega arith)
+past false m r e = (refl, e)
 
+module _ (l : Lent) (w : World) (c : Call) where
   -- on a well formed table it is not refused with 2
   pub never-2 : l .well-formed ≡ true → refusal l w c ≡ 2 → ⊥
   unfolding refusal
-  never-2 f =
-      go (ltb (l .table) table-least) ((does w c) .asks .table) (l .well-formed) ((does w c) .asks .output && ltb (l .output) output-least)
-      (first 0 ((does w c) .asks .own)) f (own-beyond w c)
-    where
-      go : (a asks formed d : Bool) (n : ℕ) → formed ≡ true → Beyond n → by-tests a (asks && not formed) d n ≡ 2 → ⊥
-      go true asks formed d n e h z = omega arith
-      go false asks false d n e h z = let k : _≡_ {A = ℕ} 0 1 = cc in omega arith
-      go false true true true n e h z = omega arith
-      go false true true false n e h z = let k = h (λ (y : n ≡ 0). omega arith) in omega arith
-      go false false true true n e h z = omega arith
-      go false false true false n e h z = let k = h (λ (y : n ≡ 0). omega arith) in omega arith
+  never-2 f e =
+      not-2
+      (ltb (l .table) table-least gives 1 ∷ ((does w c) .asks .output && ltb (l .output) output-least) gives 3 ∷ (does w c) .asks .own)
+      (own-not-2 w c) (rw (f, and-false) at e)
 
-  -- one that is done, and asks for an output, was lent one that is long enough
-  pub has-output : refusal l w c ≡ 0 → (does w c) .asks .output ≡ true → ltb (l .output) output-least ≡ false
+  -- one that is done has passed the test of its output, and its own
+  pub done : refusal l w c ≡ 0
+      → (((does w c) .asks .output && ltb (l .output) output-least) ≡ false) × (first 0 ((does w c) .asks .own) ≡ 0)
   unfolding refusal
-  has-output e a =
-      go (ltb (l .table) table-least) ((does w c) .asks .table && not (l .well-formed)) ((does w c) .asks .output)
-      (ltb (l .output) output-least)
-      (first 0 ((does w c) .asks .own)) a e
-    where
-      go : (s f a d : Bool) (n : ℕ) → a ≡ true → by-tests s f (a && d) n ≡ 0 → d ≡ false
-      go true f a d n h z = absurd (omega arith)
-      go false true a d n h z = absurd (omega arith)
-      go false false true true n h z = absurd (omega arith)
-      go false false true false n h z = refl
-      go false false false d n h z = let k : _≡_ {A = ℕ} 0 1 = cc in absurd (omega arith)
+  done e =
+      let more = past ((does w c) .asks .table && not (l .well-formed)) 1 _ (past (ltb (l .table) table-least) 0 _ e .1) .1 in
+      past ((does w c) .asks .output && ltb (l .output) output-least) 2 _ more
+
+  -- so where it asks for an output, that is long enough
+  pub has-output : refusal l w c ≡ 0 → (does w c) .asks .output ≡ true → ltb (l .output) output-least ≡ false
+  has-output e a = rw a at (done e .0)

@@ -1,16 +1,14 @@
 -- What a call is to a session, by the table of sights, is what the call does: what the session sees of its moment, and the event that it
 -- is. So a call goes for a session.
-use Prim.Native.Nat.{ℕ, suc, _<_}
+use Prim.Native.Nat.{ℕ, _<_}
 use mathlib.Core.Path.{_≡_, refl, sym, _∙_, ap}
-use mathlib.Core.Bool.{Bool, true, false, not, cond, _&&_, true≢false}
-use mathlib.Core.List.{List, [], _∷_, _++_, append-nil}
+use mathlib.Core.Bool.{Bool, true, false, not, cond, true≢false}
+use mathlib.Core.List.{List, [], _++_, append-nil}
 use mathlib.Core.Option.{Option, none, some, Option·map as option-map}
-use native.Mathlib.Omega.{arith}
-use lib.Dec.{leb, ltb, eqb}
+use lib.Dec.{leb, eqb}
 use lib.ListN.{length}
 use borrow.Author.Tests.{eqb-true, leb-false, not-false}
-use Rattle.model.specs.Limits.{session-count, table-least, output-least}
-use Rattle.model.specs.Tests.{_gives_, first}
+use Rattle.model.specs.Limits.{session-count}
 use Rattle.model.specs.Records.{Settings, read-settings, Tool, read-tool}
 use Rattle.model.specs.Runs.{Piece, cut}
 use Rattle.model.specs.Events.{Event, identified}
@@ -18,33 +16,14 @@ use Rattle.model.specs.Sharing.{Shared, shared-with, reported}
 use Rattle.model.specs.Row.{pick}
 use Rattle.model.specs.Session.{Session, is-closed, Emission}
 use Rattle.model.specs.Local.{Local, opening, hang-up, receives, tick, event, elsewhere, step, announces}
-use Rattle.model.specs.World.{World, session-at, Moment, begins, hears, happens, each, next, after, emitted}
+use Rattle.model.specs.World.{World, session-at, Moment, begins, hears, after, emitted}
 use Rattle.model.specs.Calls.{Call, start, open-session, hang-up-session, bytes, one-tick, tool, Lent, is-none, taken-by, does}
 use Rattle.model.specs.Calls.{refusal, at-most-one, happening}
+use Rattle.model.specs.Own.{seen-of, lived}
 use Rattle.model.specs.Sights.{Sight, sighted, sight, starts, reports, speaker}
-use Rattle.model.proofs.RowLaws.{length-row}
-use Rattle.model.proofs.Lived.{lives}
+use Rattle.model.proofs.Refusals.{past, done}
+use Rattle.model.proofs.Lived.{length-after, lives}
 use Rattle.model.proofs.Clean.{there}
-
--- ==== a call that is done has passed its own tests
-
-own-passed : (l : Lent) (w : World) (c : Call) → refusal l w c ≡ 0 → first 0 ((does w c) .asks .own) ≡ 0
-unfolding refusal
-own-passed l w c =
-    let asks = (does w c) .asks in
-    go (ltb (l .table) table-least) (asks .table && not (l .well-formed)) (asks .output && ltb (l .output) output-least)
-    (first 0 (asks .own))
-  where
-    go : (a b d : Bool) (n : ℕ) → cond a 1 (cond b 2 (cond d 3 n)) ≡ 0 → n ≡ 0
-    go true b d n h = absurd (omega arith)
-    go false true d n h = absurd (omega arith)
-    go false false true n h = absurd (omega arith)
-    go false false false n h = h
-
-neither-applies : (a b : Bool) (m n : ℕ) → first 0 (a gives suc m ∷ b gives suc n ∷ []) ≡ 0 → (a ≡ false) × (b ≡ false)
-neither-applies true b m n h = absurd (omega arith)
-neither-applies false true m n h = absurd (omega arith)
-neither-applies false false m n h = (refl, refl)
 
 -- ==== what a session sees of the moment of a call
 
@@ -100,22 +79,23 @@ pub record Coherent (w : World) (c : Call) : Type 0 where
   pub leaves : starts c ≡ false → (after w (at-most-one ((does w c) .moment))) .shared ≡ w .shared
 
 module _ (l : Lent) (w : World) where
-  -- no opening, and nobody speaks
-  no-opening : (s : ℕ) → false ≡ true → is-closed (session-at w s) ≡ true
-  no-opening s e = absurd (true≢false (sym e))
-
-  nobody : (t : ℕ) → none ≡ some t → t < session-count
-  nobody t e = absurd (there (sym e))
+  -- a call that opens nothing, and by which nobody speaks
+  silent : (c : Call) → ((s : ℕ) → Sees (sight s c) (its-part s ((does w c) .moment))) → ((s : ℕ) → (sight s c) .opens ≡ false)
+      → Source w c → speaker c ≡ none → ((s : ℕ) → (sight s c) .starts ≡ starts c)
+      → (starts c ≡ false → (after w (at-most-one ((does w c) .moment))) .shared ≡ w .shared) → Coherent w c
+  silent c sees shut source none-speaks alike leaves = record {
+    sees = sees;
+    opens = λ s e. absurd (true≢false (sym e ∙ shut s));
+    event = source;
+    speaks = λ t e. absurd (there (sym e ∙ none-speaks));
+    alike = alike;
+    leaves = leaves;
+  }
 
   pub coherent : (c : Call) → refusal l w c ≡ 0 → Coherent w c
-  coherent (start slice) h = record {
-    sees = λ s. go s (read-settings slice) (neither-applies false (is-none (read-settings slice)) 0 8 (own-passed l w (start slice) h) .1);
-    opens = no-opening;
-    event = no-event refl refl refl;
-    speaks = nobody;
-    alike = λ s. refl;
-    leaves = λ e. absurd (true≢false e);
-  }
+  coherent (start slice) h =
+      silent (start slice) (λ s. go s (read-settings slice) (past (is-none (read-settings slice)) 8 0 (done l w (start slice) h .1) .0))
+      (λ s. refl) (no-event refl refl refl) refl (λ s. refl) (λ e. absurd (true≢false e))
     where
       go : (s : ℕ) (o : Option Settings) → is-none o ≡ false → Sees (sight s (start slice)) (its-part s (option-map begins o))
       go s none e = absurd (true≢false e)
@@ -125,9 +105,9 @@ module _ (l : Lent) (w : World) where
     opens = λ s e.
         rw (eqb-true s t e)
         (not-false (is-closed (session-at w t))
-        (neither-applies (leb session-count t) (not (is-closed (session-at w t))) 3 5 (own-passed l w (open-session t) h) .1));
+        (past (not (is-closed (session-at w t))) 5 0 (past (leb session-count t) 3 _ (done l w (open-session t) h .1) .1) .0));
     event = no-event refl refl refl;
-    speaks = nobody;
+    speaks = λ s e. absurd (there (sym e));
     alike = λ s. refl;
     leaves = λ e. refl;
   }
@@ -135,27 +115,19 @@ module _ (l : Lent) (w : World) where
       go : (b : Bool) → Sees (sighted b false b false false none none none) (cond b opening elsewhere)
       go true = its-opening
       go false = nothing
-  coherent (hang-up-session t) h = record {
-    sees = λ s. go (eqb s t);
-    opens = no-opening;
-    event = no-event refl refl refl;
-    speaks = nobody;
-    alike = λ s. refl;
-    leaves = λ e. refl;
-  }
+  coherent (hang-up-session t) h =
+      silent (hang-up-session t) (λ s. go (eqb s t)) (λ s. refl) (no-event refl refl refl) refl (λ s. refl) (λ e. refl)
     where
       go : (b : Bool) → Sees (sighted b false false b false none none none) (cond b hang-up elsewhere)
       go true = its-hang-up
       go false = nothing
   coherent (bytes t bs) h = record {
     sees = λ s. go (eqb s t);
-    opens = no-opening;
+    opens = λ s e. absurd (true≢false (sym e));
     event = from-session t (cut bs) refl refl refl refl;
     speaks = λ s e.
         let q : t ≡ s = cc in
-        rw (← q)
-        (leb-false session-count t
-        (neither-applies (leb session-count t) (is-closed (session-at w t)) 3 4 (own-passed l w (bytes t bs) h) .0));
+        rw (← q) (leb-false session-count t (past (leb session-count t) 3 _ (done l w (bytes t bs) h .1) .0));
     alike = λ s. refl;
     leaves = λ e. refl;
   }
@@ -164,22 +136,8 @@ module _ (l : Lent) (w : World) where
           → Sees (sighted b false false false false (cond b (some (cut bs)) none) none (some t)) (cond b (receives (cut bs)) elsewhere)
       go true = its-bytes
       go false = nothing
-  coherent one-tick h = record {
-    sees = λ s. a-tick;
-    opens = no-opening;
-    event = no-event refl refl refl;
-    speaks = nobody;
-    alike = λ s. refl;
-    leaves = λ e. refl;
-  }
-  coherent (tool slice) h = record {
-    sees = λ s. nothing;
-    opens = no-opening;
-    event = go (read-tool slice) refl;
-    speaks = nobody;
-    alike = λ s. refl;
-    leaves = λ e. refl;
-  }
+  coherent one-tick h = silent one-tick (λ s. a-tick) (λ s. refl) (no-event refl refl refl) refl (λ s. refl) (λ e. refl)
+  coherent (tool slice) h = silent (tool slice) (λ s. nothing) (λ s. refl) (go (read-tool slice) refl) refl (λ s. refl) (λ e. refl)
     where
       go : (o : Option Tool) → read-tool slice ≡ o → Source w (tool slice)
       go none e = no-event e refl (rw e)
@@ -200,26 +158,22 @@ module _ (w : World) (s : ℕ) (h : s < length (w .sessions)) where
 
   pub goes-to : (o : Option Moment) (e : Option Event) → let ms = at-most-one o ++ happening e in
       (session-at (after w ms) s ≡ (then-of o e) .0) × (pick s (emitted w ms) ≡ (first-of o) .1 ++ (then-of o e) .1)
-  goes-to none none = (refl, refl)
-  goes-to none (some e) =
-      let q = lives s w h (happens e ∷ []) in
-      (ap (λ (r : Session × List Emission). r .0) q, ap (λ (r : Session × List Emission). r .1) q ∙ append-nil _)
-  goes-to (some m) none =
-      let q = lives s w h (m ∷ []) in (ap (λ (r : Session × List Emission). r .0) q, ap (λ (r : Session × List Emission). r .1) q)
-  goes-to (some m) (some e) =
-      let q = lives s w h (m ∷ happens e ∷ []) in (
-        ap (λ (r : Session × List Emission). r .0) q,
-        ap (λ (r : Session × List Emission). r .1) q ∙ ap ((first-of (some m)) .1 ++_) (append-nil _),
-      )
+  goes-to o e =
+      let q = lives s w h (at-most-one o ++ happening e) ∙ both-of o e in
+      (ap (λ (r : Session × List Emission). r .0) q, ap (λ (r : Session × List Emission). r .1) q)
+    where
+      both-of : (o : Option Moment) (e : Option Event)
+          → lived (w .shared) (session-at w s) (seen-of s (at-most-one o ++ happening e))
+          ≡ ((then-of o e) .0, (first-of o) .1 ++ (then-of o e) .1)
+      both-of none none = refl
+      both-of none (some e) = simp append-nil
+      both-of (some m) none = refl
+      both-of (some m) (some e) = simp append-nil
 
 module _ (w : World) where
   pub after-length : (o : Option Moment) (e : Option Event)
       → length ((after w (at-most-one o ++ happening e)) .sessions) ≡ length (w .sessions)
-  after-length none none = refl
-  after-length none (some e) = length-row (each w (happens e)) 0 (w .sessions)
-  after-length (some m) none = length-row (each w m) 0 (w .sessions)
-  after-length (some m) (some e) =
-      length-row (each (next w m) (happens e)) 0 ((next w m) .sessions) ∙ length-row (each w m) 0 (w .sessions)
+  after-length o e = length-after w (at-most-one o ++ happening e)
 
   pub after-shared : (o : Option Moment) (e : Option Event)
       → (after w (at-most-one o ++ happening e)) .shared ≡ shared-with ((after w (at-most-one o)) .shared) e

@@ -1,36 +1,36 @@
 -- What a call sends, whatever came before it: frames that a line server reads alike by their NUL and by their length, and at most one
 -- reply, the first of them, to the session whose bytes completed the message that it answers. Each reads back.
-use Prim.Native.Nat.{ℕ, zero, suc, _+_, _≤_, _<_}
-use mathlib.Core.Path.{_≡_, refl, sym, _∙_, ap, subst}
-use mathlib.Core.Bool.{Bool, true, false, not, cond}
+use Prim.Native.Nat.{ℕ, zero, suc, _+_, _≤_}
+use mathlib.Core.Path.{_≡_, refl, sym, _∙_, subst}
+use mathlib.Core.Bool.{Bool, false, cond}
 use mathlib.Core.List.{List, [], _∷_, _++_}
 use mathlib.Core.Option.{Option, none, some, Option·map as option-map}
 use native.Mathlib.Omega.{arith}
-use lib.Dec.{leb, ltb, eqb}
-use lib.ListN.{length, getD, replicate}
-use borrow.Author.Tests.{eqb-true, eqb-false, eq-eqb}
-use Rattle.model.specs.Limits.{session-count, table-least, output-least, identifier-length, number-greatest}
+use lib.Dec.{eqb}
+use lib.ListN.{replicate}
+use borrow.Author.Tests.{eqb-false, eq-eqb}
+use Rattle.model.specs.Limits.{session-count, number-greatest}
 use Rattle.model.specs.Bytes.{is-space, all}
 use Rattle.model.specs.Records.{Settings, read-settings, Tool, scanned, tightening, read-tool}
 use Rattle.model.specs.Runs.{Piece, cut, Message}
-use Rattle.model.specs.Events.{Event, identified, tightened, identifier-of}
-use Rattle.model.specs.Tests.{_gives_, first}
-use Rattle.model.specs.Sharing.{Shared, in-force-after, reported}
+use Rattle.model.specs.Events.{Event, identified, identifier-of}
+use Rattle.model.specs.Sharing.{reported}
 use Rattle.model.specs.Row.{Tagged, tag}
 use Rattle.model.specs.Session.{Session, closed, Emission, reply}
-use Rattle.model.specs.Local.{Local, opening, hang-up, receives, tick, elsewhere, step as session-step, announces}
-use Rattle.model.specs.World.{World, session-at, Change, no-change, by-event, by-start, Moment, to, begins, hears}
+use Rattle.model.specs.Local.{Local, opening, hang-up, receives, elsewhere, announces}
+use Rattle.model.specs.World.{World, session-at, Change, no-change, by-event, by-start, Moment, to, begins, hears, ticks, happens}
 use Rattle.model.specs.World.{begun, each, sessions-after, changed, next, emits, after, emitted}
-use Rattle.model.specs.Calls.{Call, start, open-session, hang-up-session, bytes, one-tick, tool, Lent, refusal, does}
+use Rattle.model.specs.Calls.{Call, start, open-session, hang-up-session, bytes, one-tick, tool, Lent, refusal}
 use Rattle.model.specs.Calls.{is-none, is-tightening, at-most-one, happening, moments, answered, step}
 use Rattle.model.specs.Sights.{sight}
 use Rattle.model.specs.Wire.{Every, Framed, Answers}
 use Rattle.model.specs.FieldsRead.{ReplyReads}
-use Rattle.model.proofs.Framed.{both, every-append, either, Identifier, identifier-spaces, CleanSettings, CleanEvent}
+use Rattle.model.proofs.Framed.{every-append, every-at, IfAny, either, Identifier, identifier-spaces, CleanSettings, CleanEvent}
 use Rattle.model.proofs.Legible.{identified-clean, tightened-clean}
-use Rattle.model.proofs.Clean.{CleanStart, clean-start, CleanTool, clean-tool, nul-cut, there}
+use Rattle.model.proofs.Clean.{clean-start, CleanTool, clean-tool, nul-cut, there}
 use Rattle.model.proofs.Sent.{Follows, Says, quiet, answers, row-every, said-every, CleanSession, CleanLocal, completes, heard}
-use Rattle.model.proofs.Sent.{CleanTold, step-clean, announces-clean}
+use Rattle.model.proofs.Sent.{tag-every, step-clean, announces-clean}
+use Rattle.model.proofs.Refusals.{past, done}
 use Rattle.model.proofs.InTurn.{either-emits}
 
 -- ==== the world, and a moment
@@ -62,30 +62,23 @@ pub begun-clean : (st : Settings) (events : ℕ) → CleanSettings st → CleanW
 begun-clean st events h =
     record { settings = h; in-force = identifier-spaces; last = h .last; sessions = closed-clean session-count }
 
-in-force-clean : (x : List ℕ) (e : Event) → Identifier x → CleanEvent e → Identifier (in-force-after x e)
-in-force-clean x (identified y) h c = record {
-  clean = c .texts .0;
-  whole = eqb-true (length y) identifier-length (both (eqb (length y) identifier-length) true (c .within) .0);
-}
-in-force-clean x (tightened r) h c = h
+next-clean : (w : World) → CleanWorld w → (m : Moment) → CleanMoment m → CleanWorld (next w m)
+next-clean w h m c = go (m .leaves) (c .leaves)
+  where
+    sessions : Every CleanSession (sessions-after w m)
+    sessions =
+        row-every (each w m) CleanSession (λ s x k. step-clean (w .shared) (h .settings) (m .sees s) x (c .sees s) k .0)
+        0 (w .sessions) (h .sessions)
 
-changed-clean : (g : Shared) (c : Change) → CleanSettings (g .settings) → Identifier (g .in-force) → g .last ≤ number-greatest
-    → CleanChange c
-    → CleanSettings ((changed g c) .settings) × Identifier ((changed g c) .in-force) × ((changed g c) .last ≤ number-greatest)
-changed-clean g no-change h k n c = (h, k, n)
-changed-clean g (by-event e) h k n c = (h, in-force-clean (g .in-force) e k c, c .last (g .last) n)
-changed-clean g (by-start st) h k n c = (c, identifier-spaces, c .last)
-
-module _ (w : World) (h : CleanWorld w) (m : Moment) (c : CleanMoment m) where
-  sessions-clean : Every CleanSession (sessions-after w m)
-  sessions-clean =
-      row-every (each w m) CleanSession (λ s x k. step-clean (w .shared) (h .settings) (m .sees s) x (c .sees s) k .0)
-      0 (w .sessions) (h .sessions)
-
-  next-clean : CleanWorld (next w m)
-  next-clean =
-      let g = changed-clean (w .shared) (m .leaves) (h .settings) (h .in-force) (h .last) (c .leaves) in
-      record { settings = g .0; in-force = g .1; last = g .2; sessions = sessions-clean }
+    go : (l : Change) → CleanChange l → CleanWorld (record { shared = changed (w .shared) l; sessions = sessions-after w m })
+    go no-change k = record { settings = h .settings; in-force = h .in-force; last = h .last; sessions = sessions }
+    go (by-event e) k = record {
+      settings = h .settings;
+      in-force = k .in-force (w .shared .in-force) (h .in-force);
+      last = k .last (w .shared .last) (h .last);
+      sessions = sessions;
+    }
+    go (by-start st) k = record { settings = k; in-force = identifier-spaces; last = k .last; sessions = sessions }
 
 -- ==== what goes out, by session
 
@@ -93,18 +86,10 @@ module _ (w : World) (h : CleanWorld w) (m : Moment) (c : CleanMoment m) where
 abbrev pub Silent : Settings → List (Tagged Emission) → Type 0
 Silent st es = Every (λ t. Follows st (t .what)) es
 
-module _ (st : Settings) where
-  silent-tag : (s : ℕ) (es : List Emission) → Every (Follows st) es → Silent st (tag s es)
-  silent-tag s [] h = tt
-  silent-tag s (e ∷ es) h = (h .0, silent-tag s es (h .1))
-
-  silent-append : (xs ys : List (Tagged Emission)) → Silent st xs → Silent st ys → Silent st (xs ++ ys)
-  silent-append xs ys h k = every-append (λ t. Follows st (t .what)) xs ys h k
-
-  -- to whom no message is heard, no reply goes
-  unheard : {o : Option Message} {es : List Emission} → o ≡ none → Says st o es → Every (Follows st) es
-  unheard n (quiet h) = h
-  unheard n (answers e a f b h) = absurd (there (sym e ∙ n))
+-- to whom no message is heard, no reply goes
+unheard : {st : Settings} {o : Option Message} {es : List Emission} → o ≡ none → Says st o es → Every (Follows st) es
+unheard n (quiet h) = h
+unheard n (answers e a f b h) = absurd (there (sym e ∙ n))
 
 -- a moment of which no session hears a message
 abbrev Unheard : Moment → Type 0
@@ -113,83 +98,52 @@ Unheard m = (s : ℕ) (x : Session) → heard (m .sees s) x ≡ none
 to-unheard : (s : ℕ) (l : Local) → ((x : Session) → heard l x ≡ none) → Unheard (to s l)
 to-unheard s l h t x = either (λ i. heard i x ≡ none) (eqb t s) l elsewhere (h x) refl
 
-emits-silent : (w : World) → CleanWorld w → (m : Moment) → CleanMoment m → Unheard m
-    → Silent (w .shared .settings) (emits w m)
-emits-silent w h m c u =
-    let st = w .shared .settings in
-    said-every (each w m) CleanSession (Follows st)
-    (λ s x k. unheard st (u s x) (step-clean (w .shared) (h .settings) (m .sees s) x (c .sees s) k .1)) 0 (w .sessions) (h .sessions)
-
 -- ==== moments one after another
 
 after-clean : (w : World) (ms : List Moment) → CleanWorld w → Every CleanMoment ms → CleanWorld (after w ms)
 after-clean w [] h c = h
 after-clean w (m ∷ ms) h c = after-clean (next w m) ms (next-clean w h m (c .0)) (c .1)
 
--- at most one that none hears
-data AtMostOne : List Moment → Type 0 where
-  no-moment : AtMostOne []
-  a-moment : {m : Moment} → Unheard m → AtMostOne (m ∷ [])
-
-emitted-silent : (w : World) {ms : List Moment} → CleanWorld w → Every CleanMoment ms → AtMostOne ms
-    → Silent (w .shared .settings) (emitted w ms)
-emitted-silent w h c no-moment = tt
-emitted-silent w h c (a-moment {m} u) = silent-append (w .shared .settings) (emits w m) [] (emits-silent w h m (c .0) u) tt
+-- one that none hears
+one-silent : (w : World) → CleanWorld w → (m : Moment) → CleanMoment m → Unheard m
+    → Every CleanMoment (m ∷ []) × Silent (w .shared .settings) (emitted w (m ∷ []))
+one-silent w h m c u =
+    let st = w .shared .settings in (
+      (c, tt),
+      every-append (λ t. Follows st (t .what)) (emits w m) []
+          (said-every (each w m) CleanSession (Follows st)
+          (λ s x k. unheard (u s x) (step-clean (w .shared) (h .settings) (m .sees s) x (c .sees s) k .1)) 0 (w .sessions) (h .sessions))
+          tt,
+    )
 
 -- ==== the moments of a call: settings, tool records and identifiers over the net are tested before they come in
 
-abbrev CleanNews : Option Event → Type 0
-CleanNews none = Unit {0}
-CleanNews (some e) = CleanEvent e
+happening-silent : (w : World) → CleanWorld w → (o : Option Event) → IfAny CleanEvent o
+    → Every CleanMoment (happening o) × Silent (w .shared .settings) (emitted w (happening o))
+happening-silent w h none k = (tt, tt)
+happening-silent w h (some e) k = one-silent w h (happens e) (record { sees = λ s. k; leaves = k }) (λ s x. refl)
 
-happening-clean : (o : Option Event) → CleanNews o → Every CleanMoment (happening o)
-happening-clean none h = tt
-happening-clean (some e) h = (record { sees = λ s. h; leaves = h }, tt)
-
-happening-one : (o : Option Event) → AtMostOne (happening o)
-happening-one none = no-moment
-happening-one (some e) = a-moment (λ s x. refl)
-
-told-clean : (o : Option (List ℕ)) → CleanTold o → CleanNews (option-map identified o)
+told-clean : (o : Option (List ℕ)) → IfAny Identifier o → IfAny CleanEvent (option-map identified o)
 told-clean none h = tt
 told-clean (some x) h = identified-clean x h
-
-identifier-clean : (x y : List ℕ) → Identifier x → Identifier y → Identifier (identifier-of x y)
-identifier-clean x y h k = either Identifier (all is-space x) y x k h
 
 -- (a tightening is refused where the last number is reached)
 abbrev reaches-last : World → Option Tool → Bool
 reaches-last w o = cond (is-tightening o) (eqb (w .shared .last) number-greatest) false
 
-reported-clean : (w : World) (o : Option Tool) → CleanWorld w → CleanTool o → reaches-last w o ≡ false
-    → CleanNews (option-map (reported (w .shared)) o)
+reported-clean : (w : World) (o : Option Tool) → CleanWorld w → IfAny CleanTool o → reaches-last w o ≡ false
+    → IfAny CleanEvent (option-map (reported (w .shared)) o)
 reported-clean w none h c e = tt
 reported-clean w (some (scanned x)) h c e = identified-clean x c
 reported-clean w (some (tightening x t)) h c e =
     let last = h .last in
     tightened-clean (record { number = w .shared .last + 1; identifier = identifier-of x (w .shared .in-force); tightening = t })
-    (identifier-clean x (w .shared .in-force) (c .0) (h .in-force)) (c .1) (c .2)
+    (either Identifier (all is-space x) (w .shared .in-force) x (h .in-force) (c .0)) (c .1) (c .2)
     (omega (arith, eqb-false (w .shared .last) number-greatest e))
 
--- of five tests none applies
-fifth : (a b c d e : Bool) → first {A = ℕ} 0 (a gives 1 ∷ b gives 2 ∷ c gives 3 ∷ d gives 7 ∷ e gives 8 ∷ []) ≡ 0 → e ≡ false
-fifth true b c d e h = absurd (omega arith)
-fifth false true c d e h = absurd (omega arith)
-fifth false false true d e h = absurd (omega arith)
-fifth false false false true e h = absurd (omega arith)
-fifth false false false false true h = absurd (omega arith)
-fifth false false false false false h = refl
-
 not-last : (l : Lent) (w : World) (slice : List ℕ) → refusal l w (tool slice) ≡ 0 → reaches-last w (read-tool slice) ≡ false
-unfolding refusal
 not-last l w slice e =
-    let o = read-tool slice in
-    fifth (ltb (l .table) table-least) (not (l .well-formed)) (ltb (l .output) output-least) (is-none o) (reaches-last w o) e
-
-session-clean : (xs : List Session) (s : ℕ) → Every CleanSession xs → CleanSession (getD xs s closed)
-session-clean [] s h = tt
-session-clean (x ∷ xs) zero h = h .0
-session-clean (x ∷ xs) (suc s) h = session-clean xs s (h .1)
+    past (reaches-last w (read-tool slice)) 7 0 (past (is-none (read-tool slice)) 6 _ (done l w (tool slice) e .1) .1) .0
 
 -- ==== a call
 
@@ -211,63 +165,62 @@ pub data Sends (w : World) (c : Call) : List (Tagged Emission) → Type 0 where
 -- what goes out to one session, and after it what is silent
 sends-to : {w : World} {c : Call} (s : ℕ) {o : Option Message} {es : List Emission} (more : List (Tagged Emission))
     → Says (w .shared .settings) o es → completed w c s ≡ o → Silent (w .shared .settings) more → Sends w c (tag s es ++ more)
-sends-to {w = w} s more (quiet {es = es} h) e k =
-    let st = w .shared .settings in none-replies (silent-append st (tag s es) more (silent-tag st s es h) k)
-sends-to {w = w} s more (answers {es = es} f a b r h) e k =
-    let st = w .shared .settings in replies (e ∙ f) a b r (silent-append st (tag s es) more (silent-tag st s es h) k)
+sends-to s more (quiet {es = es} h) e k = none-replies (every-append (λ t. Follows _ (t .what)) (tag s es) more (tag-every _ s es h) k)
+sends-to s more (answers {es = es} f a b r h) e k =
+    replies (e ∙ f) a b r (every-append (λ t. Follows _ (t .what)) (tag s es) more (tag-every _ s es h) k)
 
 module _ (w : World) (h : CleanWorld w) where
-  silently : (c : Call) {ms : List Moment} → Every CleanMoment ms → AtMostOne ms → Every CleanMoment ms × Sends w c (emitted w ms)
-  silently c k u = (k, none-replies (emitted-silent w h k u))
+  one-sends : (c : Call) (m : Moment) → CleanMoment m → Unheard m → Every CleanMoment (m ∷ []) × Sends w c (emitted w (m ∷ []))
+  one-sends c m k u = let q = one-silent w h m k u in (q .0, none-replies (q .1))
 
-  hears-sends : (s : ℕ) (bs : List ℕ) (o : Option Event) → CleanNews o
+  hears-sends : (s : ℕ) (bs : List ℕ) (o : Option Event) → IfAny CleanEvent o
       → let m = hears s (cut bs) in Every CleanMoment (m ∷ happening o) × Sends w (bytes s bs) (emitted w (m ∷ happening o))
   hears-sends s bs o k =
       let c = bytes s bs in
       let m = hears s (cut bs) in
       let clean = to-clean s (receives (cut bs)) (nul-cut bs) in
       let more = emitted (next w m) (happening o) in
-      let silent = emitted-silent (next w m) (next-clean w h m clean) (happening-clean o k) (happening-one o) in
+      let news = happening-silent (next w m) (next-clean w h m clean) o k in
       let x = session-at w s in
       let said = step-clean (w .shared) (h .settings) (receives (cut bs)) x (nul-cut bs)
-      (session-clean (w .sessions) s (h .sessions)) .1 in (
-        (clean, happening-clean o k),
-        either-emits w s (receives (cut bs)) (λ es. Sends w c (es ++ more)) (none-replies silent)
-            (sends-to s more said (rw (eq-eqb s s refl)) silent),
+      (every-at CleanSession (w .sessions) s closed tt (h .sessions)) .1 in (
+        (clean, news .0),
+        either-emits w s (receives (cut bs)) (λ es. Sends w c (es ++ more)) (none-replies (news .1))
+            (sends-to s more said (rw (eq-eqb s s refl)) (news .1)),
       )
 
   -- whatever the call, if it is not refused: its moments are clean, and so is what they send
   done-sends : (l : Lent) (c : Call) → refusal l w c ≡ 0 → Every CleanMoment (moments w c) × Sends w c (emitted w (moments w c))
   done-sends l (start slice) e = go (read-settings slice) (clean-start slice)
     where
-      go : (o : Option Settings) → CleanStart o
+      go : (o : Option Settings) → IfAny CleanSettings o
           → let ms = at-most-one (option-map begins o) ++ [] in Every CleanMoment ms × Sends w (start slice) (emitted w ms)
-      go none k = silently (start slice) tt no-moment
-      go (some st) k = silently (start slice) (record { sees = λ s. tt; leaves = k }, tt) (a-moment (λ s x. refl))
+      go none k = (tt, none-replies tt)
+      go (some st) k = one-sends (start slice) (begins st) (record { sees = λ s. tt; leaves = k }) (λ s x. refl)
   done-sends l (open-session s) e =
-      silently (open-session s) (to-clean s opening tt, tt) (a-moment (to-unheard s opening (λ x. refl)))
+      one-sends (open-session s) (to s opening) (to-clean s opening tt) (to-unheard s opening (λ x. refl))
   done-sends l (hang-up-session s) e =
-      silently (hang-up-session s) (to-clean s hang-up tt, tt) (a-moment (to-unheard s hang-up (λ x. refl)))
+      one-sends (hang-up-session s) (to s hang-up) (to-clean s hang-up tt) (to-unheard s hang-up (λ x. refl))
   done-sends l (bytes s bs) e =
       let x = session-at w s in
       hears-sends s bs (option-map identified (announces (w .shared) (cut bs) x))
       (told-clean (announces (w .shared) (cut bs) x)
-      (announces-clean (w .shared) (h .settings) (cut bs) x (nul-cut bs) (session-clean (w .sessions) s (h .sessions))))
-  done-sends l one-tick e = silently one-tick (record { sees = λ s. tt; leaves = tt }, tt) (a-moment (λ s x. refl))
+      (announces-clean (w .shared) (h .settings) (cut bs) x (nul-cut bs) (every-at CleanSession (w .sessions) s closed tt (h .sessions))))
+  done-sends l one-tick e = one-sends one-tick ticks (record { sees = λ s. tt; leaves = tt }) (λ s x. refl)
   done-sends l (tool slice) e =
       let o = option-map (reported (w .shared)) (read-tool slice) in
-      silently (tool slice) (happening-clean o (reported-clean w (read-tool slice) h (clean-tool slice) (not-last l w slice e)))
-      (happening-one o)
-
-  answered-sends : (l : Lent) (c : Call) (n : ℕ) → refusal l w c ≡ n → CleanWorld ((answered w c n) .0) × Sends w c ((answered w c n) .2)
-  answered-sends l c zero e = let d = done-sends l c e in (after-clean w (moments w c) h (d .0), d .1)
-  answered-sends l c (suc n) e = (h, none-replies tt)
+      let q = happening-silent w h o (reported-clean w (read-tool slice) h (clean-tool slice) (not-last l w slice e)) in
+      (q .0, none-replies (q .1))
 
 -- A CALL leaves a clean world, and sends frames only that are read alike by NUL and by length, a reply first
 pub step-sends : (l : Lent) (w : World) (c : Call) → CleanWorld w → CleanWorld ((step l w c) .0) × Sends w c ((step l w c) .2)
 unfolding step
-step-sends l w c h = answered-sends w h l c (refusal l w c) refl
+step-sends l w c h = go (refusal l w c) refl
+  where
+    go : (n : ℕ) → refusal l w c ≡ n → CleanWorld ((answered w c n) .0) × Sends w c ((answered w c n) .2)
+    go zero e = let d = done-sends w h l c e in (after-clean w (moments w c) h (d .0), d .1)
+    go (suc n) e = (h, none-replies tt)
 
 -- what a start takes is clean
 pub settings-clean : {st : Settings} (slice : List ℕ) → read-settings slice ≡ some st → CleanSettings st
-settings-clean slice e = subst CleanStart e (clean-start slice)
+settings-clean slice e = subst (IfAny CleanSettings) e (clean-start slice)

@@ -1,7 +1,7 @@
 -- 01, "Frames we write": the data of a frame by rows, a row for each field.
 use Prim.Native.Nat.{ℕ, suc, _+_, _-_}
 use mathlib.Core.Bool.{Bool, true, false, cond}
-use mathlib.Core.List.{List, [], _∷_, _++_, map}
+use mathlib.Core.List.{List, [], _∷_, _++_}
 use lib.Dec.{eqb}
 use lib.ListN.{length, getD, take}
 use Rattle.model.specs.Limits.{identifier-length, time-length}
@@ -106,9 +106,9 @@ revision-count ls = suc (length (ls .older))
 abbrev pub layout-at : Layouts → ℕ → Layout
 layout-at ls revision = getD (ls .older) (revision - 1) (ls .newest)
 
--- numbered, the first so many of some rows
-abbrev pub first-of : List Row → ℕ → Layout
-first-of rows count = record { numbered = true; rows = take count rows }
+-- the first so many of some rows, each with its number or not
+abbrev pub first-of : List Row → Bool → ℕ → Layout
+first-of rows numbered count = record { numbered = numbered; rows = take count rows }
 
 -- the identifier; revision 2 has three parts more, all spaces
 abbrev pub identifier-rows : List Row
@@ -116,7 +116,7 @@ identifier-rows =
     text identifier-length told 0 ∷ blank identifier-length ∷ blank identifier-length ∷ blank identifier-length ∷ []
 
 abbrev pub layouts-0052 : Layouts
-layouts-0052 = record { older = map (first-of identifier-rows) (1 ∷ []); newest = first-of identifier-rows 4 }
+layouts-0052 = record { older = first-of identifier-rows true 1 ∷ []; newest = first-of identifier-rows true 4 }
 
 -- fields 04 to 23 of revision 1: a tightening's items in their order, and its number
 abbrev pub result-rows : List Row
@@ -148,16 +148,9 @@ result-rows =
     ∷ number 10 told 19
     ∷ []
 
--- the rows behind those of the controller, of the older revisions and of the newest
-abbrev pub results-older : List (List Row)
-results-older = []
-
-abbrev pub results-newest : List Row
-results-newest = result-rows
-
 -- behind those of the controller
 abbrev pub of-controller : List Row → Layout
 of-controller rows = record { numbered = true; rows = controller-rows ++ rows }
 
 abbrev pub layouts-0061 : Layouts
-layouts-0061 = record { older = map of-controller results-older; newest = of-controller results-newest }
+layouts-0061 = record { older = []; newest = of-controller result-rows }

@@ -1,6 +1,6 @@
 -- What is lent is tested first: the number that this gives, or the number that the call's own tests give; and what is known where
 -- nothing is refused.
-use mathlib.Core.Path.{_≡_, refl, sym, ap, _∙_}
+use mathlib.Core.Path.{_≡_, refl, sym, _∙_}
 use Prim.Native.Nat.{ℕ, suc, _≤_, _<_}
 use native.Mathlib.Omega.{arith}
 use mathlib.Core.Bool.{Bool, true, false, not, cond, and-eq-true-iff}
@@ -8,7 +8,7 @@ use mathlib.Core.List.{List, [], _∷_}
 use mathlib.Core.Option.{none, some}
 use lib.Dec.{leb, ltb, eqb}
 use lib.ListN.{length}
-use borrow.Author.Tests.{ltb-false, leb-false, eqb-true, not-false, eq-eqb, ne-eqb}
+use borrow.Author.Tests.{le-ltb, ltb-false, leb-false, eqb-true, not-false, eq-eqb}
 use Rattle.model.specs.Limits.{session-count, table-least, output-least, number-greatest}
 use Rattle.model.specs.Tests.{Test, _gives_, first}
 use Rattle.model.specs.Records.{payload, Item, is-record, payload-length, parts, good-parts, good-payload, good-record, settings-of}
@@ -33,18 +33,8 @@ module _ (t : List ℕ) (n : ℕ) where
     pub table : Table t
     pub room : output-least ≤ n
 
-  pub is-ready : number t n one-tick ≡ 0 → Ready
-  unfolding refusal
-  is-ready e = go (ltb (length t) table-least) (table-formed t) (ltb n output-least) refl refl refl e
-    where
-      go : (a b c : Bool) → ltb (length t) table-least ≡ a → table-formed t ≡ b → ltb n output-least ≡ c → tests a b c 0 ≡ 0 → Ready
-      go true b c p q r z = absurd (omega arith)
-      go false false c p q r z = absurd (omega arith)
-      go false true true p q r z = absurd (omega arith)
-      go false true false p q r z = record { table = record { size = ltb-false _ _ p; formed = q }; room = ltb-false _ _ r }
-
-  -- and then a call's own tests
   module _ (own : List (Test ℕ)) where
+    -- the tests of what is lent, and then a call's own
     abbrev pub with-own : ℕ
     with-own = first 0 (model.tests (lent t n) (asks-both own))
 
@@ -58,26 +48,24 @@ module _ (t : List ℕ) (n : ℕ) where
         go false true true z = refl
         go false true false z = absurd (z refl)
 
-    pub own-gives : {r k : ℕ} → r ≡ number t n one-tick → r ≡ 0 → k ≡ first 0 own → k ≡ with-own
-    unfolding refusal
-    own-gives e z f = f ∙ go (ltb (length t) table-least) (table-formed t) (ltb n output-least) (sym e ∙ z)
+    -- where none applies, what is lent will do, and none of its own applies
+    none-applies : with-own ≡ 0 → Ready × (first 0 own ≡ 0)
+    none-applies e = go (ltb (length t) table-least) (table-formed t) (ltb n output-least) refl refl refl e
       where
-        go : (a b c : Bool) → tests a b c 0 ≡ 0 → first 0 own ≡ tests a b c (first 0 own)
-        go true b c z = absurd (omega arith)
-        go false false c z = absurd (omega arith)
-        go false true true z = absurd (omega arith)
-        go false true false z = refl
+        go : (a b c : Bool) → ltb (length t) table-least ≡ a → table-formed t ≡ b → ltb n output-least ≡ c
+            → tests a b c (first 0 own) ≡ 0 → Ready × (first 0 own ≡ 0)
+        go true b c p q r z = absurd (omega arith)
+        go false false c p q r z = absurd (omega arith)
+        go false true true p q r z = absurd (omega arith)
+        go false true false p q r z = (record { table = record { size = ltb-false _ _ p; formed = q }; room = ltb-false _ _ r }, z)
 
-    -- where none applies, none of what is lent does, and none of its own
-    pub none-applies : with-own ≡ 0 → (number t n one-tick ≡ 0) × (first 0 own ≡ 0)
-    unfolding refusal
-    none-applies e = go (ltb (length t) table-least) (table-formed t) (ltb n output-least) e
-      where
-        go : (a b c : Bool) → tests a b c (first 0 own) ≡ 0 → (tests a b c 0 ≡ 0) × (first 0 own ≡ 0)
-        go true b c z = absurd (omega arith)
-        go false false c z = absurd (omega arith)
-        go false true true z = absurd (omega arith)
-        go false true false z = (refl, z)
+  pub is-ready : number t n one-tick ≡ 0 → Ready
+  unfolding refusal
+  is-ready e = none-applies [] e .0
+
+  pub own-gives : (own : List (Test ℕ)) {r k : ℕ} → r ≡ number t n one-tick → r ≡ 0 → k ≡ first 0 own → k ≡ with-own own
+  own-gives own e z f =
+      let q = is-ready (sym e ∙ z) in rw (le-ltb _ _ (q .table .size), q .table .formed, le-ltb _ _ (q .room)) f
 
 -- ==== a session: its number, and whether it is closed
 
@@ -107,30 +95,17 @@ bad-settings true slice e = rw (sym e)
 bad-settings false slice e = rw (sym e)
 
 -- a tool record of that kind
-pub tool-refused : (t : List ℕ) (n : ℕ) (record-kind : RecordKind) (slice : List ℕ) → tool-in record-kind slice ≡ read-tool slice
-    → tool-number t n record-kind ≡ number t n (tool slice)
+pub tool-refused : {r : ℕ} (t : List ℕ) (n : ℕ) (record-kind : RecordKind) (slice : List ℕ) → r ≡ tool-number t n record-kind
+    → tool-in record-kind slice ≡ read-tool slice → r ≡ number t n (tool slice)
 unfolding refusal tool-number
-tool-refused t n Bad slice e = rw (sym e)
-tool-refused t n Tightening slice e = rw (sym e)
-tool-refused t n Scanned slice e = rw (sym e)
-
-module _ (t : List ℕ) {record-kind : RecordKind} where
-  pub a-bad-one : record-kind ≡ Bad → 7 ≡ first 0 (tool-own t record-kind)
-  a-bad-one e = ap (λ (k : RecordKind). first 0 (tool-own t k)) (sym e)
-
-  pub a-scan : record-kind ≡ Scanned → 0 ≡ first 0 (tool-own t record-kind)
-  a-scan e = ap (λ (k : RecordKind). first 0 (tool-own t k)) (sym e)
-
-  pub last-one : record-kind ≡ Tightening → decode t .shared .last ≡ number-greatest → 8 ≡ first 0 (tool-own t record-kind)
-  last-one e h = ap (λ (b : Bool). cond b 8 0) (sym (eq-eqb _ _ h)) ∙ ap (λ (k : RecordKind). first 0 (tool-own t k)) (sym e)
-
-  pub one-more : record-kind ≡ Tightening → (decode t .shared .last ≡ number-greatest → ⊥) → 0 ≡ first 0 (tool-own t record-kind)
-  one-more e h = ap (λ (b : Bool). cond b 8 0) (sym (ne-eqb _ _ h)) ∙ ap (λ (k : RecordKind). first 0 (tool-own t k)) (sym e)
+tool-refused t n Bad slice q e = rw (sym e) q
+tool-refused t n Tightening slice q e = rw (sym e) q
+tool-refused t n Scanned slice q e = rw (sym e) q
 
 -- received bytes are refused as a hang-up is
-pub bytes-refused : (t : List ℕ) (n s : ℕ) (bs : List ℕ) → number t n (hang-up-session s) ≡ number t n (bytes s bs)
+pub bytes-refused : {r : ℕ} (t : List ℕ) (n s : ℕ) (bs : List ℕ) → r ≡ number t n (hang-up-session s) → r ≡ number t n (bytes s bs)
 unfolding refusal
-bytes-refused t n s bs = refl
+bytes-refused t n s bs e = e
 
 -- ==== what is known of a call that is not refused
 
@@ -149,14 +124,14 @@ module _ (t : List ℕ) (n s : ℕ) where
   open-passes e =
       let p = none-applies t n (open-own t s) e in
       let q = session-passes s (not (is-closed (session-at (decode t) s))) 5 (p .1) in
-      (is-ready t n (p .0), q .0, not-false _ (q .1))
+      (p .0, q .0, not-false _ (q .1))
 
   pub hang-up-passes : number t n (hang-up-session s) ≡ 0 → Ready t n × (s < session-count) × (is-closed (session-at (decode t) s) ≡ false)
   unfolding refusal
   hang-up-passes e =
       let p = none-applies t n (hang-up-own t s) e in
       let q = session-passes s (is-closed (session-at (decode t) s)) 4 (p .1) in
-      (is-ready t n (p .0), q .0, q .1)
+      (p .0, q .0, q .1)
 
 -- a tool record that is not bad, and a number for a tightening
 pub tool-passes : (t : List ℕ) (n : ℕ) (record-kind : RecordKind) → tool-number t n record-kind ≡ 0
@@ -164,10 +139,7 @@ pub tool-passes : (t : List ℕ) (n : ℕ) (record-kind : RecordKind) → tool-n
 unfolding tool-number
 tool-passes t n record-kind e =
     let p = none-applies t n (tool-own t record-kind) e in
-    (is-ready t n (p .0), λ b. nonzero 6 (a-bad-one t b ∙ p .1), λ k h. nonzero 7 (last-one t k h ∙ p .1))
-  where
-    nonzero : (k : ℕ) → suc k ≡ 0 → ⊥
-    nonzero k z = omega arith
+    (p .0, λ b. let z = rw b at (p .1) in omega arith, λ k h. let z = rw (k, eq-eqb _ _ h) at (p .1) in omega arith)
 
 -- good settings, and a table that is long enough
 pub start-passes : (t slice : List ℕ) → number t 0 (start slice) ≡ 0

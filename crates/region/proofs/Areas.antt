@@ -13,6 +13,7 @@ use Rattle.model.specs.Bytes.{all}
 use Rattle.model.specs.Runs.{Run}
 use Rattle.model.specs.Kinds.{kinds}
 use Rattle.model.specs.Notices.{Subscription, unsubscribed}
+use Rattle.model.specs.Session.{no-subscriptions}
 use Rattle.text.specs.Areas.{Apart}
 use Rattle.text.proofs.Cells.{area-same, area-before, area-after}
 use Rattle.text.proofs.Areas.{each-below, apart, areas-at, areas-put, areas-same, length-areas, all-set, passes}
@@ -24,7 +25,7 @@ use Rattle.head.specs.Head as head
 use Rattle.lane.specs.Kinds.{lane-size}
 use Rattle.lane.specs.Lane.{lane-of, lane-formed, Lane}
 use Rattle.region.specs.Region.{region-size, head-area, run-area, lane-at, lanes, lane-in, subscriptions-in, subscription-in}
-use Rattle.region.specs.Region.{meaning, session-of, region-formed, Good, run-bytes, Becomes, Changes}
+use Rattle.region.specs.Region.{meaning, session-of, region-formed, Good, run-bytes, Becomes, Changes, LanesCleared}
 
 -- ==== the map, computed: the lanes stand one behind the other, behind the run
 
@@ -60,13 +61,7 @@ parts r g =
 pub good-of : (r : List ℕ) → length r ≡ region-size → head-formed (head-area r) ≡ true → run-formed (run-area r) ≡ true
     → all (λ (formed : Bool). formed) (lanes lane-formed r) ≡ true → Good r
 unfolding region-formed
-good-of r s a b c =
-    let tested = all (λ (formed : Bool). formed) (lanes lane-formed r) in
-    record {
-      size = s;
-      formed = and-eq-true-iff (head-formed (head-area r)) (run-formed (run-area r) && tested) .1
-          (a, and-eq-true-iff (run-formed (run-area r)) tested .1 (b, c));
-    }
+good-of r s a b c = record { size = s; formed = rw (a, b, c) }
 
 pub length-subscriptions : (r : List ℕ) → length (subscriptions-in r) ≡ length kinds
 unfolding subscriptions-in
@@ -120,28 +115,31 @@ module _ (r ys : List ℕ) (s : length r ≡ region-size) (a k : ℕ) (len : len
       areas-same f lane-at lane-size r new 0 (length kinds)
       (λ j p q. let b = behind-run j q in area-after a k r ys len in-it (lane-at j) (lane-size j) (omega arith))
 
+-- it has become so: of that size, with that head and that run, and with lanes that are well formed and mean those subscriptions
+becomes-of : {r r′ h n : List ℕ} {subs : List Subscription} → Good r → length r′ ≡ length r → head-area r′ ≡ h → head.Area h
+    → run-area r′ ≡ n → run.Area n → all (λ (formed : Bool). formed) (lanes lane-formed r′) ≡ true → subscriptions-in r′ ≡ subs
+    → Becomes r (head-of h) (run-of n) subs r′
+becomes-of {r′ = r′} g s eh h en n formed subs = record {
+  good = good-of r′ (s ∙ g .size) (ap head-formed eh ∙ h .formed) (ap run-formed en ∙ n .formed) formed;
+  size = s;
+  head = ap head-of eh;
+  runs = ap run-of en;
+  subscriptions = subs;
+}
+
 module _ {r ys : List ℕ} (g : Good r) where
   pub head-replaced : {x : Session} → head.Area ys → head-of ys ≡ x
       → Changes r x (run-of (run-area r)) (subscriptions-in r) (putMid 0 head-size r ys)
   unfolding subscriptions-in
   head-replaced h e =
       let s = g .size in
-      let f : 0 + head-size ≤ length r = omega arith in
-      let same = area-same 0 head-size r ys (h .size) f in
-      let run = area-after 0 head-size r ys (h .size) f 8 run-size (lit≤ tt) in
-      let size = replaced-size r ys s 0 head-size (h .size) (lit≤ tt) in
-      let formed = lanes-behind r ys s 0 head-size (h .size) (lit≤ tt) lane-formed (lit≤ tt) in
-      let subs = lanes-behind r ys s 0 head-size (h .size) (lit≤ tt) lane-of (lit≤ tt) in
-      record {
-        becomes = record {
-          good =
-              good-of (putMid 0 head-size r ys) (size ∙ s) (ap head-formed same ∙ h .formed) (ap run-formed run ∙ parts r g .run .formed)
-              (ap (all (λ (formed : Bool). formed)) formed ∙ parts r g .lanes);
-          size = size;
-          head = ap head-of same ∙ e;
-          runs = ap run-of run;
-          subscriptions = subs;
-        };
+      let run = area-after 0 head-size r ys (h .size) (omega arith) 8 run-size (lit≤ tt) in
+      rw (← e) record {
+        becomes =
+            becomes-of g (replaced-size r ys s 0 head-size (h .size) (lit≤ tt)) (area-same 0 head-size r ys (h .size) (omega arith)) h run
+            (parts r g .run)
+            (rw (lanes-behind r ys s 0 head-size (h .size) (lit≤ tt) lane-formed (lit≤ tt)) (parts r g .lanes))
+            (lanes-behind r ys s 0 head-size (h .size) (lit≤ tt) lane-of (lit≤ tt));
         bytes = ap bytes-of run;
       }
 
@@ -150,21 +148,12 @@ module _ {r ys : List ℕ} (g : Good r) where
   unfolding subscriptions-in
   run-replaced h e =
       let s = g .size in
-      let f : 8 + run-size ≤ length r = omega arith in
-      let same = area-same 8 run-size r ys (h .size) f in
-      let head = area-before 8 run-size r ys (h .size) f 0 head-size (lit≤ tt) in
-      let size = replaced-size r ys s 8 run-size (h .size) (lit≤ tt) in
-      let formed = lanes-behind r ys s 8 run-size (h .size) (lit≤ tt) lane-formed (lit≤ tt) in
-      let subs = lanes-behind r ys s 8 run-size (h .size) (lit≤ tt) lane-of (lit≤ tt) in
-      record {
-        good =
-            good-of (putMid 8 run-size r ys) (size ∙ s) (ap head-formed head ∙ parts r g .head .formed) (ap run-formed same ∙ h .formed)
-            (ap (all (λ (formed : Bool). formed)) formed ∙ parts r g .lanes);
-        size = size;
-        head = ap head-of head;
-        runs = ap run-of same ∙ e;
-        subscriptions = subs;
-      }
+      rw (← e)
+      (becomes-of g (replaced-size r ys s 8 run-size (h .size) (lit≤ tt))
+      (area-before 8 run-size r ys (h .size) (omega arith) 0 head-size (lit≤ tt)) (parts r g .head)
+      (area-same 8 run-size r ys (h .size) (omega arith)) h
+      (rw (lanes-behind r ys s 8 run-size (h .size) (lit≤ tt) lane-formed (lit≤ tt)) (parts r g .lanes))
+      (lanes-behind r ys s 8 run-size (h .size) (lit≤ tt) lane-of (lit≤ tt)))
 
   -- it is over: its bytes stand as they stood
   pub run-over : run.Over (run-area r) ys → run-bytes (putMid 8 run-size r ys) ≡ run-bytes r
@@ -174,9 +163,6 @@ module _ {r ys : List ℕ} (g : Good r) where
 -- ==== a lane was replaced, as lending `&mut region[a..a + z]` has it
 
 module _ (r : List ℕ) {kind a z : ℕ} (few : kind < length kinds) (ea : a ≡ lane-at kind) (ez : z ≡ lane-size kind) where
-  pub lane-lies : length r ≡ region-size → a + z ≤ length r
-  lane-lies s = let e = lane-ends kind few in omega arith
-
   pub lane-part : midOf a (a + z - a) r ≡ lane-in kind r
   lane-part = rw (add-sub-cancel-left a z, ea, ez)
 
@@ -219,16 +205,38 @@ module _ (r : List ℕ) {kind a z : ℕ} (few : kind < length kinds) (ea : a ≡
     unfolding subscriptions-in
     lane-replaced g =
         record {
-          becomes = record {
-            good =
-                good-of replaced (lane-size-kept ∙ s) (ap head-formed head-kept ∙ parts r g .head .formed)
-                (ap run-formed run-kept ∙ parts r g .run .formed)
-                (ap (all (λ (formed : Bool). formed)) (lanes-put lane-formed ∙ ap (set (lanes lane-formed r) kind) (lane .formed))
-                ∙ all-set (lanes lane-formed r) kind (parts r g .lanes));
-            size = lane-size-kept;
-            head = ap head-of head-kept;
-            runs = ap run-of run-kept;
-            subscriptions = lanes-put lane-of;
-          };
+          becomes =
+              becomes-of g lane-size-kept head-kept (parts r g .head) run-kept (parts r g .run)
+              (rw (lanes-put lane-formed, lane .formed) (all-set (lanes lane-formed r) kind (parts r g .lanes))) (lanes-put lane-of);
           bytes = ap bytes-of run-kept;
         }
+
+-- ==== nothing was done; the lanes were cleared; and one change after another
+
+pub unchanged : (r : List ℕ) → Good r → Changes r (head-of (head-area r)) (run-of (run-area r)) (subscriptions-in r) r
+unchanged r g = record {
+  becomes = record { good = g; size = refl; head = refl; runs = refl; subscriptions = refl };
+  bytes = refl;
+}
+
+pub lanes-cleared : {r r′ : List ℕ} → Good r → LanesCleared r r′
+    → Changes r (head-of (head-area r)) (run-of (run-area r)) no-subscriptions r′
+lanes-cleared {r} g c = record {
+  becomes = becomes-of g (c .size) (c .head) (parts r g .head) (c .run) (parts r g .run) (c .formed) (c .none);
+  bytes = ap bytes-of (c .run);
+}
+
+pub changes-then : {r r₁ r₂ : List ℕ} {x y : Session} {m n : Run} {xs ys : List Subscription} → Changes r x m xs r₁ → Changes r₁ y n ys r₂
+    → Changes r y n ys r₂
+changes-then a b =
+    let c = b .becomes in
+    record {
+      becomes = record {
+        good = c .good;
+        size = c .size ∙ a .becomes .size;
+        head = c .head;
+        runs = c .runs;
+        subscriptions = c .subscriptions;
+      };
+      bytes = b .bytes ∙ a .bytes;
+    }

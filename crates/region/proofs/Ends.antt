@@ -1,20 +1,18 @@
 -- The end of a run, to a session in its region.
-use mathlib.Core.Path.{_≡_, refl, sym, ap, ap₂, subst, _∙_}
+use mathlib.Core.Path.{_≡_, refl, sym, ap, ap₂, _∙_}
 use mathlib.Core.Bool.{Bool, true, false, cond}
-use mathlib.Core.List.{List, [], _∷_, _++_, append-nil}
-use mathlib.Core.Option.{Option, none}
-use Prim.Native.Nat.{ℕ, zero, suc, _≤_, _<_, min}
+use mathlib.Core.List.{List, [], _++_, append-nil}
+use Prim.Native.Nat.{ℕ, _≤_, _<_, min}
 use native.Mathlib.Omega.{arith}
 use lib.Dec.{lit≤}
-use lib.ListN.{length, getD, set, take, drop, length-take, length-drop}
-use lib.Seq.{getD-set-same, take-take, take-all}
+use lib.ListN.{length, take, drop, length-take, length-drop}
+use lib.Seq.{set-getD, take-take, take-all}
 use Rattle.model.specs.Limits.{header-length, run-kept, idle-limit}
 use Rattle.model.specs.Bytes.{little}
 use Rattle.model.specs.Records.{Settings}
 use Rattle.model.specs.Runs.{Run, empty-run, longer}
 use Rattle.model.specs.Kinds.{kinds, room-of}
-use Rattle.model.specs.Events.{Notice}
-use Rattle.model.specs.Notices.{Subscription, unsubscribed, act}
+use Rattle.model.specs.Notices.{Subscription, unsubscribed}
 use Rattle.model.specs.Notices as notices
 use Rattle.model.specs.Session.{no-subscriptions, Emission}
 use Rattle.model.specs.Session as model
@@ -25,10 +23,9 @@ use borrow.Rule.Slice.PartMut.{putMid}
 use Rattle.text.proofs.Cells.{area-same, area-before}
 use Rattle.message.specs.Meaning.{standing-of}
 use Rattle.message.specs.declared.Standing.{Standing}
-use Rattle.frame.specs.Header.{header-of}
 use Rattle.session.specs.Meaning.{deed-of, session-as}
 use Rattle.session.specs.Control.{cleared}
-use Rattle.session.specs.Effects.{standing-in, carried-out, replies, announced}
+use Rattle.session.specs.Effects.{standing-in, replies, announced}
 use Rattle.session.specs.declared.Phase.{Phase}
 use Rattle.session.specs.declared.Phase.the-variants.{Closed, Opened, Started}
 use Rattle.session.specs.declared.Session.{Session}
@@ -36,75 +33,28 @@ use Rattle.session.specs.declared.Decision.{Decision}
 use Rattle.session.specs.declared.Reply.{Reply}
 use Rattle.session.specs.declared.Reply.the-variants as reply
 use Rattle.session.proofs.Hearing.{decide-right, identify-right}
-use Rattle.session.proofs.Decided.{decided-kind, decided-idle, mirrored-whole}
+use Rattle.session.proofs.Decided.{Fair, decided-fair, mirrored-whole}
 use Rattle.run.specs.Area.{run-size, run-of, run-formed, bytes-of}
 use Rattle.run.specs.Area as run
 use Rattle.run.proofs.Areas.{counted}
 use Rattle.head.specs.Head.{head-size, head-of, head-formed}
 use Rattle.head.specs.Head as head
-use Rattle.lane.specs.Lane.{any}
 use Rattle.lane.proofs.Sayings.{quiet-of, after}
 use Rattle.region.specs.Region.{region-size, head-area, run-area, subscriptions-in, subscription-in, session-of, meaning, Good}
-use Rattle.region.specs.Region.{run-bytes, Becomes, Changes, LanesCleared}
-use Rattle.region.specs.Said.{due-copy, DealtTo, ending, is-known, known-in, Knows, stood, Ruled, CarriesOut, ended-by, ended-in}
+use Rattle.region.specs.Region.{Becomes, Changes, LanesCleared}
+use Rattle.region.specs.Said.{DealtTo, ending, is-known, stood, Ruled, CarriesOut, ended-by, ended-in}
 use Rattle.region.specs.Said.{RunEnds}
 use Rattle.region.specs.declared.Ended.{Ended}
-use Rattle.region.proofs.Areas.{parts, good-of, replaced-size, subscription-at, there, means}
-use Rattle.region.proofs.Says.{sent, row-one, said-one}
+use Rattle.region.proofs.Areas.{good-of, replaced-size, subscription-at, there, means, unchanged, changes-then}
+use Rattle.region.proofs.Says.{sent, now-is, row-one, said-one}
 use Rattle.region.proofs.Ticks.{means-so}
 
--- ==== one change after another
-
-pub changes-then : {r r₁ r₂ : List ℕ} {x y : Session} {m n : Run} {xs ys : List Subscription} → Changes r x m xs r₁ → Changes r₁ y n ys r₂
-    → Changes r y n ys r₂
-changes-then a b = record {
-  becomes = record {
-    good = b .becomes .good;
-    size = b .becomes .size ∙ a .becomes .size;
-    head = b .becomes .head;
-    runs = b .becomes .runs;
-    subscriptions = b .becomes .subscriptions;
-  };
-  bytes = b .bytes ∙ a .bytes;
-}
-
--- the lanes were cleared
-pub lanes-cleared : {r r′ : List ℕ} → Good r → LanesCleared r r′
-    → Changes r (head-of (head-area r)) (run-of (run-area r)) no-subscriptions r′
-lanes-cleared {r} {r′} g c = record {
-  becomes = record {
-    good =
-        good-of r′ (c .size ∙ g .size) (ap head-formed (c .head) ∙ parts r g .head .formed)
-        (ap run-formed (c .run) ∙ parts r g .run .formed) (c .formed);
-    size = c .size;
-    head = ap head-of (c .head);
-    runs = ap run-of (c .run);
-    subscriptions = c .none;
-  };
-  bytes = ap bytes-of (c .run);
-}
-
--- nothing was done
-pub unchanged : (r : List ℕ) → Good r → Changes r (head-of (head-area r)) (run-of (run-area r)) (subscriptions-in r) r
-unchanged r g = record {
-  becomes = record { good = g; size = refl; head = refl; runs = refl; subscriptions = refl };
-  bytes = refl;
-}
-
-set-same : {A : Type 0} (l : List A) (k : ℕ) (d : A) → set l k (getD l k d) ≡ l
-set-same [] k d = refl
-set-same (x ∷ l) zero d = refl
-set-same (x ∷ l) (suc k) d = ap (λ (z : List _). x ∷ z) (set-same l k d)
-
-abbrev Changes-to : List ℕ → List Subscription → Type 0
-Changes-to r subs = Changes r (head-of (head-area r)) (run-of (run-area r)) subs r
+-- ==== nothing is done
 
 pub nothing-dealt : (r : List ℕ) (kind : ℕ) → kind < length kinds → Good r → DealtTo kind notices.nothing r false r
 nothing-dealt r kind few g = record {
   changes =
-      subst (Changes-to r)
-      (sym (ap (set (subscriptions-in r) kind) (sym (subscription-at r kind few)) ∙ set-same (subscriptions-in r) kind unsubscribed))
-      (unchanged r g);
+      rw (← subscription-at r kind few, set-getD (subscriptions-in r) kind unsubscribed) (unchanged r g);
   sends = refl;
 }
 
@@ -133,71 +83,31 @@ held d r = cond (d .begins) no-subscriptions (subscriptions-in r)
 
 module _ (d : Decision) {r r₁ r₂ : List ℕ} {sends : Bool} (few : d .kind < length kinds)
     (c : Changes r (d .next) empty-run (held d r) r₁) (e : DealtTo (d .kind) (deed-of (d .deed)) r₁ sends r₂) where
-  abbrev kind : ℕ
-  kind = d .kind
-
-  abbrev xs : List Subscription
-  xs = held d r
-
-  abbrev x : Subscription
-  x = getD xs kind unsubscribed
-
-  abbrev y : Subscription × List Notice
-  y = act (room-of kind) (deed-of (d .deed)) x
-
-  subs₁ : subscriptions-in r₁ ≡ xs
-  subs₁ = c .becomes .subscriptions
-
-  fits : kind < length xs
-  fits = subst (λ (l : List Subscription). kind < length l) subs₁ (there r₁ kind few)
-
-  is-x : subscription-in kind r₁ ≡ x
-  is-x = sym (subscription-at r₁ kind few) ∙ ap (λ (l : List Subscription). getD l kind unsubscribed) subs₁
-
-  subs₂ : subscriptions-in r₂ ≡ set xs kind (y .0)
-  subs₂ =
-      e .changes .becomes .subscriptions
-      ∙ ap₂ (λ (l : List Subscription) (z : Subscription). set l kind ((act (room-of kind) (deed-of (d .deed)) z) .0)) subs₁ is-x
-
-  now-is : subscription-in kind r₂ ≡ y .0
-  now-is =
-      sym (subscription-at r₂ kind few) ∙ ap (λ (l : List Subscription). getD l kind unsubscribed) subs₂
-      ∙ getD-set-same xs kind (y .0) unsubscribed fits
-
-  due : sends ≡ any (y .1)
-  due = e .sends ∙ ap (λ (z : Subscription). any ((act (room-of kind) (deed-of (d .deed)) z) .1)) is-x
-
-  now : session-of r₂ ≡ meaning (d .next) empty-run (set xs kind (y .0))
-  now =
-      means (e .changes .becomes) ∙ ap₂ (λ (z : Session) (n : Run). meaning z n
-      (set (subscriptions-in r₁) kind ((act (room-of kind) (deed-of (d .deed)) (subscription-in kind r₁)) .0)))
-      (c .becomes .head) (c .becomes .runs) ∙ ap (meaning (d .next) empty-run) (sym (e .changes .becomes .subscriptions) ∙ subs₂)
-
   pub carries-out : CarriesOut d r sends r₂
   carries-out =
+      let deed = deed-of (d .deed) in
+      let x = subscription-in (d .kind) r₁ in
       let q = quiet-of (d .deed) in
+      let f = e .changes .becomes in
+      let is = now-is few e in
+      let now = rw (f .runs ∙ c .becomes .runs) at (means-so r₂ (d .next) (sym (f .head ∙ c .becomes .head))) in
       record {
-        good = e .changes .becomes .good;
-        size = e .changes .becomes .size ∙ c .becomes .size;
+        good = f .good;
+        size = f .size ∙ c .becomes .size;
         bytes = e .changes .bytes ∙ c .bytes;
-        ready = λ b. rw now-is (after (room-of kind) (deed-of (d .deed)) x q .there (sym due ∙ b));
+        ready = λ b. rw is (after (room-of (d .kind)) deed x q .there (sym (e .sends) ∙ b));
         carries = λ st.
-            ap₂ (λ (m : model.Session) (es : List Emission). (m, es))
-            (ap (meaning (d .next) empty-run) (row-one kind (deed-of (d .deed)) xs fits st) ∙ sym now)
-            (said-one kind (deed-of (d .deed)) xs fits st ∙ sent (room-of kind) (deed-of (d .deed)) x q st kind
-            ∙ ap₂ (due-copy st kind) (sym due) (sym now-is));
+            rw (← c .becomes .subscriptions, row-one few e st, said-one few e st, now, is, e .sends)
+            (rw (sent (room-of (d .kind)) deed x q st (d .kind)));
       }
 
 -- step by step: the run is over, what it held is gone or not, and it is then as the decision says
 pub changed-so : (d : Decision) {r r₁ r₂ r₃ : List ℕ} → Changes r (head-of (head-area r)) empty-run (subscriptions-in r) r₁
     → Changes r₁ (head-of (head-area r₁)) (run-of (run-area r₁)) (cond (d .begins) no-subscriptions (subscriptions-in r₁)) r₂
     → Changes r₂ (d .next) (run-of (run-area r₂)) (subscriptions-in r₂) r₃ → Changes r (d .next) empty-run (held d r) r₃
-changed-so d {r} {r₂ = r₂} {r₃} a b c =
-    let empty : run-of (run-area r₂) ≡ empty-run = b .becomes .runs ∙ a .becomes .runs in
-    let subs : subscriptions-in r₂ ≡ held d r =
-    b .becomes .subscriptions ∙ ap (cond (d .begins) no-subscriptions) (a .becomes .subscriptions) in
-    changes-then a (changes-then b (subst (λ (l : List Subscription). Changes r₂ (d .next) empty-run l r₃) subs
-    (subst (λ (n : Run). Changes r₂ (d .next) n (subscriptions-in r₂) r₃) empty c)))
+changed-so d a b c =
+    rw (← a .becomes .subscriptions, ← b .becomes .subscriptions, ← a .becomes .runs, ← b .becomes .runs)
+    (changes-then a (changes-then b c))
 
 -- ==== the run is over
 
@@ -226,12 +136,8 @@ module _ {granted : Bool} {bs r place : List ℕ} {d : Decision} {place′ : Lis
   abbrev n : Run
   n = longer (run-of (run-area r)) bs
 
-  pub kind-known : d .kind < length kinds
-  kind-known = rw (o .ruled .decides) (decided-kind (o .who) (o .standing) (header-of (n .kept) (n .count)) (drop header-length (n .kept)))
-
-  pub idle-few : d .next .idle < idle-limit
-  idle-few =
-      rw (o .ruled .decides) (decided-idle (o .who) (o .idle) (o .standing) (header-of (n .kept) (n .count)) (drop header-length (n .kept)))
+  pub fair : Fair d
+  fair = rw (o .ruled .decides) (decided-fair (o .who) (o .idle) (o .standing) _ _)
 
   header-there : d .reply ≡ reply.Mirrored → header-length ≤ length (n .kept)
   header-there q = mirrored-whole (o .who) (o .standing) n (ap (λ (z : Decision). z .reply) (sym (o .ruled .decides)) ∙ q)
@@ -246,33 +152,21 @@ module _ {granted : Bool} {bs r place : List ℕ} {d : Decision} {place′ : Lis
     run-ends whole same long = record {
       good = c .good;
       size = c .size;
-      kind = kind-known;
+      kind = fair .0;
       ready = c .ready;
       whole = long;
       steps = λ st eg.
-          ap (step (shared-begun st 0) (receives (ending bs))) (means-so r (o .who) (o .here))
-          ∙ decide-right st (run-of (run-area r)) (subscriptions-in r) (ending bs) refl (o .standing) (o .who) (so st eg)
-          ∙ ap (λ (z : Decision). carried-out st (take header-length (n .kept)) z (subscriptions-in r)) (sym (o .ruled .decides))
-          ∙ ap₂ (λ (q : model.Session × List Emission) (es : List Emission). (q .0, es ++ q .1)) (c .carries st)
-          (replies-same st _ _ (d .reply) same);
+          rw (means-so r (o .who) (o .here), decide-right st _ _ (ending bs) refl (o .standing) (o .who) (so st eg), ← o .ruled .decides)
+          (ap₂ (λ (q : model.Session × List Emission) (es : List Emission). (q .0, es ++ q .1)) (c .carries st)
+          (replies-same st _ _ (d .reply) same));
       knows = λ st eg.
-          let told = ap (announces (shared-begun st 0) (ending bs)) (means-so r (o .who) (o .here))
-          ∙ identify-right st (run-of (run-area r)) (subscriptions-in r) (ending bs) refl (o .standing) (o .who) (so st eg)
-          ∙ ap (λ (z : Decision). announced (z .identifies) (drop header-length (n .kept))) (sym (o .ruled .decides)) in (
-            known-by (d .identifies) (drop header-length (n .kept)) ∙ ap is-known (sym told),
-            o .ruled .knows ∙ ap (λ (z : Option (List ℕ)). known-in z place) (sym told),
-          );
+          rw (means-so r (o .who) (o .here), identify-right st _ _ (ending bs) refl (o .standing) (o .who) (so st eg), ← o .ruled .decides)
+          (known-by (d .identifies) _, o .ruled .knows);
     }
 
 -- ==== where its bytes are
 
 -- whole in the slice
-pub whole-header : (bs : List ℕ) → take header-length (longer empty-run bs .kept) ≡ take header-length bs
-whole-header bs = take-take header-length run-kept bs (omega arith)
-
-pub whole-long : (bs : List ℕ) → header-length ≤ length (longer empty-run bs .kept) → header-length ≤ length bs
-whole-long bs h = omega (arith, length-take run-kept bs)
-
 pub taken-few : (bs : List ℕ) → length (longer empty-run bs .kept) ≤ run-kept
 taken-few bs = rw (length-take run-kept bs) (omega arith)
 
@@ -310,18 +204,16 @@ module _ {granted : Bool} {bs r place : List ℕ} {d : Decision} {place′ : Lis
   -- where it stands whole in the slice
   pub ends-whole : run-of (run-area r) ≡ empty-run → RunEnds granted bs r place (ended-by d true sends) r′ place′
   ends-whole e =
-      let n : longer (run-of (run-area r)) bs ≡ longer empty-run bs = ap (λ (z : Run). longer z bs) e in
-      run-ends o c true (λ q. ap (λ (z : Run). take header-length (z .kept)) n ∙ whole-header bs)
-      (λ q. whole-long bs (subst (λ (z : Run). header-length ≤ length (z .kept)) n (header-there o q)))
+      run-ends o c true (λ q. rw (e, take-take header-length run-kept bs (lit≤ tt)))
+      (λ q. omega (arith, length-take run-kept bs, rw e at (header-there o q)))
 
 module _ {granted : Bool} {r place : List ℕ} {d : Decision} {place′ : List ℕ} (o : Judged granted [] r place d place′) {sends : Bool}
     {r′ : List ℕ} (c : CarriesOut d r sends r′) where
   -- where it is kept
   pub ends-kept : run.Area (run-area r) → RunEnds granted [] r place (ended-by d false sends) r′ place′
   ends-kept area =
-      let n = longer-none (run-area r) area in
-      run-ends o c false (λ q. ap (λ (z : Run). take header-length (z .kept)) n ∙ kept-header (run-area r) area
-      (subst (λ (z : Run). header-length ≤ length (z .kept)) n (header-there o q)) ∙ ap (take header-length) (sym (c .bytes)))
+      let n = ap (λ (z : Run). z .kept) (longer-none (run-area r) area) in
+      run-ends o c false (λ q. rw (n, c .bytes) (kept-header (run-area r) area (rw n at (header-there o q))))
       (λ q. rw (c .bytes) (bytes-long (run-area r) area))
 
 -- ==== a run that began earlier ends: first it gets longer, and then it is over
@@ -353,30 +245,13 @@ module _ (bs : List ℕ) {r r₁ : List ℕ} {x : Session} (ex : x ≡ head-of (
 
   pub ends-longer : {granted : Bool} {place : List ℕ} {e : Ended} {r′ place′ : List ℕ} → e .whole ≡ false
       → RunEnds granted [] r₁ place e r′ place′ → RunEnds granted bs r place e r′ place′
-  ends-longer {place = place} {e} {r′} {place′} kept w =
-      let was = means-so r x ex in
-      let is = means b in
+  ends-longer kept w =
       record {
         good = w .good;
         size = w .size ∙ b .size;
         kind = w .kind;
         ready = w .ready;
         whole = λ q. rw kept (rw kept at (w .whole q));
-        steps = λ st eg.
-            ap (step (shared-begun st 0) (receives (ending bs))) was ∙ steps-same st (x .phase)
-            ∙ ap (step (shared-begun st 0) (receives (ending []))) (sym is) ∙ w .steps st eg
-            ∙ ap (λ (z : Bool). (
-              session-of r′,
-              replies st (take header-length (cond z [] (run-bytes r′))) (e .reply)
-                  ++ due-copy st (e .kind) (e .sends) (subscription-in (e .kind) r′),
-            )) kept
-            ∙ sym (ap (λ (z : Bool). (
-              session-of r′,
-              replies st (take header-length (cond z bs (run-bytes r′))) (e .reply)
-                  ++ due-copy st (e .kind) (e .sends) (subscription-in (e .kind) r′),
-            )) kept);
-        knows = λ st eg.
-            subst (λ (z : Option (List ℕ)). Knows z place (e .identified) place′)
-            (ap (announces (shared-begun st 0) (ending [])) is ∙ sym (tells-same st (x .phase))
-            ∙ ap (announces (shared-begun st 0) (ending bs)) (sym was)) (w .knows st eg);
+        steps = λ st eg. rw (means-so r x ex, steps-same st (x .phase), ← means b, w .steps st eg, kept);
+        knows = λ st eg. rw (means-so r x ex, tells-same st (x .phase), ← means b) (w .knows st eg);
       }

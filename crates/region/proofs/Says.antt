@@ -4,10 +4,11 @@ use Prim.Native.Nat.{ℕ, zero, suc, _<_}
 use native.Mathlib.Omega.{arith}
 use mathlib.Core.Bool.{Bool, true, false, cond, true≢false}
 use mathlib.Core.List.{List, [], _∷_, _++_, map, map-append}
-use lib.ListN.{length, getD, set, replicate, length-replicate}
+use lib.ListN.{length, getD, replicate, length-replicate}
+use lib.Seq.{getD-set-same}
 use borrow.Author.Tests.{eq-eqb, ne-eqb}
 use Rattle.model.specs.Records.{Settings}
-use Rattle.model.specs.Kinds.{Room, room-of}
+use Rattle.model.specs.Kinds.{Room, kinds, room-of}
 use Rattle.model.specs.Events.{Notice}
 use Rattle.model.specs.Notices.{Subscription, unsubscribed, Deed, news, act}
 use Rattle.model.specs.Session.{Copy, copy, copies-to, deal, only}
@@ -15,7 +16,9 @@ use Rattle.model.specs.Row.{tag, row, said}
 use Rattle.model.proofs.RowLaws.{row-alone}
 use Rattle.lane.specs.Lane.{open-one, any}
 use Rattle.lane.proofs.Sayings.{Quiet, after, told}
-use Rattle.region.specs.Said.{copies-out, due-copy, due-copies, Ready, AllReady, acting, dues}
+use Rattle.region.specs.Region.{subscriptions-in, subscription-in}
+use Rattle.region.specs.Said.{copies-out, due-copy, due-copies, Ready, AllReady, acting, dues, DealtTo}
+use Rattle.region.proofs.Areas.{subscription-at, there}
 
 -- ==== one subscription: lane's laws, of what goes out
 
@@ -68,30 +71,28 @@ module _ (deed : ℕ → Deed) (quiet : (kind : ℕ) → Quiet (deed kind)) wher
   pub all-ready : (xs : List Subscription) → AllReady (dues deed 0 xs) (row (acting deed) 0 xs)
   all-ready xs = record { count = length-dues 0 xs; ready = λ kind h. ready-from 0 kind xs h }
 
--- ==== one of them, and nothing to the others
+-- ==== one of them was dealt with, and nothing was done to the others
 
-module _ (kind : ℕ) (deed : Deed) (xs : List Subscription) (few : kind < length xs) (st : Settings) where
-  abbrev x : Subscription
-  x = getD xs kind unsubscribed
+module _ {kind : ℕ} {deed : Deed} {r r′ : List ℕ} {b : Bool} (few : kind < length kinds) (d : DealtTo kind deed r b r′) where
+  pub now-is : subscription-in kind r′ ≡ (act (room-of kind) deed (subscription-in kind r)) .0
+  now-is =
+      sym (subscription-at r′ kind few)
+      ∙ rw (d .changes .becomes .subscriptions) (getD-set-same (subscriptions-in r) kind _ unsubscribed (there r kind few))
 
-  abbrev y : Subscription × List Notice
-  y = act (room-of kind) deed x
+  module _ (st : Settings) where
+    passed : (i : ℕ) (z : Subscription) → (i ≡ kind → ⊥) → deal st (only kind deed) i z ≡ (z, [])
+    passed i z h = rw (ne-eqb i kind h)
 
-  passed : (i : ℕ) (z : Subscription) → (i ≡ kind → ⊥) → deal st (only kind deed) i z ≡ (z, [])
-  passed i z h = rw (ne-eqb i kind h)
+    pub row-one : row (deal st (only kind deed)) 0 (subscriptions-in r) ≡ subscriptions-in r′
+    row-one =
+        row-alone (deal st (only kind deed)) kind passed (subscriptions-in r) unsubscribed (there r kind few) .0
+        ∙ rw (d .changes .becomes .subscriptions, subscription-at r kind few, eq-eqb kind kind refl)
 
-  here : deal st (only kind deed) kind x ≡ (y .0, copies-to st x (y .1))
-  here = rw (eq-eqb kind kind refl)
-
-  pub row-one : row (deal st (only kind deed)) 0 xs ≡ set xs kind (y .0)
-  row-one =
-      row-alone (deal st (only kind deed)) kind passed xs unsubscribed few .0
-      ∙ ap (λ (q : Subscription × List Copy). set xs kind (q .0)) here
-
-  pub said-one : map copy (said (deal st (only kind deed)) 0 xs) ≡ copies-out st kind x (y .1)
-  said-one =
-      ap (map copy) (row-alone (deal st (only kind deed)) kind passed xs unsubscribed few .1
-      ∙ ap (λ (q : Subscription × List Copy). tag kind (q .1)) here)
+    pub said-one : map copy (said (deal st (only kind deed)) 0 (subscriptions-in r))
+        ≡ copies-out st kind (subscription-in kind r) ((act (room-of kind) deed (subscription-in kind r)) .1)
+    said-one =
+        ap (map copy) (row-alone (deal st (only kind deed)) kind passed (subscriptions-in r) unsubscribed (there r kind few) .1)
+        ∙ rw (subscription-at r kind few, eq-eqb kind kind refl)
 
 -- ==== nothing is due
 

@@ -1,20 +1,20 @@
 -- The loops over the kinds: the lanes change, are cleared, are read.
-use mathlib.Core.Path.{_≡_, refl, sym, ap, ap₂, subst, _∙_}
-use Prim.Native.Nat.{ℕ, suc, _+_, _-_, _≤_, _<_}
+use mathlib.Core.Path.{_≡_, refl, sym, ap, subst, _∙_}
+use Prim.Native.Nat.{ℕ, _+_, _-_, _≤_, _<_}
 use native.Mathlib.Numerals.{add-one}
 use native.Mathlib.Omega.{arith}
 use mathlib.Core.Bool.{Bool, true, false}
 use mathlib.Core.List.{List, [], _∷_, _++_, map, append-assoc, append-nil}
-use lib.Dec.{eqb}
-use lib.ListN.{length, getD, set, take, drop, length-set, length-map, List·getD-map, drop-of-length-le}
-use lib.Seq.{take-all, take-suc-set, drop-cons, drop-set-lt, getD-set-same, getD-set-other}
-use borrow.Author.Tests.{eqb-true, eqb-false}
+use lib.ListN.{length, getD, set, take, drop, replicate, length-set, length-map, List·getD-map, drop-of-length-le}
+use lib.Seq.{take-all, take-suc-set, drop-set-lt}
 use borrow.Rule.Slice.PartMut.{putMid, midOf}
 use Rattle.model.specs.Bytes.{all}
 use Rattle.model.specs.Kinds.{kinds, room-of}
 use Rattle.model.specs.Notices.{Subscription, unsubscribed, is-subscribed, Deed, act}
+use Rattle.model.specs.Session.{no-subscriptions}
 use Rattle.model.specs.Row.{row}
-use Rattle.text.proofs.Areas.{areas-at, areas-all, length-areas}
+use Rattle.text.proofs.Lists.{drop-next, replicate-next}
+use Rattle.text.proofs.Areas.{length-areas}
 use Rattle.frame.specs.Places.{notice-in}
 use Rattle.message.specs.Meaning.{standing-of}
 use Rattle.session.specs.Decisions.{is-started}
@@ -24,27 +24,22 @@ use Rattle.head.specs.Head.{head-of}
 use Rattle.lane.specs.Kinds.{lane-size}
 use Rattle.lane.specs.Lane.{lane-of, lane-formed, Deals, any}
 use Rattle.lane.specs.Lane as lane
-use Rattle.region.specs.Region.{region-size, head-area, run-area, lane-at, lanes, lane-in, subscriptions-in, subscription-in}
+use Rattle.region.specs.Region.{region-size, head-area, run-area, lane-at, lanes, subscriptions-in, subscription-in}
 use Rattle.region.specs.Region.{Good, Changes, LanesCleared}
 use Rattle.region.specs.Said.{acting, dues, DealtTo, DealtToAll, stood}
 use Rattle.region.proofs.Areas.{length-subscriptions, subscription-at, there, lane-part, lane-replaced, lane-size-kept}
-use Rattle.region.proofs.Areas.{head-kept, run-kept, lanes-put}
+use Rattle.region.proofs.Areas.{head-kept, run-kept, lanes-put, unchanged, changes-then}
 
--- ==== those from k on, one later: y takes the place of what stands at k
+-- ==== a loop that fills a list: those before k stand there, and what is to come stands behind them
 
-module _ {X : Type 0} (l : List X) (k : ℕ) (d y : X) (h : k < length l) where
-  behind : drop (k + 1) (set l k y) ≡ drop (suc k) l
-  behind = ap (λ (n : ℕ). drop n (set l k y)) (add-one k) ∙ drop-set-lt (suc k) l k y (omega arith)
+module _ {X : Type 0} (l : List X) (k : ℕ) where
+  -- y is next
+  pub filled-next : {y : X} {rest more : List X} → k < length l → rest ≡ y ∷ more → take (k + 1) (set l k y) ++ more ≡ take k l ++ rest
+  filled-next {y} h e = rw (add-one k, take-suc-set l k y h, append-assoc, e)
 
-  before : take (k + 1) (set l k y) ≡ take k l ++ (y ∷ [])
-  before = ap (λ (n : ℕ). take n (set l k y)) (add-one k) ∙ take-suc-set l k y h
-
-  row-next : {E : Type 0} (act : ℕ → X → X × List E) → y ≡ (act k (getD l k d)) .0
-      → take (k + 1) (set l k y) ++ row act (k + 1) (drop (k + 1) (set l k y)) ≡ take k l ++ row act k (drop k l)
-  row-next act e =
-      ap₂ _++_ before (ap₂ (row act) (add-one k) behind) ∙ append-assoc (take k l) (y ∷ []) (row act (suc k) (drop (suc k) l))
-      ∙ ap (λ (z : X). take k l ++ (z ∷ row act (suc k) (drop (suc k) l))) e
-      ∙ ap (λ (z : List X). take k l ++ row act k z) (sym (drop-cons l k d h))
+  -- none is left
+  pub filled : {rest : List X} → length l ≤ k → rest ≡ [] → l ≡ take k l ++ rest
+  filled h e = rw (take-all k l h, e, append-nil)
 
 -- ==== a deed to one lane
 
@@ -63,16 +58,6 @@ dealt-to {r} {kind} {a} {z} {deed} {ys = ys} few g ea ez d =
 
 -- ==== to every lane
 
-dues-next : (deed : ℕ → Deed) (due : List Bool) (xs : List Subscription) (k : ℕ) (b : Bool) (y : Subscription) → k < length due
-    → k < length xs
-    → b ≡ any ((acting deed k (getD xs k unsubscribed)) .1)
-    → take (k + 1) (set due k b) ++ dues deed (k + 1) (drop (k + 1) (set xs k y)) ≡ take k due ++ dues deed k (drop k xs)
-dues-next deed due xs k b y hd hx e =
-    ap₂ _++_ (before due k false b hd) (ap₂ (dues deed) (add-one k) (behind xs k unsubscribed y hx))
-    ∙ append-assoc (take k due) (b ∷ []) (dues deed (suc k) (drop (suc k) xs))
-    ∙ ap (λ (z : Bool). take k due ++ (z ∷ dues deed (suc k) (drop (suc k) xs))) e
-    ∙ ap (λ (z : List Subscription). take k due ++ dues deed k z) (sym (drop-cons xs k unsubscribed hx))
-
 module _ (deed : ℕ → Deed) where
   -- what is left to be done to the lanes from k on, over what was done, is all of it
   pub record Dealing (r₀ r : List ℕ) (due : List Bool) (k : ℕ) : Type 0 where
@@ -87,10 +72,7 @@ module _ (deed : ℕ → Deed) where
   dealing-none r due c g = record {
     within = omega arith;
     count = c;
-    changes = record {
-      becomes = record { good = g; size = refl; head = refl; runs = refl; subscriptions = refl };
-      bytes = refl;
-    };
+    changes = unchanged r g;
     subscriptions = refl;
     dues = refl;
   }
@@ -100,30 +82,20 @@ module _ (deed : ℕ → Deed) where
     dealing-next {b} {r′} h d =
         let xs = subscriptions-in r in
         let few = there r k h in
-        let fd : k < length due = rw (w .count) h in
-        let is : subscription-in k r ≡ getD xs k unsubscribed = sym (subscription-at r k h) in
-        let old = w .changes .becomes in
-        let c = d .changes .becomes in
-        let new = c .subscriptions in
+        let behind : (y : Subscription) → drop (k + 1) (set xs k y) ≡ drop (k + 1) xs = λ y. drop-set-lt (k + 1) xs k y (omega arith) in
         record {
           within = omega arith;
           count = length-set due k b ∙ w .count;
-          changes = record {
-            becomes = record {
-              good = c .good;
-              size = c .size ∙ old .size;
-              head = c .head ∙ old .head;
-              runs = c .runs ∙ old .runs;
-              subscriptions = refl;
-            };
-            bytes = d .changes .bytes ∙ w .changes .bytes;
-          };
+          changes =
+              rw (← w .changes .becomes .head, ← w .changes .becomes .runs, d .changes .becomes .subscriptions)
+              (changes-then (w .changes) (d .changes));
           subscriptions =
-              ap (λ (l : List Subscription). take (k + 1) l ++ row (acting deed) (k + 1) (drop (k + 1) l)) new
-              ∙ row-next xs k unsubscribed _ few (acting deed) (ap (λ (x : Subscription). (acting deed k x) .0) is) ∙ w .subscriptions;
+              rw (d .changes .becomes .subscriptions)
+              (filled-next xs k few (rw (behind, drop-next xs k unsubscribed few, subscription-at r k h, add-one k)) ∙ w .subscriptions);
           dues =
-              ap (λ (l : List Subscription). take (k + 1) (set due k b) ++ dues deed (k + 1) (drop (k + 1) l)) new
-              ∙ dues-next deed due xs k b _ fd few (d .sends ∙ ap (λ (x : Subscription). any ((acting deed k x) .1)) is) ∙ w .dues;
+              rw (d .changes .becomes .subscriptions)
+              (filled-next due k (rw (w .count) h)
+              (rw (behind, drop-next xs k unsubscribed few, subscription-at r k h, add-one k, d .sends)) ∙ w .dues);
         }
 
     pub dealt-to-all : length kinds ≤ k → DealtToAll deed r₀ due r
@@ -131,15 +103,9 @@ module _ (deed : ℕ → Deed) where
         let xs = subscriptions-in r in
         let n = length-subscriptions r in
         let none : drop k xs ≡ [] = drop-of-length-le xs {i = k} (omega arith) in
-        let all-of-them : xs ≡ row (acting deed) 0 (subscriptions-in r₀) =
-        sym (append-nil xs) ∙ ap₂ (λ (a z : List Subscription). a ++ row (acting deed) k z) (sym (take-all k xs (omega arith))) (sym none)
-        ∙ w .subscriptions in
         record {
-          changes =
-              subst (λ (l : List Subscription). Changes r₀ (head-of (head-area r₀)) (run-of (run-area r₀)) l r) all-of-them (w .changes);
-          sends =
-              sym (append-nil due) ∙ ap₂ (λ (a : List Bool) (z : List Subscription). a ++ dues deed k z)
-              (sym (take-all k due (omega arith))) (sym none) ∙ w .dues;
+          changes = rw (← (filled xs k (omega arith) (rw none) ∙ w .subscriptions)) (w .changes);
+          sends = filled due k (omega arith) (rw none) ∙ w .dues;
         }
 
 -- ==== every lane is cleared
@@ -149,34 +115,16 @@ pub record Clearing (r₀ r : List ℕ) (k : ℕ) : Type 0 where
   pub size : length r ≡ length r₀
   pub head : head-area r ≡ head-area r₀
   pub run : run-area r ≡ run-area r₀
-  pub lane : (j : ℕ) → j < k → lane.Cleared j (lane-in j r)
+  pub formed : take k (lanes lane-formed r) ++ replicate (length kinds - k) true ≡ replicate (length kinds) true
+  pub none : take k (subscriptions-in r) ++ replicate (length kinds - k) unsubscribed ≡ no-subscriptions
 
 pub clearing-none : (r : List ℕ) → Clearing r r 0
-clearing-none r =
-    record { within = omega arith; size = refl; head = refl; run = refl; lane = λ j h. absurd (omega arith) }
-
--- the lanes as they stand, after the one of kind k was replaced by ys
-module _ (r : List ℕ) {k a z : ℕ} (h : k < length kinds) (ea : a ≡ lane-at k) (ez : z ≡ lane-size k) {ys : List ℕ}
-    (s : length r ≡ region-size) (c : lane.Lane k ys) where
-  abbrev as-it-stands : ℕ → List ℕ → List ℕ
-  as-it-stands kind l = l
-
-  lane-now : (j : ℕ) → j < length kinds → lane-in j (putMid a (a + z - a) r ys) ≡ getD (set (lanes as-it-stands r) k ys) j []
-  lane-now j b =
-      sym (areas-at as-it-stands lane-at lane-size (length kinds) j (putMid a (a + z - a) r ys) [] b)
-      ∙ ap (λ (m : List (List ℕ)). getD m j []) (lanes-put r h ea ez s c as-it-stands)
-
-  lane-same : lane-in k (putMid a (a + z - a) r ys) ≡ ys
-  lane-same =
-      lane-now k h ∙ getD-set-same (lanes as-it-stands r) k ys [] (rw (length-areas as-it-stands lane-at lane-size 0 (length kinds) r) h)
-
-  lane-other : (j : ℕ) → j < length kinds → (j ≡ k → ⊥) → lane-in j (putMid a (a + z - a) r ys) ≡ lane-in j r
-  lane-other j b other =
-      lane-now j b ∙ getD-set-other (lanes as-it-stands r) k j ys [] other ∙ areas-at as-it-stands lane-at lane-size (length kinds) j r [] b
+clearing-none r = record { within = omega arith; size = refl; head = refl; run = refl; formed = refl; none = refl }
 
 module _ {r₀ r : List ℕ} {k : ℕ} (w : Clearing r₀ r k) where
   pub clearing-next : {a z : ℕ} {ys : List ℕ} → length r₀ ≡ region-size → k < length kinds → a ≡ lane-at k → z ≡ lane-size k
       → lane.Cleared k ys → Clearing r₀ (putMid a (a + z - a) r ys) (k + 1)
+  unfolding subscriptions-in
   clearing-next {a} {z} {ys} s h ea ez c =
       let l = w .size ∙ s in
       record {
@@ -184,26 +132,27 @@ module _ {r₀ r : List ℕ} {k : ℕ} (w : Clearing r₀ r k) where
         size = lane-size-kept r h ea ez l (c .lane) ∙ w .size;
         head = head-kept r h ea ez l (c .lane) ∙ w .head;
         run = run-kept r h ea ez l (c .lane) ∙ w .run;
-        lane = λ j b. go l j b (eqb j k) refl;
+        formed =
+            rw (lanes-put r h ea ez l (c .lane) lane-formed, c .lane .formed)
+            (filled-next (lanes lane-formed r) k (rw (length-areas lane-formed lane-at lane-size 0 (length kinds) r) h)
+            (replicate-next (length kinds) k true h) ∙ w .formed);
+        none =
+            rw (lanes-put r h ea ez l (c .lane) lane-of, c .means (notice-in k))
+            (filled-next (subscriptions-in r) k (there r k h) (replicate-next (length kinds) k unsubscribed h) ∙ w .none);
       }
-    where
-      go : length r ≡ region-size → (j : ℕ) → j < k + 1 → (b : Bool) → eqb j k ≡ b → lane.Cleared j (lane-in j (putMid a (a + z - a) r ys))
-      go l j b true e = rw (eqb-true j k e) (subst (lane.Cleared k) (sym (lane-same r h ea ez l (c .lane))) c)
-      go l j b false e =
-          let other = eqb-false j k e in
-          let few : j < k = omega (arith, other) in
-          subst (lane.Cleared j) (sym (lane-other r h ea ez l (c .lane) j (omega arith) other)) (w .lane j few)
 
   pub all-cleared : length kinds ≤ k → LanesCleared r₀ r
-  unfolding subscriptions-in
-  all-cleared h = record {
-    size = w .size;
-    head = w .head;
-    run = w .run;
-    formed = ap (all (λ (formed : Bool). formed))
-        (areas-all lane-formed lane-at lane-size r true 0 (length kinds) (λ j p q. w .lane j (omega arith) .lane .formed));
-    none = areas-all lane-of lane-at lane-size r unsubscribed 0 (length kinds) (λ j p q. w .lane j (omega arith) .means (notice-in j));
-  }
+  all-cleared h =
+      let none-left : length kinds - k ≡ 0 = omega arith in
+      let n = length-subscriptions r in
+      let m = length-areas lane-formed lane-at lane-size 0 (length kinds) r in
+      record {
+        size = w .size;
+        head = w .head;
+        run = w .run;
+        formed = ap (all (λ (formed : Bool). formed)) (filled (lanes lane-formed r) k (omega arith) (rw none-left) ∙ w .formed);
+        none = filled (subscriptions-in r) k (omega arith) (rw none-left) ∙ w .none;
+      }
 
 -- ==== what they are subscribed to
 
@@ -232,17 +181,12 @@ module _ (r : List ℕ) where
         within = omega arith;
         count = length-set known k b ∙ w .count;
         so-far =
-            ap₂ _++_ (before known k false b (omega arith)) (ap (λ (n : ℕ). drop n told) (add-one k))
-            ∙ append-assoc (take k known) (b ∷ []) (drop (suc k) told)
-            ∙ ap (λ (z : Bool). take k known ++ (z ∷ drop (suc k) told)) (e ∙ sym (told-at k h))
-            ∙ ap (λ (z : List Bool). take k known ++ z) (sym (drop-cons told k false (rw length-told h))) ∙ w .so-far;
+            filled-next known k (omega arith) (rw (e ∙ sym (told-at k h)) (drop-next told k false (rw length-told h))) ∙ w .so-far;
       }
 
   pub all-told : {known : List Bool} {k : ℕ} → Telling known k → length kinds ≤ k → known ≡ told
   all-told {known} {k} w h =
-      let n = length-told in
-      sym (append-nil known) ∙ ap₂ _++_ (sym (take-all k known (omega arith))) (sym (drop-of-length-le told {i = k} (omega arith)))
-      ∙ w .so-far
+      let n = length-told in filled known k (omega arith) (drop-of-length-le told {i = k} (omega arith)) ∙ w .so-far
 
 -- so the tests of a message look at what the model's look at
 pub stands-so : (r : List ℕ) (x : Session) (granted : Bool) (known : List Bool) (started : Bool) → started ≡ is-started (x .phase)

@@ -193,3 +193,8 @@ pub record RunEnds (granted : Bool) (bs r place : List ℕ) (e : Ended) (r′ pl
       → step (shared-begun st 0) (receives (ending bs)) (session-of r) ≡ (session-of r′, end-said st bs e r′)
   pub knows : (st : Settings) → st .granted ≡ granted
       → Knows (announces (shared-begun st 0) (ending bs) (session-of r)) place (e .identified) place′
+
+-- a run ends that is kept: it stands whole in no slice
+pub record KeptEnds (granted : Bool) (r place : List ℕ) (e : Ended) (r′ place′ : List ℕ) : Type 0 where
+  pub whole : e .whole ≡ false
+  pub ends : RunEnds granted [] r place e r′ place′

@@ -20,7 +20,7 @@ ghost use Rattle.lane.specs.Lane.{lane-formed};
 ghost use Rattle.region.specs.Region.{region-size, head-area, run-area, lane-at as lane-begins, lanes, lane-in, subscriptions-in};
 ghost use Rattle.region.specs.Region.{session-of, region-formed, Good, run-bytes as bytes-of-run, Becomes, Changes, LanesCleared};
 ghost use Rattle.region.specs.Said.{DealtTo, DealtToAll, TickStays, Ticks, Taking, Takes};
-ghost use Rattle.region.specs.Said.{stood, Ruled, CarryingOut, CarriesOut, ended-by, EndingWhole, RunEnds};
+ghost use Rattle.region.specs.Said.{stood, Ruled, CarryingOut, CarriesOut, ended-by, EndingWhole, RunEnds, KeptEnds};
 use lane::Told;
 use message::Standing;
 use model::IDENTIFIER_LENGTH;
@@ -430,8 +430,7 @@ fn rule_kept(region: &[u8], x: Session, standing: Standing, place: &mut [u8]) ->
 // A run ends that began in earlier slices: it is read where it is kept.
 fn end_kept(region: &mut [u8], granted: bool, place: &mut [u8]) -> Ended
     requires { ⌜ Good (now region) × (length (now place) ≡ identifier-length) ⌝ }
-    ensures { λ r. ⌜ (r .whole ≡ false) × RunEnds «granted» [] (now (region .entry)) (now (place .entry)) r (now (region .exit))
-        (now (place .exit)) ⌝ }
+    ensures { λ r. ⌜ KeptEnds «granted» (now (region .entry)) (now (place .entry)) r (now (region .exit)) (now (place .exit)) ⌝ }
 {
     let x = load(region);
     let d = rule_kept(region, x, standing(region, x, granted), place);

@@ -1,21 +1,20 @@
 -- One call of the program's: what it leaves of the table means the state that the model's program goes on to, and its lines are that
 -- one's new lines.
-use mathlib.Core.Path.{_≡_, refl, sym, ap, ap₂, subst, _∙_}
+use mathlib.Core.Path.{_≡_, refl, sym, ap, _∙_}
 use Prim.Native.Nat.{ℕ, zero, suc}
 use native.Mathlib.Omega.{arith}
 use mathlib.Core.Bool.{Bool, true, false, cond, _||_}
 use mathlib.Core.List.{List, [], _∷_, _++_, append-assoc}
 use mathlib.Core.Option.{Option, none, some}
-use lib.Dec.{eqb}
+use lib.Dec.{eqb, eqb·suc-zero}
 use lib.ListN.{length, take}
-use borrow.Author.Tests.{ne-eqb, eqb-true}
+use borrow.Author.Tests.{eqb-true}
 use Rattle.model.specs.Limits.{session-count, table-least, output-least}
 use Rattle.model.specs.Records.{Settings, read-settings}
 use Rattle.model.specs.Session.{Emission}
 use Rattle.model.specs.Row.{Tagged}
 use Rattle.model.specs.World.{World, uncounted, begins, emitted}
-use Rattle.model.specs.Calls.{Call, start, open-session, hang-up-session, bytes, one-tick, tool}
-use Rattle.model.specs.Calls.{Lent, output, refusal, answered, step}
+use Rattle.model.specs.Calls.{Call, start, open-session, hang-up-session, bytes, one-tick, tool, Lent, output, refusal, answered, step}
 use Rattle.model.specs.Calls as model
 use Rattle.model.specs.Program.{State, lent, called, lines-of, printed}
 use Rattle.model.proofs.Sessions.{begins-begun}
@@ -26,9 +25,9 @@ use Rattle.refusal.specs.Numbers as numbers
 use Rattle.controller.specs.declared.Answer.{Answer}
 use Rattle.controller.specs.Contract.{Said, said, model-answer, Outcome}
 use Rattle.controller.proofs.Calls.{start-silent}
-use Rattle.controller.proofs.Outputs.{Below, stands, step-below, step-many}
+use Rattle.controller.proofs.Outputs.{stands, step-below, step-many}
 use Rattle.controller.proofs.Traces.{table-left}
-use Rattle.controller.proofs.Modelled.{lending, one-call}
+use Rattle.controller.proofs.Modelled.{one-call}
 use Rattle.replay.specs.Lines.{text-of}
 use Rattle.replay.specs.States.{Means, Behind, Follows}
 use Rattle.replay.proofs.Told.{told-as}
@@ -43,10 +42,6 @@ record Regardless (c : Call) (q p : Said) : Type 0 where
   pub answer : q .1 ≡ p .1
   pub silent : (q .2 ≡ []) × (p .2 ≡ [])
   pub world : p .1 .number ≡ 0 → uncounted (q .0) ≡ erase-world (p .0)
-
--- the answer of a start that is done and has these go out
-abbrev start-answer : List (Tagged Emission) → model.Answer
-start-answer es = record { number = 0; consumed = 0; written = length (output es); taken = 0 }
 
 module _ (v w : World) (here : length (v .sessions) ≡ session-count) (there : length (w .sessions) ≡ session-count) where
   refused-both : (c : Call) (n : ℕ) → Regardless c (answered v c (suc n)) (answered w c (suc n))
@@ -66,7 +61,7 @@ module _ (v w : World) (here : length (v .sessions) ≡ session-count) (there : 
       let a = begun-silent v st in
       let b = begun-silent w st in
       rw e (record {
-        answer = ap start-answer (a ∙ sym b);
+        answer = rw (a, b);
         silent = (a, b);
         world = λ k. ap uncounted (begins-begun v st here) ∙ sym (ap erase-world (begins-begun w st there));
       })
@@ -87,50 +82,32 @@ module _ (v w : World) (here : length (v .sessions) ≡ session-count) (there : 
 record As (c : Call) (b : Bool) (q : Said) (r : Answer) (t′ o′ : List ℕ) : Type 0 where
   pub answer : model-answer r ≡ q .1
   pub bytes : take (r .written) o′ ≡ output (q .2)
-  pub below : Below session-count (q .2)
   pub formed : table-formed t′ ≡ (b || eqb (q .1 .number) 0)
   pub world : (b || eqb (q .1 .number) 0) ≡ true → decode t′ ≡ erase-world (q .0)
 
 module _ {c : Call} {t o : List ℕ} {r : Answer} {t′ o′ : List ℕ} (out : Outcome c t o r t′ o′)
     (size : length t ≡ table-least) (room : length o ≡ output-least) (w : World) (many : length (w .sessions) ≡ session-count) where
-  as-formed : table-formed t ≡ true → decode t ≡ erase-world w → As c true (step (with-formed true) w c) r t′ o′
-  as-formed f e =
-      let h : Table t = record { size = omega arith; formed = f } in
-      let k = one-call w h e out in
-      let same : step (lending (length t) (length o)) w c ≡ step (with-formed true) w c =
-      ap₂ (λ (m n : ℕ). step (lending m n) w c) size room in
-      record {
-        answer = k .answer ∙ ap (λ (x : Said). x .1) same;
-        bytes = k .bytes ∙ ap (λ (x : Said). output (x .2)) same;
-        below = step-below session-count (with-formed true) w c many;
-        formed = table-left h out .formed;
-        world = λ z. k .world ∙ ap (λ (x : Said). erase-world (x .0)) same;
-      }
-
   formed-after : (k : ℕ) → r .number ≡ k → table-formed t ≡ false → table-formed t′ ≡ eqb k 0
   formed-after zero e f = out .formed e
-  formed-after (suc k) e f =
-      ap table-formed (out .kept (λ (z : r .number ≡ 0). omega arith)) ∙ f ∙ sym (ne-eqb (suc k) 0 (λ (z : suc k ≡ 0). omega arith))
+  formed-after (suc k) e f = rw (out .kept (λ (z : r .number ≡ 0). omega arith), eqb·suc-zero k) f
 
-  as-unformed : table-formed t ≡ false → As c false (step (with-formed false) w c) r t′ o′
-  as-unformed f =
+  as-called : (b : Bool) → table-formed t ≡ b → (b ≡ true → decode t ≡ erase-world w) → As c b (step (with-formed b) w c) r t′ o′
+  as-called true f e =
+      let h : Table t = record { size = omega arith; formed = f } in
+      let k = rw (size, room) at (one-call w h (e refl) out) in
+      record { answer = k .answer; bytes = k .bytes; formed = table-left h out .formed; world = λ z. k .world }
+  as-called false f e =
       let q = step (with-formed false) w c in
       let g = regardless (decode t) w (so-many-sessions t) many c in
       let lends : numbers.lent t (length o) ≡ with-formed false = λ i. record { table = size i; well-formed = f i; output = room i } in
       let same : said c t o ≡ step (with-formed false) (decode t) c = ap (λ (l : Lent). step l (decode t) c) lends in
-      let answer : model-answer r ≡ q .1 = ap model-answer (out .answer) ∙ ap (λ (x : Said). x .1) same ∙ g .answer in
+      let answer : model-answer r ≡ q .1 = rw (out .answer, same) (g .answer) in
       record {
         answer = answer;
-        bytes = stands out .records ∙ ap (λ (x : Said). output (x .2)) same ∙ ap output (g .silent .0 ∙ sym (g .silent .1));
-        below = subst (Below session-count) (sym (g .silent .1)) tt;
+        bytes = stands out .records ∙ cc;
         formed = formed-after (q .1 .number) (ap (λ (a : model.Answer). a .number) answer) f;
-        world = λ z.
-            out .meaning ∙ ap (λ (x : Said). uncounted (x .0)) same ∙ g .world (eqb-true (q .1 .number) 0 z);
+        world = λ z. out .meaning ∙ rw same (g .world (eqb-true (q .1 .number) 0 z));
       }
-
-  as-called : (b : Bool) → table-formed t ≡ b → (b ≡ true → decode t ≡ erase-world w) → As c b (step (with-formed b) w c) r t′ o′
-  as-called true f e = as-formed f (e refl)
-  as-called false f e = as-unformed f
 
 -- ==== the program's state
 
@@ -159,8 +136,8 @@ module _ {c : Call} {t o : List ℕ} {r : Answer} {t′ o′ : List ℕ} (out : 
       lines = λ x m.
           let k = as-state x m in
           let q = step (lent x) (x .world) c in
-          printed-append (x .lines) (lines-of (q .1) (q .2))
-          ∙ ap (λ (l : List ℕ). printed (x .lines) ++ l) (sym (told-as q r o′ (k .answer) (k .bytes) (out .fits) (k .below)));
+          let below = step-below session-count (lent x) (x .world) c (m .sessions) in
+          rw (told-as q r o′ (k .answer) (k .bytes) (out .fits) below) (printed-append (x .lines) (lines-of (q .1) (q .2)));
     };
     behind = b;
   }

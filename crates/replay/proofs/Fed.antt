@@ -2,11 +2,11 @@
 use mathlib.Core.Path.{_≡_, refl, sym, ap, _∙_}
 use Prim.Native.Nat.{ℕ, zero, suc, _<_}
 use native.Mathlib.Omega.{arith}
-use mathlib.Core.Bool.{Bool, true, false, not, cond, _&&_, and-eq-true-iff}
+use mathlib.Core.Bool.{Bool, true, false, not, cond, _&&_}
 use mathlib.Core.List.{List}
 use lib.Dec.{ltb, eqb}
 use lib.ListN.{length, drop}
-use borrow.Author.Tests.{eq-eqb, ne-eqb, eqb-true, ltb-true, ltb-false}
+use borrow.Author.Tests.{eq-eqb, ne-eqb, ltb-true, ltb-false}
 use Rattle.model.specs.Limits.{table-least, output-least}
 use Rattle.model.specs.Calls.{bytes, step}
 use Rattle.model.specs.Calls as model
@@ -24,17 +24,8 @@ pub fed-next : (m s : ℕ) (y : State) (left rest : List ℕ) (a : model.Answer)
     → (step (lent y) (y .world) (bytes s left)) .1 ≡ a
     → rest ≡ drop (a .consumed) left → going ≡ (eqb (a .number) 0 && not (eqb (length rest) 0))
     → fed (suc m) y s left ≡ cond going (fed m (called y (bytes s left)) s rest) (called y (bytes s left))
-fed-next m s y left rest a going e d g =
-    let z : State = called y (bytes s left) in
-    ap (λ (b : model.Answer).
-    let l : List ℕ = drop (b .consumed) left in
-    elim (eqb (b .number) 0 && not (eqb (length l) 0)) [ true ↦ fed m z s l | false ↦ z ]) e
-    ∙ ap (λ (l : List ℕ). elim (eqb (a .number) 0 && not (eqb (length l) 0)) [ true ↦ fed m z s l | false ↦ z ]) (sym d)
-    ∙ chosen (eqb (a .number) 0 && not (eqb (length rest) 0)) (fed m z s rest) z ∙ ap (λ (b : Bool). cond b (fed m z s rest) z) (sym g)
-  where
-    chosen : (b : Bool) (x z : State) → elim b [ true ↦ x | false ↦ z ] ≡ cond b x z
-    chosen true x z = refl
-    chosen false x z = refl
+fed-next m s y left rest a true e d g = cc
+fed-next m s y left rest a false e d g = cc
 
 -- some bytes were handed on, and the table has become t′; what is left is to be handed on, or, where it does not go on, is not
 pub record Feeding (s : ℕ) (bs : List ℕ) (room : ℕ) (t waited t′ waits left : List ℕ) (going : Bool) : Type 0 where
@@ -68,21 +59,13 @@ feeding-on {s} {room} {bs} {t} {waited} {t′} {waits} {left} {o} {t₁} {o₁} 
     go (suc m) h k = record {
       more = m;
       enough = λ z.
-          let p = and-eq-true-iff (eqb (r .number) 0) (not (eqb (length rest) 0)) .0 (sym g ∙ z) in
-          let some : 0 < length rest = over (length rest) (p .1) in
-          let n : length rest ≡ length (drop (r .consumed) left) = ap length d in
-          let less = used-up left out (eqb-true (r .number) 0 (p .0)) (omega arith) in
-          omega arith;
+          omega (arith, used-up left d out (sym g ∙ z));
       so-far = λ x. called (f .so-far x) (bytes s left);
       follows = follows-then (f .follows) (called-follows out size lends b);
       rest = λ x means.
           let answer = called-answer out size lends (f .so-far x) (f .follows .leads .state x means) in
           sym (fed-next m s (f .so-far x) left rest (model-answer r) on (sym answer) d g) ∙ k x means;
     }
-      where
-        over : (n : ℕ) → not (eqb n 0) ≡ true → 0 < n
-        over zero q = let z : _≡_ {A = ℕ} 0 1 = cc in omega arith
-        over (suc n) q = omega arith
 
 pub feeding-ends : {s room : ℕ} {bs t waited t′ waits left : List ℕ} {going : Bool}
     → Feeding s bs room t waited t′ waits left going → going ≡ false

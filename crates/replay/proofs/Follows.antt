@@ -22,16 +22,14 @@ behind-nothing room waited = record { written = []; order = sym (append-nil wait
 pub behind-then : {room : ℕ} {a b c m n : List ℕ} → Behind room a m b → Behind room b n c → Behind room a (m ++ n) c
 behind-then {room = room} {a = a} {b = b} {c = c} {m = m} {n = n} p q = record {
   written = p .written ++ q .written;
-  order =
-      append-assoc (p .written) (q .written) c ∙ ap (λ (l : List ℕ). p .written ++ l) (q .order) ∙ sym (append-assoc (p .written) b n)
-      ∙ ap (λ (l : List ℕ). l ++ n) (p .order) ∙ append-assoc a m n;
+  order = rw (append-assoc (p .written), q .order, ← append-assoc (p .written) b n, p .order, append-assoc a m n);
   none = λ h.
       let k = ap length (sym (append-assoc a m n)) in
       let e = length-append (a ++ m) n in
       let first : p .written ≡ [] = p .none (omega arith) in
-      let same : b ≡ a ++ m = ap (λ (l : List ℕ). l ++ b) (sym first) ∙ p .order in
-      let second : q .written ≡ [] = q .none (subst (λ (l : List ℕ). length (l ++ n) + output-least ≤ room) (sym same) (omega arith)) in
-      ap₂ _++_ first second;
+      let same : b ≡ a ++ m = rw first at (p .order) in
+      let second : q .written ≡ [] = q .none (rw same (omega arith)) in
+      cc;
 }
 
 pub behind-room : {m n : ℕ} {a b new : List ℕ} → m ≡ n → Behind m a new b → Behind n a new b
@@ -77,7 +75,7 @@ leads-nothing t = record { state = λ x m. m; lines = λ x m. sym (append-nil (p
 pub leads-then : {f g : State → State} {t t₁ t₂ a b : List ℕ} → Leads f t a t₁ → Leads g t₁ b t₂ → Leads (λ x. g (f x)) t (a ++ b) t₂
 leads-then {f = f} {a = a} {b = b} p q = record {
   state = λ x m. q .state (f x) (p .state x m);
-  lines = λ x m. q .lines (f x) (p .state x m) ∙ ap (λ (l : List ℕ). l ++ b) (p .lines x m) ∙ append-assoc (printed (x .lines)) a b;
+  lines = λ x m. rw (q .lines (f x) (p .state x m), p .lines x m) (append-assoc (printed (x .lines)) a b);
 }
 
 -- the same, of what the table meant
@@ -101,6 +99,3 @@ follows-then p q = record {
 pub follows-as : {f g : State → State} {room : ℕ} {t a t′ b : List ℕ}
     → ((x : State) → Means t x → f x ≡ g x) → Follows f room t a t′ b → Follows g room t a t′ b
 follows-as e p = record { new = p .new; leads = leads-as e (p .leads); behind = p .behind }
-
-pub follows-room : {f : State → State} {m n : ℕ} {t a t′ b : List ℕ} → m ≡ n → Follows f m t a t′ b → Follows f n t a t′ b
-follows-room e p = record { new = p .new; leads = p .leads; behind = behind-room e (p .behind) }

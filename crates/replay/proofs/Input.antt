@@ -3,7 +3,7 @@ use mathlib.Core.Path.{_≡_, refl, sym, ap, ap₂, _∙_}
 use Prim.Native.Nat.{ℕ, zero, suc, _+_, _-_, _≤_, _<_}
 use native.Mathlib.Nat.{zero-add}
 use native.Mathlib.Omega.{arith}
-use mathlib.Core.Bool.{Bool, true, false, cond, _&&_}
+use mathlib.Core.Bool.{Bool, true, false, cond, _&&_, and-eq-true-iff}
 use mathlib.Core.List.{List, [], _∷_, _++_, append-assoc, append-nil, flatten}
 use lib.Dec.{leb}
 use lib.ListN.{length, take, drop, replicate, length-append, length-drop}
@@ -31,21 +31,20 @@ record Is-whole (bs : List ℕ) : Type 0 where
 
 is-whole : (bs : List ℕ) → 0 < whole-size bs → Is-whole bs
 unfolding whole-size
-is-whole bs h = go (leb record-head (length bs)) (leb n payload-longest) (leb (record-head + n) (length bs)) refl refl refl h
+is-whole bs h = go (few && leb (record-head + n) (length bs)) refl h
   where
     n : ℕ
     n = little (places 1 2 bs)
 
-    go : (a b c : Bool) → leb record-head (length bs) ≡ a → leb n payload-longest ≡ b → leb (record-head + n) (length bs) ≡ c
-        → 0 < cond (a && b && c) (record-head + n) 0 → Is-whole bs
-    go true true true p q r z = record {
-      size = rw (p, q, r);
-      short = leb-true _ _ q;
-      fits = leb-true _ _ r;
-    }
-    go true true false p q r z = absurd (omega arith)
-    go true false c p q r z = absurd (omega arith)
-    go false b c p q r z = absurd (omega arith)
+    few : Bool
+    few = leb record-head (length bs) && leb n payload-longest
+
+    go : (t : Bool) → (few && leb (record-head + n) (length bs)) ≡ t → 0 < cond t (record-head + n) 0 → Is-whole bs
+    go true q z =
+        let b = and-eq-true-iff few (leb (record-head + n) (length bs)) .0 q in
+        let k = and-eq-true-iff (leb record-head (length bs)) (leb n payload-longest) .0 (b .0) in
+        record { size = rw q; short = leb-true _ _ (k .1); fits = leb-true _ _ (b .1) }
+    go false q z = absurd (omega arith)
 
 size-append : (xs ys : List ℕ) → 0 < whole-size xs → whole-size (xs ++ ys) ≡ whole-size xs
 size-append xs ys h =
@@ -84,13 +83,8 @@ module _ (xs ys : List ℕ) where
   split-none : whole-size xs ≡ 0 → Split xs ys
   split-none e =
       let w = waits-none xs e in
-      record {
-        whole =
-            ap (λ (l : List ℕ). records (l ++ ys)) (sym w)
-            ∙ ap (λ (ss : List (List ℕ)). ss ++ records (waits xs ++ ys)) (sym (slices-none xs (length xs) e));
-        left = ap (λ (l : List ℕ). waits (l ++ ys)) (sym w);
-        cut = ap whole-size w ∙ e;
-      }
+      let s = slices-none xs (length xs) e in
+      record { whole = rw (s, w); left = cc; cut = cc }
 
   split-first : (p : 0 < whole-size xs) → whole-size xs ≤ length xs → Split (drop (whole-size xs) xs) ys → Split xs ys
   split-first p few rest =
@@ -99,14 +93,11 @@ module _ (xs ys : List ℕ) where
       let a = length-append xs ys in
       let behind : drop size (xs ++ ys) ≡ drop size xs ++ ys = drop-append-le size xs ys few in
       let w = waits-next xs size refl p few in
+      let front = take-append-le size xs ys few in
       record {
-        whole =
-            slices-first (xs ++ ys) size same p ∙ ap₂ _∷_ (take-append-le size xs ys few) (ap records behind ∙ rest .whole)
-            ∙ ap (λ (l : List ℕ). (take size xs ∷ records (drop size xs)) ++ records (l ++ ys)) w
-            ∙ ap (λ (ss : List (List ℕ)). ss ++ records (waits xs ++ ys)) (sym (slices-first xs size refl p));
-        left =
-            sym (waits-next (xs ++ ys) size same p (omega arith)) ∙ ap waits behind ∙ rest .left ∙ ap (λ (l : List ℕ). waits (l ++ ys)) w;
-        cut = ap whole-size (sym w) ∙ rest .cut;
+        whole = rw (slices-first (xs ++ ys) size same p, slices-first xs size refl p, front, behind, rest .whole, w);
+        left = sym (waits-next (xs ++ ys) size same p (omega arith)) ∙ cc;
+        cut = cc;
       }
 
 split-within : (n : ℕ) (xs ys : List ℕ) → length xs ≤ n → Split xs ys
@@ -155,10 +146,8 @@ pub turned-none : {t w waiting : List ℕ} → waiting ≡ w → whole-size w �
 turned-none {t = t} {w = w} e z = record {
   read = [];
   written = [];
-  leads = leads-as (λ x m.
-      ap (all-given x) (sym (slices-none w (length w) z))
-      ∙ ap (λ (l : List ℕ). all-given x (records l)) (sym (append-nil w))) (leads-nothing t);
-  left = e ∙ sym (waits-none w z) ∙ ap waits (sym (append-nil w));
+  leads = leads-as (λ x m. rw (append-nil w, slices-none w (length w) z)) (leads-nothing t);
+  left = rw (append-nil w, waits-none w z) e;
 }
 
 -- what was read behind what waited is served
@@ -167,13 +156,8 @@ pub turned-served : {room : ℕ} {t w t′ l waiting : List ℕ} (size got : ℕ
     → Turned t w t′ waiting
 turned-served {w = w} size got input e f n =
     let read = take got (drop size input) in
-    let all : take (size + got) input ≡ w ++ read = take-add size got input ∙ ap (λ (l : List ℕ). l ++ read) e in
-    record {
-      read = read;
-      written = f .new;
-      leads = leads-as (λ x m. ap (λ (l : List ℕ). all-given x (records l)) all) (f .leads);
-      left = n ∙ ap waits all;
-    }
+    let all : take (size + got) input ≡ w ++ read = rw (take-add size got input, e) in
+    record { read = read; written = f .new; leads = leads-as (λ x m. rw all) (f .leads); left = cc }
 
 -- one turn after another
 pub turned-then : {t w t₁ w₁ t₂ w₂ : List ℕ} → Turned t w t₁ w₁ → Turned t₁ w₁ t₂ w₂ → Turned t w t₂ w₂
@@ -184,11 +168,8 @@ turned-then {w = w} {w₁ = w₁} p q =
     record {
       read = p .read ++ q .read;
       written = p .written ++ q .written;
-      leads = leads-as (λ x m.
-          sym (all-given-append x (records (w ++ p .read)) (records (w₁ ++ q .read)))
-          ∙ ap (λ (l : List ℕ). all-given x (records (w ++ p .read) ++ records l)) (sym next)
-          ∙ ap (all-given x) (sym (s .whole)) ∙ ap (λ (l : List ℕ). all-given x (records l)) all) (leads-then (p .leads) (q .leads));
-      left = q .left ∙ ap waits (sym next) ∙ sym (s .left) ∙ ap waits all;
+      leads = leads-as (λ x m. rw (← all, s .whole, next, all-given-append)) (leads-then (p .leads) (q .leads));
+      left = rw (← all, s .left, next) (q .left);
     }
 
 -- no whole record waits

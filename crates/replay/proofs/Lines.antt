@@ -2,16 +2,18 @@
 use mathlib.Core.Path.{_≡_, refl, sym, ap, _∙_}
 use Prim.Native.Nat.{ℕ, suc, _+_, _-_, _≤_, _<_}
 use native.Mathlib.Omega.{arith}
-use mathlib.Core.Bool.{Bool, true, false, cond}
-use mathlib.Core.List.{List, [], _∷_, _++_, map, append-assoc}
+use mathlib.Core.Bool.{cond}
+use mathlib.Core.List.{List, [], _∷_, _++_, append-assoc}
 use lib.Dec.{eqb}
-use lib.ListN.{length, getD, take, drop, length-append, length-drop}
+use lib.ListN.{length, getD, take, drop, length-drop}
 use lib.Seq.{length-take-le}
-use borrow.Author.Tests.{eq-eqb, ne-eqb, eqb-true, eqb-false}
+use borrow.Author.Tests.{eq-eqb, ne-eqb}
 use Rattle.model.specs.Bytes.{space, little, digits}
 use Rattle.model.specs.Program.{shown, printed}
 use Rattle.model.specs.Records.{record-head}
+use Rattle.text.specs.Put.{Put, Written}
 use Rattle.text.proofs.Lists.{drop-next}
+use Rattle.text.proofs.Puts.{put-then, put-length}
 use Rattle.controller.specs.declared.Answer.{Answer}
 use Rattle.replay.specs.Lines.{line-in, lines-in, text-of}
 use Rattle.replay.specs.Whole.{whole-size}
@@ -25,54 +27,61 @@ pub shown-length : (l : List ℕ) → length (shown l) ≡ length l
 shown-length [] = refl
 shown-length (b ∷ l) = ap suc (shown-length l)
 
-module _ (slice : List ℕ) (n : ℕ) (e : n ≡ little (take 1 (drop 2 slice))) where
-  pub close-line : length slice ≡ record-head → digits 1 n ++ space ∷ 0x43 ∷ 0x0A ∷ [] ≡ line-in slice ++ 0x0A ∷ []
+-- a line is as long as its record: the order to close, and a frame, whose session's digit stands first
+module _ {l l₁ : List ℕ} {at r₁ n : ℕ} (slice : List ℕ) (e : n ≡ little (take 1 (drop 2 slice))) (digit : Put l at (digits 1 n) r₁ l₁) where
+  pub close-line : {l₂ : List ℕ} {r₂ : ℕ} → length slice ≡ record-head → Put l₁ r₁ (space ∷ 0x43 ∷ 0x0A ∷ []) r₂ l₂
+      → Written l at (length slice) (line-in slice ++ 0x0A ∷ []) r₂ l₂
   unfolding line-in digits
-  close-line h = rw (eq-eqb (length slice) record-head h, e)
+  close-line h p =
+      let q = put-then digit p in
+      record { place = omega (arith, q .place); put = rw (eq-eqb (length slice) record-head h, ← e) q }
 
-  pub frame-line : (m : ℕ) → m ≡ length slice - suc record-head → (length slice ≡ record-head → ⊥)
-      → ((digits 1 n ++ space ∷ 0x53 ∷ space ∷ []) ++ shown (take m (drop record-head slice))) ++ 0x0A ∷ [] ≡ line-in slice ++ 0x0A ∷ []
-  unfolding line-in digits
-  frame-line m k h = rw (ne-eqb (length slice) record-head h, e, k)
-
--- a line is as long as its record
-pub line-length : (slice : List ℕ) → record-head ≤ length slice → length (line-in slice ++ 0x0A ∷ []) ≡ length slice
-unfolding line-in digits
-line-length slice h = go (eqb (length slice) record-head) refl
-  where
-    go : (b : Bool) → eqb (length slice) record-head ≡ b → length (line-in slice ++ 0x0A ∷ []) ≡ length slice
-    go true e = rw e (sym (eqb-true (length slice) record-head e))
-    go false e =
-        let ne = eqb-false (length slice) record-head e in
-        let frame = take (length slice - suc record-head) (drop record-head slice) in
+  module _ {l₂ l₃ : List ℕ} {r₂ r₃ : ℕ} (no-order : length slice ≡ record-head → ⊥) (long : record-head ≤ length slice)
+      (mark : Put l₁ r₁ (space ∷ 0x53 ∷ space ∷ []) r₂ l₂)
+      (text : Put l₂ r₂ (shown (take (length slice - 1 - record-head) (drop record-head slice))) r₃ l₃) where
+    frame-place : suc r₃ ≡ at + length slice
+    unfolding digits
+    frame-place =
+        let frame = take (length slice - 1 - record-head) (drop record-head slice) in
         let d = length-drop record-head slice in
-        let n : length frame ≡ length slice - suc record-head =
-        length-take-le (length slice - suc record-head) (drop record-head slice) (omega arith) in
-        let a = length-append (shown frame) (0x0A ∷ []) in
+        let n = length-take-le (length slice - 1 - record-head) (drop record-head slice) (omega arith) in
         let k = shown-length frame in
-        let five : record-head < length slice = over ne in
-        rw e (omega arith)
-      where
-        over : (length slice ≡ record-head → ⊥) → record-head < length slice
-        over ne = omega (arith, ne, h)
+        let z = no-order in
+        omega (arith, digit .place, mark .place, text .place)
+
+    pub frame-room : at + length slice ≤ length l → r₃ + 1 ≤ length l₃
+    frame-room h = omega (arith, frame-place, put-length digit, put-length mark, put-length text)
+
+    pub frame-line : {l₄ : List ℕ} {r₄ : ℕ} → Put l₃ r₃ (0x0A ∷ []) r₄ l₄
+        → Written l at (length slice) (line-in slice ++ 0x0A ∷ []) r₄ l₄
+    unfolding line-in digits
+    frame-line p =
+        let m : length slice - 1 - record-head ≡ length slice - suc record-head = omega arith in
+        let q = rw m at (put-then (put-then (put-then digit mark) text) p) in
+        record {
+          place = omega (arith, frame-place, p .place);
+          put = rw (ne-eqb (length slice) record-head no-order, ← e) q;
+        }
 
 -- the first record's line, and then the others
 pub lines-next : (bs : List ℕ) (size : ℕ) → size ≡ whole-size bs → 0 < size
     → printed (lines-in bs) ≡ (line-in (take size bs) ++ 0x0A ∷ []) ++ printed (lines-in (drop size bs))
 unfolding lines-in
 lines-next bs size e h =
-    ap (λ (ss : List (List ℕ)). printed (map line-in ss)) (slices-first bs size e h)
-    ∙ sym (append-assoc (line-in (take size bs)) (0x0A ∷ []) (printed (lines-in (drop size bs))))
+    rw (slices-first bs size e h) (sym (append-assoc (line-in (take size bs)) (0x0A ∷ []) (printed (lines-in (drop size bs)))))
 
 pub lines-none : (bs : List ℕ) (size : ℕ) → size ≡ whole-size bs → size ≡ 0 → printed (lines-in bs) ≡ []
 unfolding lines-in
 lines-none bs size e z = rw (slices-none bs (length bs) (sym e ∙ z))
 
-module _ (r : Answer) (o : List ℕ) where
-  pub refused-text : (r .number ≡ 0 → ⊥) → ((0x52 ∷ space ∷ []) ++ digits 1 (r .number)) ++ 0x0A ∷ [] ≡ text-of r o
+-- what a call has printed: a refusal's number, or the lines of its records
+module _ (r : Answer) (o : List ℕ) {l : List ℕ} {at : ℕ} where
+  pub refused-text : {l₁ l₂ l₃ : List ℕ} {r₁ r₂ r₃ : ℕ} → (r .number ≡ 0 → ⊥) → Put l at (0x52 ∷ space ∷ []) r₁ l₁
+      → Put l₁ r₁ (digits 1 (r .number)) r₂ l₂ → Put l₂ r₂ (0x0A ∷ []) r₃ l₃ → Put l at (text-of r o) r₃ l₃
   unfolding text-of
-  refused-text h = rw (ne-eqb (r .number) 0 h)
+  refused-text h a b c = rw (ne-eqb (r .number) 0 h) (put-then (put-then a b) c)
 
-  pub done-text : r .number ≡ 0 → printed (lines-in (take (r .written) o)) ≡ text-of r o
+  pub done-text : {l₁ : List ℕ} {r₁ : ℕ} → r .number ≡ 0 → Put l at (printed (lines-in (take (r .written) o))) r₁ l₁
+      → Put l at (text-of r o) r₁ l₁
   unfolding text-of
-  done-text h = rw (eq-eqb (r .number) 0 h)
+  done-text h a = rw (eq-eqb (r .number) 0 h) a

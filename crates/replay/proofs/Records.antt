@@ -2,7 +2,7 @@
 use mathlib.Core.Path.{_≡_, refl, sym, ap, _∙_}
 use Prim.Native.Nat.{ℕ, suc, _+_, _-_, _≤_, _<_}
 use native.Mathlib.Omega.{arith}
-use mathlib.Core.Bool.{Bool, true, false}
+use mathlib.Core.Bool.{true, false}
 use mathlib.Core.List.{List, _++_, flatten}
 use lib.ListN.{length, take, drop, length-append}
 use lib.Seq.{length-take-le, drop-drop}
@@ -17,23 +17,12 @@ use Rattle.replay.proofs.Follows.{follows-nothing, follows-then, follow
 -- ==== one record
 
 module _ (x : State) (slice : List ℕ) (record-kind : ℕ) (k : record-kind ≡ little (places 3 4 slice)) where
-  -- a record of that kind: received bytes, or another call
-  abbrev by-record-kind : Bool → ℕ → State
-  by-record-kind b n =
-      elim b [
-        | true ↦ fed (suc (length (drop record-head slice))) x (n - bytes-record-kind) (drop record-head slice)
-        | false ↦ called x (call-of n slice)
-      ]
-
-  as-given : (b : Bool) → is-of bytes-record-kind record-kind ≡ b → by-record-kind b record-kind ≡ given x slice
-  as-given b e = ap (λ (c : Bool). by-record-kind c record-kind) (sym e) ∙ ap (λ (n : ℕ). by-record-kind (is-of bytes-record-kind n) n) k
-
   pub given-bytes : (bs : List ℕ) → is-of bytes-record-kind record-kind ≡ true → bs ≡ drop record-head slice
       → fed (suc (length bs)) x (record-kind - bytes-record-kind) bs ≡ given x slice
-  given-bytes bs e d = ap (λ (l : List ℕ). fed (suc (length l)) x (record-kind - bytes-record-kind) l) d ∙ as-given true e
+  given-bytes bs e d = cc
 
   pub given-call : is-of bytes-record-kind record-kind ≡ false → called x (call-of record-kind slice) ≡ given x slice
-  given-call e = as-given false e
+  given-call e = cc
 
 -- ==== the records of an input
 
@@ -45,8 +34,7 @@ waits-next bs size e h few =
     let n = length-take-le size bs few in
     let a = length-append (take size bs) behind in
     let k : size + length behind ≡ length (take size bs ++ behind) = omega arith in
-    drop-drop (length behind) size bs ∙ ap (λ (m : ℕ). drop m bs) k
-    ∙ ap (λ (ss : List (List ℕ)). drop (length (flatten ss)) bs) (sym (slices-first bs size e h))
+    drop-drop (length behind) size bs ∙ rw (slices-first bs size e h, k)
 
 pub waits-none : (bs : List ℕ) → whole-size bs ≡ 0 → waits bs ≡ bs
 unfolding waits flatten
@@ -69,10 +57,8 @@ pub serving-on : {input t waited t′ waiting left t₁ waiting₁ rest : List �
 serving-on {left = left} {size = size} s e h few f d = record {
   so-far = λ x. given (s .so-far x) (take size left);
   follows = follows-then (s .follows) f;
-  rest = λ x.
-      ap (λ (l : List ℕ). all-given (given (s .so-far x) (take size left)) (records l)) d
-      ∙ ap (all-given (s .so-far x)) (sym (slices-first left size e h)) ∙ s .rest x;
-  same = ap waits d ∙ waits-next left size e h few ∙ s .same;
+  rest = λ x. rw d (rw (slices-first left size e h) at (s .rest x));
+  same = rw d (waits-next left size e h few ∙ s .same);
 }
 
 -- no whole record is left

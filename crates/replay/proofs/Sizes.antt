@@ -2,7 +2,7 @@
 use mathlib.Core.Path.{_≡_, refl, sym, ap, _∙_}
 use Prim.Native.Nat.{ℕ, zero, suc, _+_, _≤_, _<_}
 use native.Mathlib.Omega.{arith}
-use mathlib.Core.Bool.{Bool, true, false, cond, not, _&&_}
+use mathlib.Core.Bool.{Bool, true, false, cond, not, _&&_, and-false}
 use mathlib.Core.List.{List, [], _∷_}
 use lib.Dec.{leb, ltb}
 use lib.ListN.{length, take, drop, length-drop}
@@ -23,22 +23,12 @@ module _ (bs : List ℕ) where
 
   pub size-too-long : payload-longest < payload → 0 ≡ whole-size bs
   unfolding whole-size
-  size-too-long h = go (leb record-head (length bs)) (lt-leb payload payload-longest h)
-    where
-      go : (b : Bool) → leb payload payload-longest ≡ false
-          → 0 ≡ cond (b && leb payload payload-longest && leb (record-head + payload) (length bs)) (record-head + payload) 0
-      go true e = rw e
-      go false e = refl
+  size-too-long h = rw (lt-leb payload payload-longest h, and-false (leb record-head (length bs)))
 
   pub size-missing : length bs < record-head + payload → 0 ≡ whole-size bs
   unfolding whole-size
-  size-missing h = go (leb record-head (length bs)) (leb payload payload-longest) (lt-leb (record-head + payload) (length bs) h)
-    where
-      go : (b d : Bool) → leb (record-head + payload) (length bs) ≡ false
-          → 0 ≡ cond (b && d && leb (record-head + payload) (length bs)) (record-head + payload) 0
-      go true true e = rw e
-      go true false e = refl
-      go false d e = refl
+  size-missing h =
+      rw (lt-leb (record-head + payload) (length bs) h, and-false (leb record-head (length bs) && leb payload payload-longest))
 
   pub size-whole : payload ≤ payload-longest → record-head + payload ≤ length bs → record-head + payload ≡ whole-size bs
   unfolding whole-size
@@ -70,10 +60,8 @@ module _ (bs : List ℕ) where
 
 -- as many turns as there are bytes are enough
 pub slices-enough : (m n : ℕ) (bs : List ℕ) → length bs ≤ m → length bs ≤ n → slices m bs ≡ slices n bs
-slices-enough zero n bs h g =
-    let e : whole-size bs ≡ 0 = sym (size-cut bs (omega arith)) in slices-none bs 0 e ∙ sym (slices-none bs n e)
-slices-enough (suc m) zero bs h g =
-    let e : whole-size bs ≡ 0 = sym (size-cut bs (omega arith)) in slices-none bs (suc m) e ∙ sym (slices-none bs 0 e)
+slices-enough zero n bs h g = sym (slices-none bs n (sym (size-cut bs (omega arith))))
+slices-enough (suc m) zero bs h g = slices-none bs (suc m) (sym (size-cut bs (omega arith)))
 slices-enough (suc m) (suc n) bs h g = go (λ (ys : List ℕ). slices-enough m n ys) (whole-size bs) refl
   where
     go : ((ys : List ℕ) → length ys ≤ m → length ys ≤ n → slices m ys ≡ slices n ys) → (k : ℕ) → whole-size bs ≡ k
@@ -82,9 +70,7 @@ slices-enough (suc m) (suc n) bs h g = go (λ (ys : List ℕ). slices-enough m n
     go shorter (suc k) e =
         let p : 0 < whole-size bs = omega arith in
         let d = length-drop (whole-size bs) bs in
-        slices-next bs m p
-        ∙ ap (λ (ss : List (List ℕ)). take (whole-size bs) bs ∷ ss) (shorter (drop (whole-size bs) bs) (omega arith) (omega arith))
-        ∙ sym (slices-next bs n p)
+        rw (slices-next bs m p, slices-next bs n p, shorter (drop (whole-size bs) bs) (omega arith) (omega arith))
 
 pub slices-first : (bs : List ℕ) (size : ℕ) → size ≡ whole-size bs → 0 < size
     → slices (length bs) bs ≡ take size bs ∷ slices (length (drop size bs)) (drop size bs)

@@ -1,10 +1,8 @@
 -- 01, "Counted and compared": what a call has the program print are the model's lines for it.
-use mathlib.Core.Path.{_≡_, refl, sym, ap, ap₂, _∙_}
+use mathlib.Core.Path.{_≡_, refl, sym, ap, _∙_}
 use Prim.Native.Nat.{ℕ, suc, _+_, _-_, _%_, _≤_, _<_}
 use native.Mathlib.Omega.{arith}
-use mathlib.Core.Bool.{Bool, cond}
 use mathlib.Core.List.{List, [], _∷_, _++_, map}
-use lib.Dec.{eqb}
 use lib.ListN.{length, take, drop, length-append, length-take}
 use lib.Seq.{take-at, drop-at}
 use borrow.Author.Tests.{ne-eqb}
@@ -16,7 +14,7 @@ use Rattle.model.specs.Session.{Emission, reply, copy, close}
 use Rattle.model.specs.Calls.{Call, output-record, output, step}
 use Rattle.model.specs.Calls as model
 use Rattle.model.specs.Row.{Tagged, said}
-use Rattle.model.specs.Program.{shown, line-of, lines-of, slices, printed}
+use Rattle.model.specs.Program.{shown, line-of, lines-of, printed}
 use Rattle.table.specs.Table.{decode}
 use Rattle.table.proofs.Regions.{so-many-sessions}
 use Rattle.refusal.specs.Numbers.{number}
@@ -75,14 +73,8 @@ frame-line : (s : ℕ) (frame : List ℕ) → s < session-count
     → line-in (frame-record s frame) ≡ digits 1 s ++ (space ∷ 0x53 ∷ space ∷ []) ++ shown frame
 unfolding line-in digits
 frame-line s frame h =
-    let r = frame-record s frame in
     let n = frame-length s frame in
-    let d = digits 1 (little (places 3 3 r)) in
-    let closing : List ℕ = space ∷ 0x43 ∷ [] in
-    let sending : List ℕ = space ∷ 0x53 ∷ space ∷ [] in
-    ap (λ (b : Bool). d ++ cond b closing (sending ++ shown (take (length r - suc record-head) (drop record-head r))))
-    (ne-eqb (length r) record-head (λ e. omega arith)) ∙ ap (λ (l : List ℕ). d ++ sending ++ shown l) (frame-body s frame)
-    ∙ ap (λ (x : List ℕ). x ++ sending ++ shown frame) (frame-session s frame h)
+    cc (ne-eqb (length (frame-record s frame)) record-head (λ e. omega arith), frame-body s frame, frame-session s frame h)
 
 close-line : (s : ℕ) → s < session-count → line-in (close-record s) ≡ digits 1 s ++ space ∷ 0x43 ∷ []
 unfolding line-in close-record in-bytes
@@ -122,10 +114,10 @@ lines-in-output (x ∷ xs) p h =
     let n = length-append r (output xs) in
     let size : length r ≡ whole-size bs = record-first (x .who) (x .what) (output xs) (omega arith) in
     let some : 0 < length r = record-some (x .who) (x .what) in
-    let rest : drop (length r) bs ≡ output xs = drop-at r (output xs) (length r) refl in
-    ap (map line-in) (slices-first bs (length r) size some)
-    ∙ ap₂ _∷_ (ap line-in (take-at r (output xs) (length r) refl) ∙ record-line (x .who) (x .what) (p .0))
-    (ap (λ (l : List ℕ). map line-in (slices (length l) l)) rest ∙ lines-in-output xs (p .1) (omega arith))
+    let front = take-at r (output xs) (length r) refl in
+    let behind = drop-at r (output xs) (length r) refl in
+    rw (slices-first bs (length r) size some, front, behind, record-line (x .who) (x .what) (p .0))
+    (ap (line-of x ∷_) (lines-in-output xs (p .1) (omega arith)))
 
 -- what is printed for a call that answers and writes as the model says
 pub told-as : (q : Said) (r : Answer) (o′ : List ℕ)
@@ -134,8 +126,7 @@ pub told-as : (q : Said) (r : Answer) (o′ : List ℕ)
 unfolding text-of
 told-as q r o′ answer bytes fits below =
     let n = ap length (sym bytes) ∙ length-take (r .written) o′ in
-    ap₂ (λ (number : ℕ) (ls : List (List ℕ)). printed (cond (eqb number 0) ls ((0x52 ∷ space ∷ digits 1 number) ∷ [])))
-    (ap (λ (a : model.Answer). a .number) answer) (ap lines-in bytes ∙ lines-in-output (q .2) below (omega arith))
+    rw (ap (λ (a : model.Answer). a .number) answer, bytes, lines-in-output (q .2) below (omega arith))
 
 -- THE LINES: what is printed for a call are the lines of what the model says of it
 pub told : {c : Call} {t o : List ℕ} {r : Answer} {t′ o′ : List ℕ} → Outcome c t o r t′ o′
@@ -144,4 +135,4 @@ unfolding step
 told {c = c} {t = t} {o = o} {r = r} {t′ = t′} {o′ = o′} out =
     told-as (contract.said c t o) r o′ (ap model-answer (out .answer)) (stands out .records) (out .fits)
     (answered-below session-count (decode t) c (number t (length o) c) (so-many-sessions t))
-    ∙ ap (λ (a : Answer). printed (lines-of (model-answer a) ((contract.said c t o) .2))) (sym (out .answer))
+    ∙ rw (out .answer)

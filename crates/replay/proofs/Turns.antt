@@ -1,19 +1,18 @@
 -- What the program does with a record: the call that it stands for, and that received bytes are used up.
-use mathlib.Core.Path.{_≡_, refl, sym, ap, subst, _∙_}
-use Prim.Native.Nat.{ℕ, zero, suc, _+_, _-_, _≤_, _<_}
+use mathlib.Core.Path.{_≡_, refl, sym, ap, _∙_}
+use Prim.Native.Nat.{ℕ, zero, suc, _+_, _≤_, _<_}
 use native.Mathlib.Omega.{arith}
-use mathlib.Core.Bool.{Bool, true, false, cond, and-eq-true-iff}
+use mathlib.Core.Bool.{Bool, true, false, not, cond, _&&_, and-eq-true-iff}
 use mathlib.Core.List.{List, [], _∷_}
-use lib.Dec.{leb, ltb, eqb}
+use lib.Dec.{leb, eqb}
 use lib.ListN.{length, drop, length-drop}
 use lib.Seq.{sets, length-sets}
-use borrow.Author.Tests.{eq-eqb, ne-eqb, leb-true, ltb-true}
+use borrow.Author.Tests.{eq-eqb, eqb-true, eqb-false, leb-true, not-true}
 use Rattle.model.specs.Bytes.{within}
 use Rattle.model.specs.Runs.{cut, consumed-by}
 use Rattle.model.specs.World.{World}
-use Rattle.model.specs.Calls.{Call, start, open-session, hang-up-session, bytes, one-tick, tool, does, answered, output, refusal, step}
-use Rattle.model.specs.Program.{open-record-kind, hang-up-record-kind, bytes-record-kind, tick-record-kind, session-greatest}
-use Rattle.model.specs.Program.{call-of, is-of}
+use Rattle.model.specs.Calls.{Call, start, bytes, does, answered, output, refusal, step}
+use Rattle.model.specs.Program.{session-greatest, call-of, is-of}
 use Rattle.model.specs.Records.{settings-record-kind}
 use Rattle.model.proofs.Cuts.{consumes}
 use Rattle.table.specs.Table.{decode}
@@ -28,34 +27,6 @@ use Rattle.replay.specs.States.{Fits}
 pub at-least : (least n : ℕ) → is-of least n ≡ true → least ≤ n
 at-least least n e = leb-true least n (and-eq-true-iff (leb least n) (leb n (least + session-greatest)) .0 e .0)
 
-module _ (record-kind : ℕ) (slice : List ℕ) where
-  start-call : record-kind ≡ settings-record-kind → start slice ≡ call-of record-kind slice
-  start-call e = rw (eq-eqb record-kind settings-record-kind e)
-
-  pub open-call : (record-kind ≡ settings-record-kind → ⊥) → is-of open-record-kind record-kind ≡ true
-      → open-session (record-kind - open-record-kind) ≡ call-of record-kind slice
-  open-call h e = rw (ne-eqb record-kind settings-record-kind h, e)
-
-  pub hang-up-call : (record-kind ≡ settings-record-kind → ⊥) → is-of open-record-kind record-kind ≡ false
-      → is-of hang-up-record-kind record-kind ≡ true
-      → hang-up-session (record-kind - hang-up-record-kind) ≡ call-of record-kind slice
-  hang-up-call h e f = rw (ne-eqb record-kind settings-record-kind h, e, f)
-
-  pub tick-call : (record-kind ≡ settings-record-kind → ⊥) → is-of open-record-kind record-kind ≡ false
-      → is-of hang-up-record-kind record-kind ≡ false
-      → is-of bytes-record-kind record-kind ≡ false → record-kind ≡ tick-record-kind
-      → one-tick ≡ call-of record-kind slice
-  tick-call h e f g k = rw (ne-eqb record-kind settings-record-kind h, e, f, g, eq-eqb record-kind tick-record-kind k)
-
-  pub tool-call : (record-kind ≡ settings-record-kind → ⊥) → is-of open-record-kind record-kind ≡ false
-      → is-of hang-up-record-kind record-kind ≡ false
-      → is-of bytes-record-kind record-kind ≡ false → (record-kind ≡ tick-record-kind → ⊥)
-      → tool slice ≡ call-of record-kind slice
-  tool-call h e f g k = rw (ne-eqb record-kind settings-record-kind h, e, f, g, ne-eqb record-kind tick-record-kind k)
-
-pub as-call : {c d : Call} {t o : List ℕ} {r : Answer} {t′ o′ : List ℕ} → c ≡ d → Outcome c t o r t′ o′ → Outcome d t o r t′ o′
-as-call {t = t} {o = o} {r = r} {t′ = t′} {o′ = o′} e out = subst (λ (x : Call). Outcome x t o r t′ o′) e out
-
 -- a start is lent no output, and would leave any as it was
 nothing : (l : List ℕ) → length l ≡ 0 → [] ≡ l
 nothing [] e = refl
@@ -69,7 +40,7 @@ started {t = t} {o = o} {r = r} record-kind slice e out =
     let n = so-long out in
     let h = stands out .within in
     let z : length (output ((said (start slice) t []) .2)) ≡ 0 = omega arith in
-    as-call (start-call record-kind slice e) (record {
+    rw (eq-eqb record-kind settings-record-kind e) (record {
       answer = out .answer;
       meaning = out .meaning;
       output = ap (sets o 0) (nothing (output ((said (start slice) t []) .2)) z);
@@ -87,18 +58,23 @@ consumed-where-done : (w : World) (c : Call) (n : ℕ) → (answered w c n) .1 .
 consumed-where-done w c zero e = refl
 consumed-where-done w c (suc n) e = absurd (omega arith)
 
-pub used-up : {s : ℕ} {t o : List ℕ} {r : Answer} {t′ o′ : List ℕ} (bs : List ℕ) → Outcome (bytes s bs) t o r t′ o′ → r .number ≡ 0
-    → 0 < length (drop (r .consumed) bs)
-    → length (drop (r .consumed) bs) < length bs
+-- it goes on where the call was done and something is left
+pub used-up : {s : ℕ} {t o : List ℕ} {r : Answer} {t′ o′ rest : List ℕ} (bs : List ℕ) → rest ≡ drop (r .consumed) bs
+    → Outcome (bytes s bs) t o r t′ o′ → (eqb (r .number) 0 && not (eqb (length rest) 0)) ≡ true → length rest < length bs
 unfolding step
-used-up {r = r} [] out e h = absurd (omega (arith, length-drop {A = ℕ} (r .consumed) []))
-used-up {s = s} {t = t} {o = o} {r = r} (b ∷ bs) out e h =
-    let done = ap (λ (a : Answer). a .number) (sym (out .answer)) ∙ e in
-    let k : r .consumed ≡ consumed-by (cut (b ∷ bs)) = ap (λ (a : Answer). a .consumed) (out .answer)
-    ∙ consumed-where-done (decode t) (bytes s (b ∷ bs)) (number t (length o) (bytes s (b ∷ bs))) done in
-    let c = consumes b bs in
-    let d = length-drop (r .consumed) (b ∷ bs) in
-    omega arith
+used-up {s} {t} {o} {r} {t′} {o′} {rest} bs p out q = go bs p out
+  where
+    is : (r .number ≡ 0) × (length rest ≡ 0 → ⊥)
+    is = let b = and-eq-true-iff _ _ .0 q in (eqb-true _ _ (b .0), eqb-false _ _ (not-true _ (b .1)))
+
+    go : (bs : List ℕ) → rest ≡ drop (r .consumed) bs → Outcome (bytes s bs) t o r t′ o′ → length rest < length bs
+    go [] p out = absurd (is .1 (ap length p ∙ omega (arith, length-drop {A = ℕ} (r .consumed) [])))
+    go (b ∷ bs) p out =
+        let k : r .consumed ≡ consumed-by (cut (b ∷ bs)) = ap (λ (a : Answer). a .consumed) (out .answer)
+        ∙ consumed-where-done (decode t) (bytes s (b ∷ bs)) (number t (length o) (bytes s (b ∷ bs)))
+        (ap (λ (a : Answer). a .number) (sym (out .answer)) ∙ is .0) in
+        let n = is .1 in
+        omega (arith, consumes b bs, length-drop (r .consumed) (b ∷ bs), ap length p)
 
 -- ==== what a call leaves to the program
 
@@ -111,20 +87,12 @@ fits-in out =
     let e = same-output out in
     record { within = omega arith; few = out .fits }
 
--- the measure of a loop over received bytes, which goes on where more than so many are left
-pub fewer : {s : ℕ} {t o t′ o′ rest : List ℕ} (least : ℕ) (left : List ℕ) (r : Answer) (going : Bool)
-    → going ≡ true → rest ≡ drop (r .consumed) left → Outcome (bytes s left) t o r t′ o′ → r .number ≡ 0
-    → cond (ltb least (length rest)) (suc (length rest)) 0 < cond going (suc (length left)) 0
-fewer {rest = rest} least left r going e p out z = rw e (go (ltb least (length rest)) refl)
+-- the measure of a loop over received bytes, which goes on where a call is done and something is left
+pub fewer : {s : ℕ} {t o t′ o′ rest : List ℕ} {going on : Bool} (left : List ℕ) (r : Answer) → going ≡ true
+    → rest ≡ drop (r .consumed) left → Outcome (bytes s left) t o r t′ o′ → on ≡ (eqb (r .number) 0 && not (eqb (length rest) 0))
+    → cond on (suc (length rest)) 0 < cond going (suc (length left)) 0
+fewer {rest = rest} left r e p out q = rw (e, q) (go (eqb (r .number) 0 && not (eqb (length rest) 0)) refl)
   where
-    go : (b : Bool) → ltb least (length rest) ≡ b → cond b (suc (length rest)) 0 < suc (length left)
-    go true q =
-        let some : least < length rest = ltb-true least (length rest) q in
-        let n : length rest ≡ length (drop (r .consumed) left) = ap length p in
-        let less = used-up left out z (omega arith) in
-        omega arith
-    go false q = omega arith
-
-pub no-more : (left rest : List ℕ) (n : ℕ) (going : Bool) → going ≡ true → (n ≡ 0 → ⊥)
-    → cond (eqb n 0) (suc (length rest)) 0 < cond going (suc (length left)) 0
-no-more left rest n going e h = rw (e, ne-eqb n 0 h) (omega arith)
+    go : (b : Bool) → (eqb (r .number) 0 && not (eqb (length rest) 0)) ≡ b → cond b (suc (length rest)) 0 < suc (length left)
+    go true z = omega (arith, used-up left p out z)
+    go false z = omega arith

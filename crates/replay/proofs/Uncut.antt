@@ -1,21 +1,19 @@
 -- 01, "Runs and headers": what a call left is handed to the next, and that comes to the same as reading the bytes uncut.
-use mathlib.Core.Path.{_≡_, refl, sym, ap, ap₂, _∙_}
+use mathlib.Core.Path.{_≡_, refl, sym, ap, _∙_}
 use Prim.Native.Nat.{ℕ, zero, suc, _<_}
 use native.Mathlib.Omega.{arith}
-use mathlib.Core.Bool.{Bool, true, false, not, cond, _&&_, _||_}
+use mathlib.Core.Bool.{Bool, true, false, not, cond}
 use mathlib.Core.List.{List, [], _∷_, _++_, map, map-append, append-assoc, append-nil}
-use lib.Dec.{eqb}
+use lib.Dec.{eqb, eqb·suc-zero}
 use lib.ListN.{length, drop, length-drop}
-use borrow.Author.Tests.{eq-eqb, ne-eqb}
+use borrow.Author.Tests.{eq-eqb}
 use Rattle.model.specs.Limits.{table-least, output-least}
 use Rattle.model.specs.Bytes.{space, digits}
-use Rattle.model.specs.Row.{Tagged}
 use Rattle.model.specs.Runs.{cut, consumed-by}
-use Rattle.model.specs.Session.{Emission}
 use Rattle.model.specs.World.{World}
 use Rattle.model.specs.Calls.{bytes, Lent, Answer, refusal, answered, step}
 use Rattle.model.specs.Slices.{Upshot, and-then, read-within, read-all}
-use Rattle.model.specs.Program.{State, line-of, lines-of, lent, called, fed}
+use Rattle.model.specs.Program.{State, line-of, lent, called, fed}
 use Rattle.model.proofs.Cuts.{consumes, read-on}
 use Rattle.controller.specs.Contract.{Said}
 use Rattle.replay.proofs.Fed.{fed-next}
@@ -52,10 +50,6 @@ module _ (l : Lent) (w : World) (s : ℕ) where
       ap (λ (r : Said). and-then (r .2) (read-within calls l (r .0) s (drop ((r .1) .consumed) (b ∷ bs)))) (one-step (suc n) (b ∷ bs) e)
       ∙ nothing-read calls n (b ∷ bs) e
 
-  read-none : read-all l w s [] ≡ record { world = w; emissions = [] }
-  unfolding read-within
-  read-none = refl
-
 module _ (x : State) (s b : ℕ) (bs : List ℕ) where
   abbrev read-whole : Upshot
   read-whole = read-all (lent x) (x .world) s (b ∷ bs)
@@ -68,26 +62,14 @@ module _ (x : State) (s b : ℕ) (bs : List ℕ) where
 
   uncut-refused : (m n : ℕ) → number-of (lent x) (x .world) s ≡ suc n → Uncut x s (b ∷ bs) (fed (suc m) x s (b ∷ bs))
   uncut-refused m n e =
-      let l = lent x in
-      let w = x .world in
-      let q : the-step ≡ answered w (bytes s (b ∷ bs)) (suc n) = one-step l w s (suc n) (b ∷ bs) e in
-      let none : read-whole ≡ record { world = w; emissions = [] } = nothing-read l w s (length (b ∷ bs)) n (b ∷ bs) e in
-      let stop : false ≡ (eqb (suc n) 0 && not (eqb (length (b ∷ bs)) 0)) = rw (ne-eqb (suc n) 0 (λ (z : suc n ≡ 0). omega arith)) in
+      let q : the-step ≡ answered (x .world) (bytes s (b ∷ bs)) (suc n) = one-step (lent x) (x .world) s (suc n) (b ∷ bs) e in
+      let none = nothing-read (lent x) (x .world) s (length (b ∷ bs)) n (b ∷ bs) e in
       let ends : fed (suc m) x s (b ∷ bs) ≡ next-state =
-      fed-next m s x (b ∷ bs) (b ∷ bs) (refused-answer (suc n)) false (ap (λ (r : Said). r .1) q) refl stop in
-      record {
-        number = suc n;
-        world = ap (λ (y : State). y .world) ends ∙ ap (λ (r : Said). r .0) q ∙ sym (ap (λ (r : Upshot). r .world) none);
-        lines =
-            ap (λ (y : State). y .lines) ends ∙ ap (λ (r : Said). x .lines ++ lines-of (r .1) (r .2)) q
-            ∙ sym (ap (λ (r : Upshot). x .lines ++ (map line-of (r .emissions) ++ refusal-line (suc n))) none);
-      }
+      fed-next m s x (b ∷ bs) (b ∷ bs) (refused-answer (suc n)) false (ap (λ (r : Said). r .1) q) refl (rw (eqb·suc-zero n)) in
+      record { number = suc n; world = cc; lines = cc }
 
   -- what a call that is done leaves is read on
   module _ (m : ℕ) (e : number-of (lent x) (x .world) s ≡ 0) where
-    abbrev later : List ℕ → Upshot
-    later rest = read-all (lent x) (the-step .0) s rest
-
     -- it is done only where the table is well formed
     was-formed : x .formed ≡ true
     unfolding refusal
@@ -104,60 +86,27 @@ module _ (x : State) (s b : ℕ) (bs : List ℕ) where
     consumed-is = ap (λ (r : Said). r .1 .consumed) (one-step (lent x) (x .world) s 0 (b ∷ bs) e)
 
     first-lines : next-state .lines ≡ x .lines ++ map line-of (the-step .2)
-    first-lines =
-        let refused : List (List ℕ) = (0x52 ∷ space ∷ digits 1 (the-step .1 .number)) ∷ [] in
-        ap (λ (t : Bool). x .lines ++ cond t (map line-of (the-step .2)) refused) (eq-eqb (the-step .1 .number) 0 is-done)
+    first-lines = rw (eq-eqb (the-step .1 .number) 0 is-done)
 
-    goes-on : (rest : List ℕ) (going : Bool) → rest ≡ drop (the-step .1 .consumed) (b ∷ bs) → going ≡ not (eqb (length rest) 0)
-        → fed (suc m) x s (b ∷ bs) ≡ cond going (fed m next-state s rest) next-state
-    goes-on rest going d g =
-        let done = eq-eqb (the-step .1 .number) 0 is-done in
-        fed-next m s x (b ∷ bs) rest (the-step .1) going refl d (g ∙ ap (λ (t : Bool). t && not (eqb (length rest) 0)) (sym done))
-
-    read-later : (rest : List ℕ) → rest ≡ drop (the-step .1 .consumed) (b ∷ bs) → read-whole ≡ and-then (the-step .2) (later rest)
-    read-later rest d = read-on (lent x) s (x .world) b bs ∙ ap (λ (l : List ℕ). and-then (the-step .2) (later l)) (sym d)
-
-    uncut-last : [] ≡ drop (the-step .1 .consumed) (b ∷ bs) → Uncut x s (b ∷ bs) (fed (suc m) x s (b ∷ bs))
-    uncut-last d =
-        let es = the-step .2 in
-        let ends = goes-on [] false d refl in
-        let all : read-whole ≡ record { world = the-step .0; emissions = es } =
-        read-later [] d ∙ ap (and-then es) (read-none (lent x) (the-step .0) s)
-        ∙ ap (λ (l : List (Tagged Emission)). record { world = the-step .0; emissions = l }) (append-nil es) in
-        record {
-          number = 0;
-          world = ap (λ (y : State). y .world) ends ∙ sym (ap (λ (r : Upshot). r .world) all);
-          lines =
-              ap (λ (y : State). y .lines) ends ∙ first-lines ∙ ap (λ (ls : List (List ℕ)). x .lines ++ ls) (sym (append-nil
-              (map line-of es))) ∙ sym (ap (λ (r : Upshot). x .lines ++ (map line-of (r .emissions) ++ [])) all);
-        }
-
-    uncut-on : (z : ℕ) (zs : List ℕ) → z ∷ zs ≡ drop (the-step .1 .consumed) (b ∷ bs)
-        → Uncut next-state s (z ∷ zs) (fed m next-state s (z ∷ zs))
+    uncut-on : (rest : List ℕ) (y : State) → rest ≡ drop (the-step .1 .consumed) (b ∷ bs)
+        → cond (not (eqb (length rest) 0)) (fed m next-state s rest) next-state ≡ y → Uncut next-state s rest y
         → Uncut x s (b ∷ bs) (fed (suc m) x s (b ∷ bs))
-    uncut-on z zs d ih =
-        let es = the-step .2 in
-        let rest = z ∷ zs in
-        let on = goes-on rest true d (rw (ne-eqb (length rest) 0 (λ (k : length rest ≡ 0). omega arith))) in
-        let same : lent next-state ≡ lent x =
-        ap (λ (t : Bool). record { table = table-least; well-formed = t; output = output-least })
-        (ap (λ (t : Bool). t || eqb (the-step .1 .number) 0) was-formed ∙ sym was-formed) in
-        let read : read-all (lent next-state) (the-step .0) s rest ≡ later rest = ap (λ (l : Lent). read-all l (the-step .0) s rest) same in
-        let all = read-later rest d in
-        let more = map line-of ((later rest) .emissions) in
+    uncut-on rest y d f ih =
+        let on : fed (suc m) x s (b ∷ bs) ≡ y =
+        fed-next m s x (b ∷ bs) rest (the-step .1) (not (eqb (length rest) 0)) refl d (rw (eq-eqb (the-step .1 .number) 0 is-done)) ∙ f in
+        let same : lent next-state ≡ lent x = rw was-formed in
+        let all : read-whole ≡ and-then (the-step .2) (read-all (lent next-state) (the-step .0) s rest) =
+        read-on (lent x) s (x .world) b bs ∙ cc in
         record {
           number = ih .number;
-          world =
-              ap (λ (y : State). y .world) on ∙ ih .world ∙ ap (λ (r : Upshot). r .world) read ∙ sym (ap (λ (r : Upshot). r .world) all);
-          lines =
-              ap (λ (y : State). y .lines) on ∙ ih .lines
-              ∙ ap₂ (λ (ls : List (List ℕ)) (r : Upshot). ls ++ (map line-of (r .emissions) ++ refusal-line (ih .number))) first-lines read
-              ∙ append-assoc (x .lines) (map line-of es) (more ++ refusal-line (ih .number))
-              ∙ ap (λ (ls : List (List ℕ)). x .lines ++ ls) (sym (append-assoc (map line-of es) more (refusal-line (ih .number))))
-              ∙ ap (λ (ls : List (List ℕ)). x .lines ++ (ls ++ refusal-line (ih .number))) (sym (map-append line-of es
-              ((later rest) .emissions)))
-              ∙ sym (ap (λ (r : Upshot). x .lines ++ (map line-of (r .emissions) ++ refusal-line (ih .number))) all);
+          world = cc;
+          lines = ap (λ (z : State). z .lines) on ∙ ih .lines ∙ rw (first-lines, all) (simp (map-append, append-assoc));
         }
+
+-- nothing is left
+uncut-none : (x : State) (s : ℕ) → Uncut x s [] x
+unfolding read-within
+uncut-none x s = record { number = 0; world = refl; lines = sym (append-nil (x .lines)) }
 
 -- UNCUT: what the model's program does with received bytes is to read them uncut
 pub uncut : (m : ℕ) (x : State) (s b : ℕ) (bs : List ℕ) → length (b ∷ bs) < m → Uncut x s (b ∷ bs) (fed m x s (b ∷ bs))
@@ -171,10 +120,8 @@ uncut (suc m) x s b bs h = go (number-of (lent x) (x .world) s) refl (λ (y : St
     go zero e ih = on (drop (the-step x s b bs .1 .consumed) (b ∷ bs)) refl
       where
         on : (rest : List ℕ) → rest ≡ drop (the-step x s b bs .1 .consumed) (b ∷ bs) → Uncut x s (b ∷ bs) (fed (suc m) x s (b ∷ bs))
-        on [] d = uncut-last x s b bs m e d
+        on [] d = uncut-on x s b bs m e [] _ d refl (uncut-none (next-state x s b bs) s)
         on (z ∷ zs) d =
-            let k = consumed-is x s b bs m e in
-            let some = consumes b bs in
             let few = length-drop (the-step x s b bs .1 .consumed) (b ∷ bs) in
-            let n : length (z ∷ zs) ≡ length (drop (the-step x s b bs .1 .consumed) (b ∷ bs)) = ap length d in
-            uncut-on x s b bs m e z zs d (ih (next-state x s b bs) z zs (omega arith))
+            uncut-on x s b bs m e (z ∷ zs) _ d (rw (eqb·suc-zero (length zs)))
+            (ih (next-state x s b bs) z zs (omega (arith, consumed-is x s b bs m e, consumes b bs, ap length d)))

@@ -40,6 +40,11 @@ records input = slices (length input) input
 unfoldable pub waits : List ℕ → List ℕ
 waits input = drop (length (flatten (records input))) input
 
+-- behind the `size` bytes that wait, which stay, r more were read
+pub record Filled (size : ℕ) (input : List ℕ) (r : ℕ) (input′ : List ℕ) : Type 0 where
+  pub within : size + r ≤ length input
+  pub kept : take size input′ ≡ take size input
+
 -- what serve leaves: what waits of the input, and of the lines, which have so much room
 pub record Leaves (input : List ℕ) (room : ℕ) (w : Waiting) : Type 0 where
   pub size : w .size ≡ length (waits input)

@@ -10,10 +10,10 @@ ghost use Rattle.model.specs.Bytes.{space, within};
 ghost use Rattle.model.specs.Records.{record-head};
 ghost use Rattle.model.specs.Program.{shown as shown-bytes, bytes-record-kind, is-of, call-of, printed};
 ghost use Rattle.model.specs.Program.{fed, given as given-state, all-given};
-ghost use Rattle.text.specs.Put.{Put};
+ghost use Rattle.text.specs.Put.{Put, Written, WrittenUpTo};
 ghost use Rattle.controller.specs.Contract.{Outcome};
 ghost use Rattle.replay.specs.Lines.{line-in, lines-in, text-of};
-ghost use Rattle.replay.specs.Whole.{Measured, CutOff, too-long, records, Leaves, Moves};
+ghost use Rattle.replay.specs.Whole.{Measured, CutOff, too-long, records, Filled, Leaves, Moves};
 ghost use Rattle.replay.specs.States.{Lends, LendsFrom, Holds, Fits, free-from, Behind, Follows, Turned, Ran};
 use controller::Answer;
 use model::OUTPUT_LEAST;
@@ -64,8 +64,8 @@ fn shown(frame: &[u8], lines: &mut [u8], at: usize) -> usize
 // The line of an output record: a frame has a payload, the order to close has none.
 fn line(slice: &[u8], lines: &mut [u8], at: usize) -> usize
     requires { ⌜ (record-head ≤ length (now slice)) × (at + length (now slice) ≤ length (now lines)) ⌝ }
-    ensures { λ r. ⌜ Put (now (lines .entry)) at (line-in (now (slice .entry)) ++ 0x0A ∷ []) r (now (lines .exit))
-        × (r ≡ at + length (now (slice .entry))) ⌝ }
+    ensures { λ r. ⌜ Written (now (lines .entry)) at (length (now (slice .entry))) (line-in (now (slice .entry)) ++ 0x0A ∷ [])
+        r (now (lines .exit)) ⌝ }
 {
     let session = text::little(slice, 2, 1);
     let a = text::put_digits(lines, at, 1, session);
@@ -101,8 +101,8 @@ fn whole(bytes: &[u8]) -> usize
 // The lines of the records in an output.
 fn show(output: &[u8], lines: &mut [u8], at: usize) -> usize
     requires { ⌜ at + length (now output) ≤ length (now lines) ⌝ }
-    ensures { λ r. ⌜ Put (now (lines .entry)) at (printed (lines-in (now (output .entry)))) r (now (lines .exit))
-        × (r ≤ at + length (now (output .entry))) ⌝ }
+    ensures { λ r. ⌜ WrittenUpTo (now (lines .entry)) at (length (now (output .entry))) (printed (lines-in (now (output .entry))))
+        r (now (lines .exit)) ⌝ }
 {
     let mut to = at;
     let mut left = output;
@@ -118,7 +118,7 @@ fn show(output: &[u8], lines: &mut [u8], at: usize) -> usize
 // What a call's answer and its output have it print.
 fn tell(answer: Answer, output: &[u8], lines: &mut [u8], at: usize) -> usize
     requires { ⌜ Fits answer (now output) × (at + output-least ≤ length (now lines)) ⌝ }
-    ensures { λ r. ⌜ Put (now (lines .entry)) at (text-of answer (now (output .entry))) r (now (lines .exit)) × (r ≤ at + output-least) ⌝ }
+    ensures { λ r. ⌜ WrittenUpTo (now (lines .entry)) at output-least (text-of answer (now (output .entry))) r (now (lines .exit)) ⌝ }
 {
     if answer.number != 0 {
         let a = text::copy(b"R ", lines, at);
@@ -310,7 +310,7 @@ fn read(space: &mut [u8]) -> usize
 // One read, behind the `size` bytes that wait in the input.
 fn fill(input: &mut [u8], size: usize) -> usize
     requires { ⌜ size ≤ length (now input) ⌝ }
-    ensures { λ r. ⌜ (size + r ≤ length (now (input .entry))) × (take size (now (input .exit)) ≡ take size (now (input .entry))) ⌝ }
+    ensures { λ r. ⌜ Filled size (now (input .entry)) r (now (input .exit)) ⌝ }
 {
     read(&mut input[size..])
 }

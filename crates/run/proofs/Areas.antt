@@ -1,17 +1,16 @@
 -- A run in its area: what more bytes make of it.
-use mathlib.Core.Path.{_≡_, sym, ap, ap₂, _∙_}
+use mathlib.Core.Path.{_≡_, ap, ap₂, _∙_}
 use Prim.Native.Nat.{ℕ, _+_, _-_, _≤_, _<_, min}
-use native.Mathlib.Nat.{le-trans}
 use native.Mathlib.Omega.{arith}
 use mathlib.Core.List.{List, [], _∷_, _++_}
-use lib.Dec.{leb, lit≤}
+use lib.Dec.{leb}
 use lib.ListN.{length, take, drop, length-drop}
 use lib.Seq.{sets, length-sets, length-take-le}
 use borrow.Author.Tests.{le-leb, leb-true}
 use Rattle.model.specs.Bytes.{little, in-bytes}
-use Rattle.model.specs.Runs.{Run, longer}
+use Rattle.model.specs.Runs.{Run}
 use Rattle.text.proofs.Lists.{drop-sets, drop-sets-after, take-sets, take-least, take-over}
-use Rattle.run.specs.Area.{run-size, run-of, run-formed, Area, Over}
+use Rattle.run.specs.Area.{run-size, run-of, run-formed, Area, Over, Lengthened}
 
 pub counted : (a : List ℕ) → Area a → little (take 2 a) ≤ 10000
 unfolding run-formed
@@ -48,19 +47,13 @@ recounted z v h f =
 pub cleared : (a : List ℕ) → length a ≡ run-size → Over a (sets a 0 (in-bytes 2 0))
 cleared a h = let z = recounted a 0 h (omega arith) in record { area = z .1; none = z .0; bytes = ap (take 45) (past a 0) }
 
-fit : (k m n : ℕ) → k + m ≤ 45 → n ≡ 46 → k ≤ n
-fit k m n h e = omega arith
-
-under : (k m : ℕ) → k + m ≤ 45 → k ≤ 45
-under k m h = omega arith
-
-most : (a b m : ℕ) → m ≡ min a b → m ≤ b
-most a b m e = omega arith
-
 -- the numbers of a run that gets longer: k bytes were kept of n, and m more are; v more are counted
 module _ (n more k m v : ℕ) (ek : k ≡ min 45 n) (em : m ≡ min (45 - k) more) where
   few : k + m ≤ 45
   few = omega arith
+
+  there : m ≤ more
+  there = omega arith
 
   module _ (hn : n ≤ 10000) (ev : v ≡ min (10000 - n) more) where
     short : n + v ≤ 10000
@@ -74,8 +67,7 @@ module _ (n more k m v : ℕ) (ek : k ≡ min 45 n) (em : m ≡ min (45 - k) mor
 
 pub lengthened : (a xs : List ℕ) (n k m v : ℕ) → Area a → n ≡ run-of a .count → n ≤ 10000 → k ≡ min 45 n → m ≡ min (45 - k) (length xs)
     → v ≡ min (10000 - n) (length xs)
-    → (run-of (sets (sets a (2 + k) (take m xs)) 0 (in-bytes 2 (n + v))) ≡ longer (run-of a) xs)
-    × Area (sets (sets a (2 + k) (take m xs)) 0 (in-bytes 2 (n + v)))
+    → Lengthened a xs (sets (sets a (2 + k) (take m xs)) 0 (in-bytes 2 (n + v)))
 unfolding run-of
 lengthened a xs n k m v h en hn ek em ev =
     let z = sets a (2 + k) (take m xs) in
@@ -83,18 +75,12 @@ lengthened a xs n k m v h en hn ek em ev =
     let w = recounted z (n + v) (length-sets a (2 + k) (take m xs) ∙ s) (short n (length xs) k m v ek em hn ev) in
     let room₀ = few n (length xs) k m v ek em in
     let l = drop 2 a in
-    let ll : length l ≡ 46 = length-drop 2 a ∙ ap (λ (i : ℕ). i - 2) s in
-    let lk : length (take k l) ≡ k = length-take-le k l (fit k m (length l) room₀ ll) in
-    let lm : length (take m xs) ≡ m = length-take-le m xs (most (45 - k) (length xs) m em) in
-    let room : k + length (take m xs) ≤ length l = rw (lm, ll) (le-trans room₀ (lit≤ tt)) in
-    let e₁ : min 45 (n + v) ≡ k + length (take m xs) = of-which n (length xs) k m v ek em hn ev ∙ ap (λ (i : ℕ). k + i) (sym lm) in
-    let p₁ : take (min 45 (n + v)) (drop 2 z) ≡ take k l ++ take m xs = ap₂ take e₁ (drop-sets (take m xs) a 2 k)
-    ∙ take-sets (take m xs) l k room in
-    let p₂ : take m xs ≡ take (45 - k) xs = ap (λ (i : ℕ). take i xs) em ∙ take-least (45 - k) xs in
-    let p₃ : take k l ++ take (45 - k) xs ≡ take 45 (take k l ++ xs) = ap (λ (i : ℕ). take k l ++ take (45 - i) xs) (sym lk)
-    ∙ sym (take-over 45 (take k l) xs (rw lk (under k m room₀))) in
-    let p : take (min 45 (n + v)) (drop 2 z) ≡ take 45 (take (min 45 (little (take 2 a))) l ++ xs) =
-    p₁ ∙ ap (λ (t : List ℕ). take k l ++ t) p₂ ∙ p₃ ∙ ap (λ (i : ℕ). take 45 (take i l ++ xs)) (ek ∙ ap (min 45) en) in
-    let q : n + v ≡ min 10000 (little (take 2 a) + length xs) = total n (length xs) k m v ek em hn ev
-    ∙ ap (λ (i : ℕ). min 10000 (i + length xs)) en in
-    (w .0 ∙ ap₂ {C = Run} (λ (i : ℕ) (t : List ℕ). record { kept = t; count = i }) q p, w .1)
+    let ll : length l ≡ 46 = rw (length-drop 2 a, s) in
+    let lk : length (take k l) ≡ k = length-take-le k l (omega arith) in
+    let lm : length (take m xs) ≡ m = length-take-le m xs (there n (length xs) k m v ek em) in
+    let e₁ : min 45 (n + v) ≡ k + length (take m xs) = rw lm (of-which n (length xs) k m v ek em hn ev) in
+    let p : take (min 45 (n + v)) (drop 2 z) ≡ take k l ++ take m xs =
+    rw (e₁, drop-sets (take m xs) a 2 k) (take-sets (take m xs) l k (omega arith)) in
+    let q : take k l ++ take m xs ≡ take 45 (take k l ++ xs) =
+    rw (take-over 45 (take k l) xs (omega arith), lk, em, take-least (45 - k) xs) in
+    record { area = w .1; longer = w .0 ∙ rw (p ∙ q, total n (length xs) k m v ek em hn ev, ek, en) }

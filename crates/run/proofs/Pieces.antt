@@ -3,65 +3,41 @@ use mathlib.Core.Path.{_≡_, refl, sym, ap, _∙_}
 use Prim.Native.Nat.{ℕ, suc, _+_, _≤_, _<_}
 use native.Mathlib.Numerals.{add-one}
 use native.Mathlib.Omega.{arith}
-use mathlib.Core.Bool.{Bool, true, cond}
-use mathlib.Core.List.{List, [], _∷_, _++_, append-assoc, append-nil}
-use lib.Dec.{eqb}
-use lib.ListN.{length, getD, take, drop, drop-of-length-le}
+use mathlib.Core.List.{List, append-assoc, append-nil}
+use lib.ListN.{length, getD, drop-of-length-le}
 use lib.Seq.{take-suc, length-take-le}
 use borrow.Author.Tests.{eq-eqb, ne-eqb, lt-ltb, le-ltb}
-use Rattle.model.specs.Runs.{Piece, cut, consumed-by}
+use Rattle.model.specs.Runs.{cut, consumed-by}
 use Rattle.text.proofs.Lists.{drop-next}
 use Rattle.run.specs.Area.{Passed, Ends}
 
 pub passed-none : (bs : List ℕ) → Passed bs 0
 passed-none bs = record { within = omega arith; bytes = refl; ends = refl }
 
-at-NUL : Piece
-at-NUL = record { bytes = []; ends = true }
-
-longer-by : ℕ → Piece → Piece
-longer-by b c = record { bytes = b ∷ c .bytes; ends = c .ends }
-
-cut-next : (bs : List ℕ) (i : ℕ) → i < length bs
-    → cut (drop i bs) ≡ cond (eqb (getD bs i 0) 0) at-NUL (longer-by (getD bs i 0) (cut (drop (i + 1) bs)))
-unfolding cut at-NUL longer-by
-cut-next bs i h = ap cut (drop-next bs i 0 h)
-
 module _ (bs : List ℕ) (i : ℕ) (p : Passed bs i) where
   pub at-a-NUL : i < length bs → getD bs i 0 ≡ 0 → Ends bs i
-  unfolding at-NUL
-  at-a-NUL h z =
-      let e : cut (drop i bs) ≡ at-NUL = cut-next bs i h
-      ∙ ap (λ (b : Bool). cond b at-NUL (longer-by (getD bs i 0) (cut (drop (i + 1) bs)))) (eq-eqb _ _ z) in
-      record {
-        within = p .within;
-        bytes = p .bytes ∙ ap (λ (c : Piece). take i bs ++ c .bytes) e ∙ append-nil (take i bs);
-        ends = p .ends ∙ ap (λ (c : Piece). c .ends) e ∙ sym (lt-ltb _ _ h);
-      }
+  unfolding cut
+  at-a-NUL h z = record {
+    within = p .within;
+    bytes = p .bytes ∙ rw (drop-next bs i 0 h, eq-eqb (getD bs i 0) 0 z, append-nil);
+    ends = p .ends ∙ rw (drop-next bs i 0 h, eq-eqb (getD bs i 0) 0 z, lt-ltb i (length bs) h);
+  }
 
   pub passed-next : i < length bs → (getD bs i 0 ≡ 0 → ⊥) → Passed bs (i + 1)
-  unfolding longer-by
-  passed-next h z =
-      let e : cut (drop i bs) ≡ longer-by (getD bs i 0) (cut (drop (i + 1) bs)) =
-      cut-next bs i h ∙ ap (λ (b : Bool). cond b at-NUL (longer-by (getD bs i 0) (cut (drop (i + 1) bs)))) (ne-eqb _ _ z) in
-      record {
-        within = omega arith;
-        bytes =
-            p .bytes ∙ ap (λ (c : Piece). take i bs ++ c .bytes) e ∙ sym (append-assoc (take i bs) (getD bs i 0 ∷ []) _)
-            ∙ ap (λ (l : List ℕ). l ++ (cut (drop (i + 1) bs)) .bytes)
-            (sym (take-suc bs i 0 h) ∙ ap (λ (n : ℕ). take n bs) (sym (add-one i)));
-        ends = p .ends ∙ ap (λ (c : Piece). c .ends) e;
-      }
+  unfolding cut
+  passed-next h z = record {
+    within = omega arith;
+    bytes = p .bytes ∙ rw (drop-next bs i 0 h, ne-eqb (getD bs i 0) 0 z, add-one i, take-suc bs i 0 h, append-assoc);
+    ends = p .ends ∙ rw (drop-next bs i 0 h, ne-eqb (getD bs i 0) 0 z);
+  }
 
   pub at-the-end : length bs ≤ i → Ends bs i
   unfolding cut
-  at-the-end h =
-      let e : cut (drop i bs) ≡ cut [] = ap cut (drop-of-length-le bs {i = i} h) in
-      record {
-        within = p .within;
-        bytes = p .bytes ∙ ap (λ (c : Piece). take i bs ++ c .bytes) e ∙ append-nil (take i bs);
-        ends = p .ends ∙ ap (λ (c : Piece). c .ends) e ∙ sym (le-ltb _ _ h);
-      }
+  at-the-end h = record {
+    within = p .within;
+    bytes = p .bytes ∙ rw (drop-of-length-le bs {i = i} h, append-nil);
+    ends = p .ends ∙ rw (drop-of-length-le bs {i = i} h, le-ltb i (length bs) h);
+  }
 
 -- what is consumed
 module _ (bs : List ℕ) (i : ℕ) (p : Ends bs i) where

@@ -8,7 +8,7 @@ use lib.Dec.{leb, ltb}
 use lib.ListN.{length, take, drop}
 use Rattle.model.specs.Limits.{run-kept, run-counted}
 use Rattle.model.specs.Bytes.{little}
-use Rattle.model.specs.Runs.{Run, empty-run, cut}
+use Rattle.model.specs.Runs.{Run, empty-run, longer as longer-run, cut}
 
 abbrev pub run-size : ℕ
 run-size = 48
@@ -33,6 +33,11 @@ pub record Over (a a′ : List ℕ) : Type 0 where
   pub area : Area a′
   pub none : run-of a′ ≡ empty-run
   pub bytes : bytes-of a′ ≡ bytes-of a
+
+-- it has these bytes more
+pub record Lengthened (a bs a′ : List ℕ) : Type 0 where
+  pub area : Area a′
+  pub longer : run-of a′ ≡ longer-run (run-of a) bs
 
 -- how far a piece of received bytes was looked through: what was passed has no NUL, and the rest is to be looked at
 pub record Passed (bs : List ℕ) (i : ℕ) : Type 0 where

@@ -5,7 +5,7 @@ ghost use Prim.Native.Nat.{_≤_, _<_, min};
 ghost use lib.ListN.{length};
 ghost use Rattle.model.specs.Limits.{run-counted};
 ghost use Rattle.model.specs.Runs.{empty-run, longer as longer-run, cut, consumed-by};
-ghost use Rattle.run.specs.Area.{run-size, run-of, run-formed, bytes-of, Area, Over, Passed, Looking, Ends};
+ghost use Rattle.run.specs.Area.{run-size, run-of, run-formed, bytes-of, Area, Over, Lengthened, Passed, Looking, Ends};
 
 const KEPT: usize = 45;
 
@@ -131,8 +131,7 @@ pub fn bytes(area: &[u8]) -> &[u8]
 // More bytes of it.
 pub fn lengthen(area: &mut [u8], bytes: &[u8])
     requires { ⌜ Area (now area) ⌝ }
-    ensures { λ _. ⌜ (run-of (now (area .exit)) ≡ longer-run (run-of (now (area .entry))) (now (bytes .entry)))
-        × Area (now (area .exit)) ⌝ }
+    ensures { λ _. ⌜ Lengthened (now (area .entry)) (now (bytes .entry)) (now (area .exit)) ⌝ }
 {
     let n = count(area);
     let k = least(KEPT, n);

@@ -13,7 +13,7 @@ use Rattle.table.specs.Table.{decode}
 use Rattle.controller.specs.Contract.{model-answer, Outcome}
 use Rattle.controller.specs.declared.Answer.{Answer}
 use Rattle.controller.proofs.Outputs.{so-long}
-use Rattle.serifladder.specs.Export.{Exported}
+use Rattle.serifladder.specs.Export.{Given, Exported}
 
 still : (t : List ℕ) → decode t ≡ uncounted (decode t)
 unfolding decode
@@ -36,16 +36,16 @@ module _ {c : Call} {t o a : List ℕ} where
 
   -- the call's outcome, with the answer y, of which C is given the numbers
   pub made : {r : ℕ} {t′ o′ a′ : List ℕ} {y : Answer} → answer-least ≤ length a → Outcome c t o y t′ o′
-      → (r ≡ y .number) × (a′ ≡ sets a 0 (answer-bytes (model-answer y)))
+      → Given y a r a′
       → Exported c t o a r t′ o′ a′
   made h w given = record {
-    number = rw le-ltb (given .0 ∙ ap (λ (x : Answer). x .number) (w .answer));
+    number = rw le-ltb (given .number ∙ ap (λ (x : Answer). x .number) (w .answer));
     meaning = rw le-ltb (w .meaning);
-    answer = rw le-ltb (given .1 ∙ ap (λ (x : Answer). sets a 0 (answer-bytes (model-answer x))) (w .answer));
+    answer = rw le-ltb (given .numbers ∙ ap (λ (x : Answer). sets a 0 (answer-bytes (model-answer x))) (w .answer));
     output = rw le-ltb (w .output);
     fits = rw le-ltb (subst (λ (n : ℕ). n ≤ output-least) (so-long w) (w .fits));
     size = w .size;
     past = w .past;
-    formed = λ q. w .formed (sym (given .0) ∙ q);
-    kept = λ ne. w .kept (λ q. ne (given .0 ∙ q));
+    formed = λ q. w .formed (sym (given .number) ∙ q);
+    kept = λ ne. w .kept (λ q. ne (given .number ∙ q));
   }

@@ -7,13 +7,20 @@ use lib.ListN.{length, drop}
 use lib.Seq.{sets}
 use Rattle.model.specs.Limits.{output-least}
 use Rattle.model.specs.World.{uncounted}
-use Rattle.model.specs.Calls.{Call, Returned, returned}
+use Rattle.model.specs.Calls.{Call, Returned, returned, answer-bytes}
 use Rattle.table.specs.Table.{table-used, decode, table-formed}
 use Rattle.refusal.specs.Numbers.{lent}
+use Rattle.controller.specs.Contract.{model-answer}
+use Rattle.controller.specs.declared.Answer.{Answer}
 
 -- what the model has C told, from what the lent table means
 abbrev pub told : Call → List ℕ → List ℕ → List ℕ → Returned
 told c t o a = returned (length a) (lent t (length o)) (decode t) c
+
+-- the four numbers of an answer are written out, and the first of them is returned
+pub record Given (y : Answer) (a : List ℕ) (r : ℕ) (a′ : List ℕ) : Type 0 where
+  pub number : r ≡ y .number
+  pub numbers : a′ ≡ sets a 0 (answer-bytes (model-answer y))
 
 -- the call c, lent the table t, the output o and the answer a, returns r and leaves t′, o′ and a′. (A start is lent no output: there o
 -- is empty)

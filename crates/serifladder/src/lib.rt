@@ -1,9 +1,7 @@
 // The calls, for a host in C. A slice passes as a pointer and a length.
-ghost use mathlib.Core.Path.{_≡_};
 ghost use mathlib.Core.List.{[]};
 ghost use Prim.Native.Nat.{_≤_};
 ghost use lib.ListN.{length};
-ghost use lib.Seq.{sets};
 ghost use Rattle.model.specs.Limits.{answer-least};
 ghost use Rattle.model.specs.Calls.{
   start as start-call,
@@ -12,10 +10,8 @@ ghost use Rattle.model.specs.Calls.{
   bytes as bytes-call,
   one-tick,
   tool,
-  answer-bytes,
 };
-ghost use Rattle.controller.specs.Contract.{model-answer};
-ghost use Rattle.serifladder.specs.Export.{Exported};
+ghost use Rattle.serifladder.specs.Export.{Given, Exported};
 use controller::Answer;
 use model::ANSWER_LEAST;
 
@@ -25,7 +21,7 @@ const ANSWER_TOO_SHORT: u64 = 10;
 // The four numbers, 8 bytes each, and the first of them.
 fn give(answer: &mut [u8], x: Answer) -> u64
     requires { ⌜ answer-least ≤ length (now answer) ⌝ }
-    ensures { λ r. ⌜ (r ≡ x .number) × (now (answer .exit) ≡ sets (now (answer .entry)) 0 (answer-bytes (model-answer x))) ⌝ }
+    ensures { λ r. ⌜ Given x (now (answer .entry)) r (now (answer .exit)) ⌝ }
 {
     let a = text::put_little(answer, 0, 8, x.number);
     let b = text::put_little(answer, a, 8, x.consumed);

@@ -53,7 +53,7 @@ module _ (P : Decision → Type 0) where
     on-any standing (Message size mid revision no-acknowledge) bs =
         every (x .phase) mid revision no-acknowledge (error-of (standing-of standing) mid size revision bs)
 
--- ==== the kind is one that there is: one computed test over the table of messages
+-- ==== the kind is one that there is, by one computed test over the table of messages, and the idle count is 0, or as it was
 
 abbrev kind-known : model.Effect → Bool
 kind-known starts = true
@@ -64,49 +64,27 @@ kind-known (unsubscribes kind n) = ltb kind (length kinds)
 kind-known (acknowledges kind) = ltb kind (length kinds)
 kind-known mirrors = true
 
-abbrev OfAKind : Decision → Type 0
-OfAKind d = d .kind < length kinds
+abbrev pub Fair : Decision → Type 0
+Fair d = (d .kind < length kinds) × (d .next .idle < idle-limit)
 
 module _ (mid revision : ℕ) (no-acknowledge : Bool) where
-  effect-kind : (e : model.Effect) → kind-known e ≡ true → OfAKind (accepted mid revision no-acknowledge (some e))
-  effect-kind starts h = omega arith
-  effect-kind stops h = omega arith
-  effect-kind (identifies n) h = omega arith
-  effect-kind (subscribes kind n) h = ltb-true kind (length kinds) h
-  effect-kind (unsubscribes kind n) h = ltb-true kind (length kinds) h
-  effect-kind (acknowledges kind) h = ltb-true kind (length kinds) h
-  effect-kind mirrors h = omega arith
+  effect-fair : (e : model.Effect) → kind-known e ≡ true → Fair (accepted mid revision no-acknowledge (some e))
+  effect-fair starts h = omega arith
+  effect-fair stops h = omega arith
+  effect-fair (identifies n) h = omega arith
+  effect-fair (subscribes kind n) h = omega (arith, ltb-true kind (length kinds) h)
+  effect-fair (unsubscribes kind n) h = omega (arith, ltb-true kind (length kinds) h)
+  effect-fair (acknowledges kind) h = omega (arith, ltb-true kind (length kinds) h)
+  effect-fair mirrors h = omega arith
 
-  entry-kind : (o : Option Entry) → entry-of mid ≡ o → OfAKind (accepted mid revision no-acknowledge (effect-listed o))
-  entry-kind none q = omega arith
-  entry-kind (some e) q = effect-kind (e .effect) (entry-at (λ e. kind-known (e .effect)) refl mid e q .1)
+  entry-fair : (o : Option Entry) → entry-of mid ≡ o → Fair (accepted mid revision no-acknowledge (effect-listed o))
+  entry-fair none q = omega arith
+  entry-fair (some e) q = effect-fair (e .effect) (entry-at (λ e. kind-known (e .effect)) refl mid e q .1)
 
-pub decided-kind : (x : Session) (standing : Standing) (h : Header) (bs : List ℕ) → decision x standing h bs .kind < length kinds
-decided-kind x standing h bs =
-    on-any OfAKind x (λ b mid n. omega arith) (omega arith) (λ mid revision no-acknowledge error.
-    either OfAKind (no-error error) (entry-kind mid revision no-acknowledge (entry-of mid) refl) (omega arith))
-    standing h bs
-
--- ==== the idle count is 0, or as it was
-
-abbrev Few : Decision → Type 0
-Few d = d .next .idle < idle-limit
-
-effect-idle : (mid revision : ℕ) (no-acknowledge : Bool) (o : Option model.Effect) → Few (accepted mid revision no-acknowledge o)
-effect-idle mid revision no-acknowledge none = omega arith
-effect-idle mid revision no-acknowledge (some starts) = omega arith
-effect-idle mid revision no-acknowledge (some stops) = omega arith
-effect-idle mid revision no-acknowledge (some (identifies n)) = omega arith
-effect-idle mid revision no-acknowledge (some (subscribes kind n)) = omega arith
-effect-idle mid revision no-acknowledge (some (unsubscribes kind n)) = omega arith
-effect-idle mid revision no-acknowledge (some (acknowledges kind)) = omega arith
-effect-idle mid revision no-acknowledge (some mirrors) = omega arith
-
-pub decided-idle : (x : Session) → x .idle < idle-limit → (standing : Standing) (h : Header) (bs : List ℕ)
-    → decision x standing h bs .next .idle < idle-limit
-decided-idle x few standing h bs =
-    on-any Few x (λ b mid n. few) (omega arith) (λ mid revision no-acknowledge error.
-    either Few (no-error error) (effect-idle mid revision no-acknowledge (effect-listed (entry-of mid))) (omega arith))
+pub decided-fair : (x : Session) → x .idle < idle-limit → (standing : Standing) (h : Header) (bs : List ℕ) → Fair (decision x standing h bs)
+decided-fair x few standing h bs =
+    on-any Fair x (λ b mid n. omega arith) (omega arith) (λ mid revision no-acknowledge error.
+    either Fair (no-error error) (entry-fair mid revision no-acknowledge (entry-of mid) refl) (omega arith))
     standing h bs
 
 -- ==== what is mirrored is a message, so that there are 20 bytes to send back

@@ -22,7 +22,8 @@ use Rattle.session.specs.declared.Form.the-variants.{Not, Plain, Acknowl
 use Rattle.session.specs.declared.Subscription.{Subscription}
 use Rattle.session.specs.declared.Take.the-variants as take
 use Rattle.session.specs.declared.Taken.{Taken}
-use Rattle.session.specs.declared.Beat.the-variants.{Runs, Copy, GivenUp}
+use Rattle.session.specs.declared.Beat.{Beat}
+use Rattle.session.proofs.Tests.{chosen}
 
 -- ==== the clock
 
@@ -43,22 +44,16 @@ module _ (room : Room) (revision : ℕ) (n : Notice) where
   beaten : (clock : ℕ) (waiting : List Notice) → clock < given-up-at → suc (length waiting) ≤ most-held room
       → Stepped room (clock-at revision n (clock + 1) waiting) (n ∷ waiting) (by-beat (open-at clock waiting) (beat-at clock))
   unfolding beat-at
-  beaten clock waiting h fits = by-tests (leb given-up-at (clock + 1)) (eqb ((clock + 1) % copy-every) 0) refl refl
-    where
-      by-tests : (over copy : Bool) → leb given-up-at (clock + 1) ≡ over → eqb ((clock + 1) % copy-every) 0 ≡ copy
-          → Stepped room (clock-at revision n (clock + 1) waiting) (n ∷ waiting)
-          (by-beat (open-at clock waiting) (cond over GivenUp (cond copy (Copy (clock + 1)) (Runs (clock + 1)))))
-      by-tests true copy p q =
-          let l = leb-true given-up-at (clock + 1) p in
-          rw (eq-eqb (clock + 1) given-up-at (omega arith)) (gone clock waiting fits)
-      by-tests false true p q =
-          let l = leb-false given-up-at (clock + 1) p in
-          rw (ne-eqb (clock + 1) given-up-at (λ e. omega arith), q)
-          record { acts = refl; holds = record { held = refl; clock = l; fits = fits } }
-      by-tests false false p q =
-          let l = leb-false given-up-at (clock + 1) p in
-          rw (ne-eqb (clock + 1) given-up-at (λ e. omega arith), q)
-          record { acts = refl; holds = record { held = refl; clock = l; fits = fits } }
+  beaten clock waiting h fits =
+      let next = clock-at revision n (clock + 1) waiting in
+      let So : Beat → Type 0 = λ b. Stepped room next (n ∷ waiting) (by-beat (open-at clock waiting) b) in
+      chosen So (leb given-up-at (clock + 1)) (λ p. let l = leb-true given-up-at (clock + 1) p in
+      rw (eq-eqb (clock + 1) given-up-at (omega arith)) (gone clock waiting fits)) (λ p.
+      let l = leb-false given-up-at (clock + 1) p in
+      let holds : Holds room (open-at (clock + 1) waiting) (n ∷ waiting) = record { held = refl; clock = l; fits = fits } in
+      chosen So (eqb ((clock + 1) % copy-every) 0)
+      (λ q. rw (ne-eqb (clock + 1) given-up-at (λ e. omega arith), q) record { acts = refl; holds = holds })
+      (λ q. rw (ne-eqb (clock + 1) given-up-at (λ e. omega arith), q) record { acts = refl; holds = holds }))
 
 -- ==== a tick and an acknowledge
 
@@ -99,12 +94,10 @@ module _ (most revision clock held : ℕ) (n m : Notice) (ns : List Notice) wher
   abbrev Behind : Taken → Type 0
   Behind t = Took (up-to most) (act (up-to most) (news n) (acked revision (busy m clock ns))) (has-room (up-to most) ns) n (m ∷ ns) t
 
-  by-room : (full : Bool) → leb most held ≡ full → Holds (up-to most) (held-so held) (m ∷ ns)
-      → Behind (cond full (record { take = take.Not; next = held-so held }) (record { take = take.Waits held; next = held-so (held + 1) }))
-  by-room true p h =
-      let l = leb-true most held p in
-      rw (le-ltb (suc (length ns)) most (omega arith)) record { acts = refl; takes = refl; holds = h; place = omega arith }
-  by-room false p h =
+  waits-behind : Holds (up-to most) (held-so held) (m ∷ ns) → Behind (taken-busy (up-to most) (held-so held))
+  waits-behind h =
+      chosen Behind (leb most held) (λ p. let l = leb-true most held p in
+      rw (le-ltb (suc (length ns)) most (omega arith)) record { acts = refl; takes = refl; holds = h; place = omega arith }) (λ p.
       let l = leb-false most held p in
       let q = h .held in
       let more : length (take (length ns) ns ++ n ∷ []) ≡ length ns + 1 = rw (take-length ns) (length-append ns (n ∷ [])) in
@@ -114,10 +107,7 @@ module _ (most revision clock held : ℕ) (n m : Notice) (ns : List Notice) wher
         takes = refl;
         holds = record { held = omega arith; clock = h .clock; fits = omega arith };
         place = omega arith;
-      }
-
-  waits-behind : Holds (up-to most) (held-so held) (m ∷ ns) → Behind (taken-busy (up-to most) (held-so held))
-  waits-behind h = by-room (leb most held) refl h
+      })
 
 module _ (n : Notice) where
   takes-at : (room : Room) (f : Form) (revision clock held : ℕ) (ns : List Notice) → 0 < most-held room

@@ -1,5 +1,6 @@
 -- 01, "Notices and the clock": what the functions of this crate answer, over the values that they are given. proofs/ ties each to
 -- the model, for whatever notices are held.
+use mathlib.Core.Path.{_≡_}
 use Prim.Native.Nat.{ℕ, _+_, _-_, _%_}
 use mathlib.Core.Bool.{Bool, true, false, cond}
 use lib.Dec.{ltb, leb, eqb}
@@ -71,6 +72,11 @@ abbrev pub due-by : Beat → Due
 due-by (Runs clock) = due.Nothing
 due-by (Copy clock) = due.Copy
 due-by GivenUp = due.GivenUp
+
+-- a clock that is lent goes on by a beat
+pub record Advances (before : Clock) (due : Due) (after : Clock) : Type 0 where
+  pub clock : after ≡ clock-after (beat-at (before .ticks))
+  pub time : due ≡ due-by (beat-at (before .ticks))
 
 -- ==== a tick and an acknowledge
 

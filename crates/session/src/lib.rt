@@ -8,7 +8,7 @@ ghost use Rattle.model.specs.Limits.{header-length};
 ghost use Rattle.model.specs.Records.{settings-of, settings-length};
 ghost use Rattle.model.specs.Kinds.{reply-most};
 ghost use Rattle.model.specs.Messages.{entry-of};
-ghost use Rattle.text.specs.Put.{Put};
+ghost use Rattle.text.specs.Put.{WrittenUpTo};
 ghost use Rattle.frame.specs.Header.{header-of};
 ghost use Rattle.message.specs.Meaning.{effect-in, effect-listed, error-in};
 ghost use Rattle.session.specs.Control.{
@@ -16,6 +16,7 @@ ghost use Rattle.session.specs.Control.{
   cleared as cleared-session,
   beat-at,
   clock-after,
+  Advances,
   due-by,
   step-at,
   still as still-one,
@@ -215,8 +216,7 @@ fn due_after(b: Beat) -> Due
 
 // The same as `beat_of`, in place: the clock is lent.
 pub fn advance(clock: &mut Clock) -> Due
-    ensures { λ r. ⌜ (now (clock .exit) ≡ clock-after (beat-at (now (clock .entry) .ticks)))
-        × (r ≡ due-by (beat-at (now (clock .entry) .ticks))) ⌝ }
+    ensures { λ r. ⌜ Advances (now (clock .entry)) r (now (clock .exit)) ⌝ }
 {
     let beat = beat_of(clock.ticks);
     clock.ticks = ticks_after(beat);
@@ -604,7 +604,7 @@ pub fn decide(x: Session, standing: Standing, run: &[u8], count: usize) -> Decis
 // The run is the one that was decided on: the header of a 9999 goes back as it came.
 pub fn put_reply(out: &mut [u8], to: To, settings: &[u8], run: &[u8], reply: Reply) -> usize
     requires { ⌜ ReplyLent (now out) (now settings) (now run) to reply ⌝ }
-    ensures { λ r. ⌜ (r ≤ to .at + reply-most) × Put (now (out .entry)) (to .at)
+    ensures { λ r. ⌜ WrittenUpTo (now (out .entry)) (to .at) reply-most
         (out-bytes (to .session) (replies (settings-of (now (settings .entry))) (take header-length (now (run .entry))) reply))
         r (now (out .exit)) ⌝ }
 {

@@ -2,9 +2,9 @@
 use mathlib.Core.Path.{_≡_, refl, ap, _∙_}
 use Prim.Native.Nat.{suc, ℕ, _+_, _-_, _<_, _≤_}
 use native.Mathlib.Omega.{arith}
-use mathlib.Core.Bool.{true, false}
+use mathlib.Core.Bool.{false}
 use mathlib.Core.List.{List}
-use lib.Dec.{eqb, lit≤}
+use lib.Dec.{lit≤}
 use lib.ListN.{length, take, drop, replicate}
 use lib.Seq.{sets, length-sets}
 use Rattle.model.specs.Limits.{identifier-length, number-length, number-greatest}
@@ -34,11 +34,6 @@ eight = refl
 
 -- ==== what is well formed, and stays so
 
--- an area is well formed by its mark
-marked : (a : List ℕ) → little (take mark-length a) ≡ little mark → shared-formed a ≡ true
-unfolding shared-formed
-marked a e = ap (λ (n : ℕ). eqb n (little mark)) e
-
 -- a write behind the mark
 area-still : (a : List ℕ) (at k : ℕ) (ys : List ℕ) → Area a → length ys ≡ k → at + k ≤ shared-size → mark-length ≤ at → Area (sets a at ys)
 unfolding shared-formed
@@ -47,7 +42,7 @@ area-still a at k ys h e f g =
     let room : at + k ≤ length a = omega arith in
     record {
       size = length-sets a at ys ∙ s;
-      formed = ap (λ (l : List ℕ). eqb (little l) (little mark)) (stored-before at k a ys e room 0 mark-length g) ∙ h .formed;
+      formed = rw (stored-before at k a ys e room 0 mark-length g) (h .formed);
     }
 
 -- ==== an identifier comes in force
@@ -82,11 +77,10 @@ last-put a n h f =
 
 -- the mark, written
 mark-put : (a : List ℕ) → length a ≡ shared-size → Area (sets a 0 marks)
+unfolding shared-formed
 mark-put a s = record {
   size = length-sets a 0 marks ∙ s;
-  formed =
-      marked (sets a 0 marks)
-      (ap little (stored-same 0 mark-length a marks (in-bytes-length mark-length mark-number) (omega arith)) ∙ eight);
+  formed = rw (stored-same 0 mark-length a marks (in-bytes-length mark-length mark-number) (omega arith), eight);
 }
 
 -- the settings, written

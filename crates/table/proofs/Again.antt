@@ -1,6 +1,6 @@
 -- An event's copy that was written last: what stands there, and that it can go to another session once more.
-use mathlib.Core.Path.{_≡_, ap₂}
-use Prim.Native.Nat.{ℕ, _+_, _-_, _≤_}
+use mathlib.Core.Path.{ap₂}
+use Prim.Native.Nat.{ℕ, _+_, _≤_}
 use native.Mathlib.Omega.{arith}
 use mathlib.Core.Bool.{Bool}
 use mathlib.Core.List.{List}
@@ -9,10 +9,9 @@ use Rattle.model.specs.Bytes.{in-bytes}
 use Rattle.model.specs.Records.{Settings, record-head}
 use Rattle.model.specs.Kinds.{kind-at, copy-most}
 use Rattle.model.specs.Frames.{event-frame, frame-record}
-use Rattle.text.specs.Put.{Put}
 use Rattle.text.proofs.Puts.{put-as, put-stands}
 use Rattle.frame.specs.Places.{event-in}
-use Rattle.frame.specs.Output.{Recorded, Repeatable}
+use Rattle.frame.specs.Output.{WrittenAgain, Repeatable}
 use Rattle.frame.specs.declared.To.{To}
 use Rattle.frame.specs.declared.Asked.{Asked}
 use Rattle.table.specs.declared.Copied.{Copied}
@@ -53,16 +52,13 @@ module _ {t o p : List ℕ} {to : To} {asked : Asked} {c : Copied} (l : AskedLen
       let room = l .lent .room in
       record { output = record { room = omega arith; numbered = omega arith }; whole = omega arith }
 
-  pub copied-again : {next : ℕ} {o′ : List ℕ}
-      → (next ≡ to .at + (to .at - c .from))
-      × ((bs : List ℕ) → Recorded o (c .from) (to .at) bs → Put o (to .at) (frame-record (to .session) bs) next o′)
-      → Copies (settings-in t) asked p to o next o′
+  pub copied-again : {next : ℕ} {o′ : List ℕ} → WrittenAgain o to (c .from) next o′ → Copies (settings-in t) asked p to o next o′
   copied-again v =
-      let e = v .0 in
+      let e = v .place in
       let f = l .last .few in
       let said : ℕ → Bool → List ℕ = λ n b. event-frame (settings-in t) n b (event-in (asked .kind) p) in
       record {
         within = omega arith;
         bytes = put-as (ap₂ (λ (n : ℕ) (b : Bool). frame-record (to .session) (said n b)) (w .revision) (w .flag))
-            (v .1 _ (l .last .shown (w .some)));
+            (v .put _ (l .last .shown (w .some)));
       }

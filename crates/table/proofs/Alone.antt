@@ -3,7 +3,7 @@ use mathlib.Core.Path.{_≡_, refl, sym, ap, _∙_}
 use Prim.Native.Nat.{ℕ, _<_}
 use mathlib.Core.Bool.{true, false≢true}
 use mathlib.Core.List.{List, [], _∷_, append-nil}
-use lib.ListN.{length, set}
+use lib.ListN.{length}
 use Rattle.model.specs.Limits.{session-count}
 use Rattle.model.specs.Sharing.{Shared, shared-begun}
 use Rattle.model.specs.Session.{Session, closed, opened, started, fresh, is-closed, Emission}
@@ -55,27 +55,17 @@ module _ (t : List ℕ) (s : ℕ) (l : Local) (table : Table t) (few : s < sessi
   abbrev taken : Session × List Emission
   taken = step (decode t .shared) l (session-of (part t s))
 
-  here : step (decode t .shared) l (session-at (decode t) s) ≡ taken
-  here = ap (step (decode t .shared) l) (part-is t s few)
-
   there : s < length (decode t .sessions)
   there = rw (so-many-sessions t) few
 
   pub became-alone : (r : List ℕ) → Good r → session-of r ≡ taken .0 → Becomes t (uncounted (next (decode t) (alone s l))) (put t s r)
   unfolding decode
-  became-alone r g e =
-      rw (next-to (decode t) s l there)
-      (put-means t s r (set (decode t .sessions) s ((step (decode t .shared) l (session-at (decode t) s)) .0)) table few g
-      (ap (set (decode t .sessions) s) (e ∙ sym (ap (λ (p : Session × List Emission). p .0) here))))
+  became-alone r g e = rw (next-to (decode t) s l there, part-is t s few, ← e) (put-means t s r _ table few g refl)
 
   -- the region has become r, and what that emits was written
   pub went-alone : {r o o′ : List ℕ} {at to : ℕ} (es : List Emission) → Good r → taken ≡ (session-of r, es)
       → Put o at (out-bytes s es) to o′ → Went t o at (alone s l ∷ []) to (put t s r) o′
-  went-alone {r} es g e p =
-      let said : taken .1 ≡ es = ap (λ (q : Session × List Emission). q .1) e in
-      went-one (became-alone r g (sym (ap (λ (q : Session × List Emission). q .0) e)))
-      (put-as (ap output (sym (emits-to (decode t) s l there ∙ ap (λ (q : Session × List Emission). tag s (q .1)) here
-      ∙ ap (tag s) said))) p)
+  went-alone {r} es g e p = went-one (became-alone r g (rw e)) (rw (emits-to (decode t) s l there, part-is t s few, e) p)
 
 -- a region's step is told the settings alone
 pub by-settings : (t : List ℕ) (l : Local) (x : Session) → step (decode t .shared) l x ≡ step (shared-begun (settings-in t) 0) l x

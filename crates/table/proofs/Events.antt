@@ -22,10 +22,10 @@ use Rattle.model.proofs.InTurn.{next-to}
 use Rattle.frame.specs.Places.{result-of}
 use Rattle.frame.specs.Places.{event-in}
 use Rattle.shared.specs.Shared.{settings-part, in-force-of, last-of, Holds}
-use Rattle.region.specs.Region.{session-of}
+use Rattle.region.specs.Region.{session-of, region-formed}
 use Rattle.table.specs.Table.{shared-area, regions, decode, Table, Becomes, noted, Went}
 use Rattle.table.proofs.Regions.{so-many-sessions, length-regions, front, front-size, front-past, front-shared}
-use Rattle.table.proofs.Regions.{front-regions, front-table, table-means}
+use Rattle.table.proofs.Regions.{front-regions, formed-parts, becomes-of}
 
 -- ==== who takes it
 
@@ -38,7 +38,6 @@ takers-few kind s [] = rw add-zero (omega arith)
 takers-few kind s (x ∷ xs) =
     let few = at-most (takes kind x) (2 ^ s) in
     let rest : takers kind (suc s) xs + 2 ^ suc s ≤ 2 ^ (suc s + length xs) = takers-few kind (suc s) xs in
-    let twice : 2 ^ suc s ≡ 2 ^ s * 2 = pow-suc 2 s in
     let far : 2 ^ (s + suc (length xs)) ≡ 2 ^ (suc s + length xs) = ap (λ (n : ℕ). 2 ^ n)
     (add-suc s (length xs) ∙ sym (suc-add s (length xs))) in
     omega arith
@@ -106,14 +105,8 @@ unfolding decode
 front-means t a payload x n h k =
     let l = h .size in
     let s = k .area .size in
-    record {
-      table = front-table t a h (k .area);
-      size = front-size t a l s;
-      past = front-past t a l s;
-      meaning =
-          table-means (front t a) payload x n (regions session-of t) (subst (Holds payload x n) (sym (front-shared t a l s)) k)
-          (front-regions t a l s session-of);
-    }
+    becomes-of l (front-size t a l s) (front-past t a l s) (subst (Holds payload x n) (sym (front-shared t a l s)) k)
+    (rw (front-regions t a l s region-formed) (formed-parts t h .1)) (front-regions t a l s session-of)
 
 module _ (t a : List ℕ) (kind : ℕ) (place : List ℕ) (h : Table t) where
   pub noted-identifier : kind ≡ 0 → Holds (settings-part (shared-area t)) place (last-of (shared-area t)) a
@@ -125,8 +118,7 @@ module _ (t a : List ℕ) (kind : ℕ) (place : List ℕ) (h : Table t) where
       → Holds (settings-part (shared-area t)) (in-force-of (shared-area t)) n a
       → Becomes t (noted (decode t) (event-in kind place)) (front t a)
   unfolding decode result-of
-  noted-number n e f k =
-      rw e (front-means t a _ _ _ h (subst (λ (m : ℕ). Holds (settings-part (shared-area t)) (in-force-of (shared-area t)) m a) f k))
+  noted-number n e f k = rw e (front-means t a _ _ _ h (rw f at k))
 
 -- ==== one after another
 

@@ -1,12 +1,11 @@
 -- A tick and an event to one session: first its region changes, and then what it has to say is written.
-use mathlib.Core.Path.{_≡_, sym, ap, ap₂, _∙_}
+use mathlib.Core.Path.{_≡_, refl, ap, ap₂, _∙_}
 use Prim.Native.Nat.{ℕ, _+_, _≤_}
 use native.Mathlib.Omega.{arith}
 use mathlib.Core.Bool.{true, false}
 use mathlib.Core.List.{List, [], _∷_}
 use Rattle.model.specs.Records.{Settings}
 use Rattle.model.specs.Kinds.{kinds, kind-at, copy-most, copies-most}
-use Rattle.model.specs.Notices.{is-subscribed}
 use Rattle.model.specs.Session.{Emission}
 use Rattle.model.specs.Local.{Local, tick, event, step, takes}
 use Rattle.model.specs.World.{to as to-one}
@@ -17,14 +16,15 @@ use Rattle.frame.specs.declared.To.{To}
 use Rattle.frame.specs.declared.Asked.{Asked}
 use Rattle.session.specs.Effects.{out-bytes}
 use Rattle.lane.specs.declared.Told as lane
-use Rattle.region.specs.Region.{session-of, subscription-in, Good}
+use Rattle.region.specs.Region.{session-of, Good}
 use Rattle.region.specs.Said.{Ticks, tick-said, Takes, event-said}
 use Rattle.region.specs.declared.Ticked.{Ticked}
 use Rattle.table.specs.Table.{region-in, decode, settings-in, Went}
 use Rattle.table.specs.Says.{Lent, DueLent, asked-in}
 use Rattle.table.specs.Passes.{Last, AskedLent, Copies, EventLent, TellsOne}
 use Rattle.table.specs.declared.Copied.{Copied}
-use Rattle.table.proofs.Regions.{part, put, part-is, put-in, put-table, put-settings}
+use Rattle.table.specs.declared.Took.{Took}
+use Rattle.table.proofs.Regions.{part, put, part-is, put-in, put-means, put-settings}
 use Rattle.table.proofs.Alone.{went-alone, by-settings}
 use Rattle.table.proofs.Says.{copy-said}
 use Rattle.table.proofs.Again.{copied-so, last-now}
@@ -33,7 +33,7 @@ use Rattle.table.proofs.Again.{copied-so, last-now}
 
 module _ {t o : List ℕ} {to : To} {most : ℕ} (l : Lent t o to most) {r : List ℕ} (g : Good r) where
   pub still-lent : Lent (put t (to .session) r) o to most
-  still-lent = record { table = put-table t (to .session) r (l .table) (l .session) g; session = l .session; room = l .room }
+  still-lent = record { table = put-means t (to .session) r _ (l .table) (l .session) g refl .table; session = l .session; room = l .room }
 
   pub there : region-in (to .session) (put t (to .session) r) ≡ r
   there = put-in t (to .session) r (l .table .size) (l .session) (g .size)
@@ -76,48 +76,36 @@ module _ {t o : List ℕ} {to : To} {kind : ℕ} {p : List ℕ} {c : Copied} (e 
   pub asked-lent : {asked : Asked} → asked ≡ asked-in kind (region-in (to .session) t₁) → AskedLent t₁ o to asked p c
   asked-lent q = rw q (record { known = e .known; lent = still-lent (e .lent) (w .good); place = e .place; last = last-still })
 
+  -- what it tells, where it came to next and that copy is the last
+  abbrev took : ℕ → Copied → Took
+  took next c′ = record {
+    at = next;
+    taken = told .taken;
+    from = c′ .from;
+    revision = c′ .revision;
+    «no_acknowledge» = c′ .«no_acknowledge»;
+  }
+
   told-one : {next : ℕ} {o′ : List ℕ} (c′ : Copied) → next ≤ to .at + copy-most (kind-at kind)
       → Put o (to .at) (out-bytes (to .session) (event-said (settings-in t₁) kind p told (region-in (to .session) t₁))) next o′
-      → Last (settings-in t₁) kind p c′ next o′
-      → TellsOne t o to kind p (record {
-        at = next;
-        taken = told .taken;
-        from = c′ .from;
-        revision = c′ .revision;
-        «no_acknowledge» = c′ .«no_acknowledge»;
-      }) t₁ o′
+      → Last (settings-in t₁) kind p c′ next o′ → TellsOne t o to kind p (took next c′) t₁ o′
   told-one c′ within v last = record {
     within = within;
-    takes = w .takes ∙ ap (takes kind) (sym (part-is t (to .session) (e .lent .session)));
+    takes = rw (part-is t (to .session) (e .lent .session)) (w .takes);
     went = passed (e .lent) (w .good) (event (event-in kind p)) (λ st z. event-said st kind p told z)
         (by-settings t (event (event-in kind p)) (session-of (part t (to .session))) ∙ w .steps (settings-in t)) v;
     last = last;
   }
 
   -- nothing went out: what was written last still is
-  pub told-nothing : told .tell ≡ false → TellsOne t o to kind p (record {
-    at = to .at;
-    taken = told .taken;
-    from = c .from;
-    revision = c .revision;
-    «no_acknowledge» = c .«no_acknowledge»;
-  }) t₁ o
+  pub told-nothing : told .tell ≡ false → TellsOne t o to kind p (took (to .at) c) t₁ o
   told-nothing b = told-one c (omega arith) (rw b (put-nothing o (to .at))) last-still
 
   -- a copy went out: it is the last
   pub told-copy : {next : ℕ} {o′ : List ℕ} {asked : Asked} → told .tell ≡ true → asked ≡ asked-in kind (region-in (to .session) t₁)
-      → Copies (settings-in t₁) asked p to o next o′ → TellsOne t o to kind p (record {
-        at = next;
-        taken = told .taken;
-        from = to .at;
-        revision = asked .revision;
-        «no_acknowledge» = asked .«no_acknowledge»;
-      }) t₁ o′
-  told-copy {next} {o′} {asked} b q v =
-      let a = asked-in kind (region-in (to .session) t₁) in
-      let u : Copies (settings-in t₁) a p to o next o′ = rw q at v in
-      let subscribed : is-subscribed (subscription-in kind (region-in (to .session) t₁)) ≡ true =
-      rw (there (e .lent) (w .good)) (w .ready b) in
-      rw q (told-one (copied-so (to .at) a) (u .within)
-      (rw b (put-as (copy-said (settings-in t₁) (to .session) kind (region-in (to .session) t₁) p subscribed) (u .bytes)))
-      (last-now (e .lent .room) u))
+      → Copies (settings-in t₁) asked p to o next o′ → TellsOne t o to kind p (took next (copied-so (to .at) asked)) t₁ o′
+  told-copy b q v =
+      let u = rw q at v in
+      rw q (told-one (copied-so (to .at) (asked-in kind (region-in (to .session) t₁))) (u .within)
+      (rw b (put-as (copy-said (settings-in t₁) (to .session) kind (region-in (to .session) t₁) p
+      (rw (there (e .lent) (w .good)) (w .ready b))) (u .bytes))) (last-now (e .lent .room) u))

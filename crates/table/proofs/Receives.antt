@@ -1,5 +1,5 @@
 -- Received bytes: what they do to their session, and the identifier that they may make known to all.
-use mathlib.Core.Path.{_≡_, refl, sym, ap, ap₂, subst, _∙_}
+use mathlib.Core.Path.{_≡_, refl, sym, ap, _∙_}
 use mathlib.Core.Bool.{Bool, true, false, cond, true≢false}
 use mathlib.Core.List.{List, [], _∷_}
 use mathlib.Core.Option.{Option, none, some, Option·map as option-map}
@@ -15,16 +15,13 @@ use Rattle.model.specs.Records.{settings-of, settings-length}
 use Rattle.model.specs.Runs.{Piece, cut, longer}
 use Rattle.model.specs.Kinds.{kinds, kind-at, copy-most, copies-most, reply-most, session-most, receive-most}
 use Rattle.model.specs.Events.{identified}
-use Rattle.model.specs.Session.{Session, Emission}
 use Rattle.model.specs.Local.{receives, announces, step}
-use Rattle.model.specs.Sharing.{shared-begun}
-use Rattle.model.specs.Row.{tag}
-use Rattle.model.specs.World.{session-at, Moment, hears, happens, uncounted, next, emits}
+use Rattle.model.specs.World.{session-at, hears, happens, uncounted, next}
 use Rattle.model.specs.Calls.{output, happening}
 use Rattle.model.proofs.BySettings.{announces-bare}
 use Rattle.model.proofs.InTurn.{emits-to}
 use Rattle.text.specs.Put.{Put}
-use Rattle.text.proofs.Puts.{put-nothing, put-as, put-then, put-length}
+use Rattle.text.proofs.Puts.{put-nothing, put-then, put-length}
 use Rattle.text.proofs.Areas.{each-below}
 use Rattle.frame.specs.declared.To.{To}
 use Rattle.session.specs.Effects.{out-bytes, replies, ReplyLent}
@@ -51,31 +48,20 @@ module _ (t : List ℕ) (s : ℕ) (bs : List ℕ) (table : Table t) (few : s < s
   abbrev r : List ℕ
   r = part t s
 
-  goes-on : (step (shared-begun (settings-in t) 0) (receives (unended bs)) (session-of r)
+  goes-on : (step (decode t .shared) (receives (unended bs)) (session-at (decode t) s)
       ≡ (region.meaning (head-of (head-area r)) (longer (run-of (run-area r)) bs) (subscriptions-in r), []))
-      × (announces (shared-begun (settings-in t) 0) (unended bs) (session-of r) ≡ none)
-  unfolding session-of
+      × (announces (decode t .shared) (unended bs) (session-at (decode t) s) ≡ none)
+  unfolding session-of decode
   goes-on =
       let x = head-of (head-area r) in
-      run-goes-on (settings-in t) (run-of (run-area r)) (subscriptions-in r) (unended bs) refl (x .phase) (x .idle)
+      let w = run-goes-on (settings-in t) (run-of (run-area r)) (subscriptions-in r) (unended bs) refl (x .phase) (x .idle) in (
+        rw (part-is t s few, by-settings t (receives (unended bs)) (session-of r)) (w .0),
+        rw (part-is t s few, announces-bare (decode t .shared) (unended bs) (session-of r)) (w .1),
+      )
 
   pub lengthened : {r′ : List ℕ} → region.Becomes r (head-of (head-area r)) (longer (run-of (run-area r)) bs) (subscriptions-in r) r′
       → Becomes t (uncounted (next (decode t) (hears s (unended bs)))) (put t s r′)
-  lengthened {r′} b =
-      became-alone t s (receives (unended bs)) table few r′ (b .good)
-      (means b ∙ sym (ap (λ (q : Session × List Emission). q .0) (by-settings t (receives (unended bs)) (session-of r) ∙ goes-on .0)))
-
-  pub says-none : step (decode t .shared) (receives (unended bs)) (session-at (decode t) s)
-      ≡ (region.meaning (head-of (head-area r)) (longer (run-of (run-area r)) bs) (subscriptions-in r), [])
-  says-none =
-      ap (step (decode t .shared) (receives (unended bs))) (part-is t s few)
-      ∙ by-settings t (receives (unended bs)) (session-of r) ∙ goes-on .0
-
-  pub tells-none : announces (decode t .shared) (unended bs) (session-at (decode t) s) ≡ none
-  unfolding decode
-  tells-none =
-      ap (announces (decode t .shared) (unended bs)) (part-is t s few) ∙ announces-bare (decode t .shared) (unended bs) (session-of r)
-      ∙ goes-on .1
+  lengthened b = became-alone t s (receives (unended bs)) table few _ (b .good) (rw (← part-is t s few, goes-on .0) (means b))
 
 -- ==== what all are told
 
@@ -93,15 +79,12 @@ module _ (place : List ℕ) {known : Bool} {place′ : List ℕ} where
       (k : Knows (announces (decode t .shared) p (session-at (decode t) s)) place known place′)
       (w : Went t o at (hears s p ∷ []) to t₁ o₁) where
     pub not-told : known ≡ false → Went t o at (heard-by-all (decode t) s p) to t₁ o₁
-    not-told e =
-        subst (λ (ms : List Moment). Went t o at (hears s p ∷ ms) to t₁ o₁)
-        (sym (told-none (announces (decode t .shared) p (session-at (decode t) s)) k e)) w
+    not-told e = rw (told-none (announces (decode t .shared) p (session-at (decode t) s)) k e) w
 
     pub all-told : {t₂ o₂ : List ℕ} {next : ℕ} → known ≡ true → Went t₁ o₁ to (happens (identified place′) ∷ []) next t₂ o₂
         → Went t o at (heard-by-all (decode t) s p) next t₂ o₂
-    all-told {t₂} {o₂} {next} e v =
-        subst (λ (ms : List Moment). Went t o at (hears s p ∷ ms) next t₂ o₂)
-        (told-one (announces (decode t .shared) p (session-at (decode t) s)) k e) (went-then (uncounted-yet t s (receives p)) w v)
+    all-told e v =
+        rw (← told-one (announces (decode t .shared) p (session-at (decode t) s)) k e) (went-then (uncounted-yet t s (receives p)) w v)
 
 -- ==== a piece of the bytes
 
@@ -122,20 +105,14 @@ piece-goes-on bs i e h =
 
 pub goes-on-so : {t o : List ℕ} {to : To} {bs : List ℕ} {end : ℕ} → Lent t o to receive-most → Ends bs end → length bs ≤ end
     → {t′ : List ℕ} → Becomes t (uncounted (next (decode t) (hears (to .session) (unended bs)))) t′ → Received t o to (cut bs) (to .at) t′ o
-goes-on-so {t} {o} {to} {bs} {end} l e h {t′} b =
+goes-on-so {t} {o} {to} {bs} {end} l e h b =
     let s = to .session in
-    let quiet : happening (option-map identified (announces (decode t .shared) (unended bs) (session-at (decode t) s))) ≡ [] =
-    ap (λ (x : Option (List ℕ)). happening (option-map identified x)) (tells-none t s bs (l .table) (l .session)) in
+    let w = goes-on t s bs (l .table) (l .session) in
     let many : s < length (decode t .sessions) = rw (so-many-sessions t) (l .session) in
-    let silent : emits (decode t) (hears s (unended bs)) ≡ [] =
-    emits-to (decode t) s (receives (unended bs)) many
-    ∙ ap (λ (q : Session × List Emission). tag s (q .1)) (says-none t s bs (l .table) (l .session)) in
-    let w : Went t o (to .at) (hears s (unended bs) ∷ []) (to .at) t′ o = went-one b
-    (put-as (ap output (sym silent)) (put-nothing o (to .at))) in
-    subst (λ (p : Piece). Received t o to p (to .at) t′ o) (piece-goes-on bs end e h) (record {
+    rw (← piece-goes-on bs end e h) record {
       within = omega arith;
-      went = subst (λ (ms : List Moment). Went t o (to .at) (hears s (unended bs) ∷ ms) (to .at) t′ o) (sym quiet) w;
-    })
+      went = rw (w .1) (went-one b (rw (emits-to (decode t) s (receives (unended bs)) many, w .0) (put-nothing o (to .at))));
+    }
 
 -- ==== what the end of a run leaves to say
 
@@ -185,14 +162,9 @@ module _ {t o : List ℕ} {to : To} {bs : List ℕ} {e : Ended} (l : EndLent t o
   answered ep er few p w =
       let among = copy-among (e .kind) (l .known) in
       let within = w .within in
-      let st = settings-in t in
       record {
         within = omega arith;
-        bytes = put-as
-            (sym (out-append (to .session) (replies st (take header-length (ended-in (e .whole) bs region-now)) (e .reply))
-            (due-copy st (e .kind) (e .sends) (subscription-in (e .kind) region-now)))) (put-then
-            (put-as (ap₂ (λ (z q : List ℕ). out-bytes (to .session) (replies (settings-of z) (take header-length q) (e .reply))) ep er) p)
-            (w .bytes));
+        bytes = rw out-append (put-then (rw (ep, er) at p) (w .bytes));
       }
 
 -- ==== the end of a run: first the region changes, and then what it has to say is written
@@ -216,6 +188,6 @@ module _ {t o : List ℕ} {to : To} {bs place : List ℕ} (l : Lent t o to sessi
     within = v .within;
     went = passed l (w .good) (receives (ending bs)) (λ st z. end-said st bs e z)
         (by-settings t (receives (ending bs)) (session-of (part t (to .session))) ∙ w .steps (settings-in t) eg) (v .bytes);
-    knows = rw (ap (announces (decode t .shared) (ending bs)) (part-is t (to .session) (l .session))
-        ∙ announces-bare (decode t .shared) (ending bs) (session-of (part t (to .session)))) (w .knows (settings-in t) eg);
+    knows = rw (part-is t (to .session) (l .session), announces-bare (decode t .shared) (ending bs) (session-of (part t (to .session))))
+        (w .knows (settings-in t) eg);
   }

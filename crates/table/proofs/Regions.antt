@@ -69,7 +69,8 @@ pub part-is : (t : List ℕ) (s : ℕ) → s < session-count → session-at (dec
 unfolding decode
 part-is t s h = region-read session-of t s closed h
 
-formed-parts : (t : List ℕ) → Table t → (shared-formed (shared-area t) ≡ true) × (all (λ (b : Bool). b) (regions region-formed t) ≡ true)
+pub formed-parts : (t : List ℕ) → Table t
+    → (shared-formed (shared-area t) ≡ true) × (all (λ (b : Bool). b) (regions region-formed t) ≡ true)
 unfolding table-formed
 formed-parts t h = and-eq-true-iff (shared-formed (shared-area t)) (all (λ (b : Bool). b) (regions region-formed t)) .0 (h .formed)
 
@@ -102,24 +103,23 @@ pub length-in-force : (a : List ℕ) → length a ≡ shared-size → length (in
 unfolding in-force-of
 length-in-force a e = length-take-le 25 (drop 56 a) (simp length-drop (omega arith))
 
--- ==== what makes a table, and what it means
+-- ==== what has become of it
 
-pub table-of : (t : List ℕ) → table-least ≤ length t → shared-formed (shared-area t) ≡ true
-    → all (λ (b : Bool). b) (regions region-formed t) ≡ true → Table t
-unfolding table-formed
-table-of t h a b =
-    record {
-      size = h;
-      formed = and-eq-true-iff (shared-formed (shared-area t)) (all (λ (b : Bool). b) (regions region-formed t)) .1
-          (a, b);
-    }
-
-pub table-means : (t payload x : List ℕ) (n : ℕ) (ss : List Session) → Holds payload x n (shared-area t) → regions session-of t ≡ ss
-    → decode t ≡ record { shared = record { settings = settings-of payload; in-force = x; last = n; events = 0 }; sessions = ss }
-unfolding decode
-table-means t payload x n ss h e = λ i. record {
-  shared = record { settings = settings-of (h .settings i); in-force = h .in-force i; last = h .last i; events = 0 };
-  sessions = e i;
+-- it has become so: as long as it was and the same past what is used, with what all share as it is held, and with regions that are well
+-- formed and mean those sessions
+pub becomes-of : {t t′ payload x : List ℕ} {n : ℕ} {ss : List Session} → table-least ≤ length t → length t′ ≡ length t
+    → drop table-used t′ ≡ drop table-used t → Holds payload x n (shared-area t′) → all (λ (b : Bool). b) (regions region-formed t′) ≡ true
+    → regions session-of t′ ≡ ss
+    → Becomes t (record { shared = record { settings = settings-of payload; in-force = x; last = n; events = 0 }; sessions = ss }) t′
+unfolding decode table-formed
+becomes-of l s p h formed e = record {
+  table = record { size = rw s l; formed = rw (h .area .formed, formed) };
+  size = s;
+  past = p;
+  meaning = λ i. record {
+    shared = record { settings = settings-of (h .settings i); in-force = h .in-force i; last = h .last i; events = 0 };
+    sessions = e i;
+  };
 }
 
 -- what is shared, as the table means it
@@ -189,23 +189,6 @@ module _ (t ys : List ℕ) (long : table-least ≤ length t) (len : length ys �
       areas-same (λ (s : ℕ). f) region-at (λ (s : ℕ). region-size) t (front t ys) 0 session-count
       (λ j p q. area-after 0 shared-size t ys len front-fits (region-at j) region-size (omega arith))
 
--- ==== a table whose region or shared area was replaced by a good one is a table
-
-pub put-table : (t : List ℕ) (s : ℕ) (r : List ℕ) → Table t → s < session-count → Good r → Table (put t s r)
-put-table t s r h b g =
-    let l = h .size in
-    let n = g .size in
-    table-of (put t s r) (rw (put-size t s r l b n) l) (ap shared-formed (put-shared t s r l b n) ∙ formed-parts t h .0)
-    (ap (all (λ (b : Bool). b)) (put-regions t s r l b n region-formed ∙ ap (set (regions region-formed t) s) (g .formed))
-    ∙ all-set (regions region-formed t) s (formed-parts t h .1))
-
-pub front-table : (t a : List ℕ) → Table t → Area a → Table (front t a)
-front-table t a h g =
-    let l = h .size in
-    let n = g .size in
-    table-of (front t a) (rw (front-size t a l n) l) (ap shared-formed (front-shared t a l n) ∙ g .formed)
-    (ap (all (λ (b : Bool). b)) (front-regions t a l n region-formed) ∙ formed-parts t h .1)
-
 -- session s becomes what r means, and nothing else changes
 pub put-means : (t : List ℕ) (s : ℕ) (r : List ℕ) (ss : List Session) → Table t → s < session-count → Good r
     → set (regions session-of t) s (session-of r) ≡ ss
@@ -214,13 +197,9 @@ unfolding decode
 put-means t s r ss h b g e =
     let l = h .size in
     let n = g .size in
-    record {
-      table = put-table t s r h b g;
-      size = put-size t s r l b n;
-      past = put-past t s r l b n;
-      meaning = table-means (put t s r) (settings-part (shared-area t)) (in-force-of (shared-area t)) (last-of (shared-area t)) ss
-          (holds-as-before t (put t s r) h (put-shared t s r l b n)) (put-regions t s r l b n session-of ∙ e);
-    }
+    becomes-of l (put-size t s r l b n) (put-past t s r l b n) (holds-as-before t (put t s r) h (put-shared t s r l b n))
+    (rw (put-regions t s r l b n region-formed, g .formed) (all-set (regions region-formed t) s (formed-parts t h .1)))
+    (put-regions t s r l b n session-of ∙ e)
 
 -- ==== what is past the bytes that have to be lent is past those that are used
 

@@ -29,7 +29,7 @@ use Rattle.region.specs.Said.{copies-out, due-copy, due-copies, Ready}
 use Rattle.region.proofs.Areas.{lane-length, length-subscriptions, subscription-at, there}
 use Rattle.frame.specs.declared.To.{To}
 use Rattle.table.specs.Table.{region-in, settings-in, Table}
-use Rattle.table.specs.Says.{Lent, Wrote, CopyLent, OpenLent, DueLent, subscription-to, subscriptions-to, asked-in}
+use Rattle.table.specs.Says.{Wrote, CopyLent, OpenLent, DueLent, subscription-to, subscriptions-to, asked-in}
 use Rattle.table.proofs.Regions.{length-in}
 
 -- ==== a lane, as it is read in the table

@@ -80,3 +80,8 @@ noted w e = record { shared = unnumbered (shared-after (w .shared) e); sessions 
 pub record Went (t o : List ℕ) (at : ℕ) (ms : List Moment) (next : ℕ) (t′ o′ : List ℕ) : Type 0 where
   pub table : Becomes t (uncounted (after (decode t) ms)) t′
   pub bytes : Put o at (output (emitted (decode t) ms)) next o′
+
+-- no more than so many bytes
+pub record WentUpTo (t o : List ℕ) (at most : ℕ) (ms : List Moment) (next : ℕ) (t′ o′ : List ℕ) : Type 0 where
+  pub within : next ≤ at + most
+  pub went : Went t o at ms next t′ o′

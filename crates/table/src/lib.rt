@@ -16,7 +16,8 @@ ghost use Rattle.run.specs.Area.{Ends};
 ghost use Rattle.lane.specs.Lane.{is-plain as is-plain-so};
 ghost use Rattle.region.specs.Said.{copies-out, due-copy, due-copies, ending, end-said};
 ghost use Rattle.shared.specs.Shared.{settings-part};
-ghost use Rattle.table.specs.Table.{shared-area, region-in, decode, settings-in, table-formed, Table, Openable, Becomes, noted, Went};
+ghost use Rattle.table.specs.Table.{shared-area, region-in, decode, settings-in, table-formed, Table, Openable, Becomes};
+ghost use Rattle.table.specs.Table.{noted, WentUpTo};
 ghost use Rattle.table.specs.Says.{Lent, Wrote, CopyLent, OpenLent, DueLent, EndLent, subscription-to, subscriptions-to};
 ghost use Rattle.table.specs.Says.{Asking, asked-in};
 ghost use Rattle.table.specs.Passes.{EventTo, Repeats, AskedLent, Copies, EventLent, TellsOne, Tells, Happens, Hears, unended};
@@ -205,7 +206,7 @@ fn say(table: &[u8], out: &mut [u8], to: To, due: [bool; KIND_COUNT]) -> usize
 // To one session.
 fn tick_session(table: &mut [u8], out: &mut [u8], to: To) -> usize
     requires { ⌜ Lent (now table) (now out) to (copies-most kinds) ⌝ }
-    ensures { λ r. ⌜ (r ≤ to .at + copies-most kinds) × Went (now (table .entry)) (now (out .entry)) (to .at)
+    ensures { λ r. ⌜ WentUpTo (now (table .entry)) (now (out .entry)) (to .at) (copies-most kinds)
         (to-one (to .session) one-tick ∷ []) r (now (table .exit)) (now (out .exit)) ⌝ }
 {
     let a = SHARED + to.session as usize * SIZE;
@@ -220,8 +221,8 @@ fn tick_session(table: &mut [u8], out: &mut [u8], to: To) -> usize
 // To every session, in order.
 pub fn tick(table: &mut [u8], out: &mut [u8], at: usize) -> usize
     requires { ⌜ Table (now table) × (at + tick-most ≤ length (now out)) ⌝ }
-    ensures { λ r. ⌜ (r ≤ at + tick-most)
-        × Went (now (table .entry)) (now (out .entry)) at (ticks ∷ []) r (now (table .exit)) (now (out .exit)) ⌝ }
+    ensures { λ r. ⌜ WentUpTo (now (table .entry)) (now (out .entry)) at tick-most (ticks ∷ []) r (now (table .exit))
+        (now (out .exit)) ⌝ }
 {
     let mut at = at;
     let mut session: u64 = 0;

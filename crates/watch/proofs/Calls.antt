@@ -6,9 +6,10 @@ use mathlib.Core.List.{List, [], _∷_, _++_}
 use mathlib.Core.Option.{Option, some}
 use mathlib.Core.Logic.{_⊎_, inl, inr}
 use native.Mathlib.Omega.{arith}
+use native.Mathlib.Decide.{ℕ-discrete}
 use lib.Dec.{eqb}
 use lib.ListN.{length, length-append}
-use borrow.Author.Tests.{eqb-true, eqb-false, eq-eqb, ne-eqb}
+use borrow.Author.Tests.{eq-eqb, ne-eqb}
 use Rattle.model.specs.Limits.{copy-every, given-up-at, most-repeats, most-copies, longest-wait}
 use Rattle.watch.specs.Marks.{Seen, copies-among, Every}
 use Rattle.watch.specs.Course.{PendingSeen, empty, busy, Eff, rest, lone, first, keep, wait, swap, wipe, over, pass, beat, again}
@@ -135,11 +136,7 @@ pub data Start (n : ℕ) (q′ : PendingSeen) (k′ : ℕ) (es : List Seen) : Bo
   single : copies-among n es ≡ 1 → Gone n q′ k′ → Start n q′ k′ es false
 
 by-test : {P : Type 0} (a b : ℕ) → (a ≡ b → P) → ((a ≡ b → ⊥) → P) → P
-by-test {P} a b f g = go (eqb a b) refl
-  where
-    go : (t : Bool) → eqb a b ≡ t → P
-    go true e = f (eqb-true a b e)
-    go false e = g (eqb-false a b e)
+by-test a b f g = elim (ℕ-discrete a b) [ yes e ↦ f e | no h ↦ g h ]
 
 -- the next one goes out, with a new clock
 goes-out : (n : ℕ) (y : Seen) {c : ℕ} (q : List Seen) {k : ℕ} → c ≡ 0 → Above (suc (y .id)) q k → Start n (busy y c q) k (y ∷ []) true
@@ -170,7 +167,7 @@ abbrev pub all : PendingSeen → List Seen
 all empty = []
 all (busy x c q) = x ∷ q
 
-pub every-append : (P : Seen → Type 0) (xs ys : List Seen) → Every P xs → Every P ys → Every P (xs ++ ys)
+pub every-append : {A : Type 0} (P : A → Type 0) (xs ys : List A) → Every P xs → Every P ys → Every P (xs ++ ys)
 every-append P [] ys a b = b
 every-append P (x ∷ xs) ys a b = (a .0, every-append P xs ys (a .1) b)
 

@@ -1,9 +1,9 @@
 -- What the calls of a whole history do to the notices of one kind to one session.
 use Prim.Native.Nat.{ℕ, suc, _+_, _-_, _*_, _/_, _≤_, _<_, min}
 use mathlib.Core.Path.{_≡_, refl, sym, _∙_, ap, subst}
-use mathlib.Core.Bool.{Bool, true, false, cond, true≢false}
+use mathlib.Core.Bool.{Bool, true, false, cond}
 use mathlib.Core.List.{List, [], _∷_, _++_, append-assoc, append-nil}
-use mathlib.Core.Option.{Option, none, some}
+use mathlib.Core.Option.{Option, none, some, Option·none-ne-some}
 use mathlib.Core.Logic.{_⊎_, inl, inr}
 use native.Mathlib.Omega.{arith}
 use lib.Dec.{eqb}
@@ -103,10 +103,6 @@ counted n (b ∷ before) m later (call {k′ = k′} {q′ = q′} e r f c) g u 
 abbrev Framed : (ℕ → Option (List ℕ)) → Seen → Type 0
 Framed F x = F (x .id) ≡ some (x .frame)
 
-abbrev is-event : Option (List ℕ) → Bool
-is-event none = false
-is-event (some f) = true
-
 -- the events of the history have the frames that F says
 pub framed : (F : ℕ → Option (List ℕ)) {z : Bool} {k : ℕ} {q : PendingSeen} {ms : List Mark} → Course z k q ms
     → ((n : ℕ) → k ≤ n → frame-of n ms ≡ F n) → Every (Framed F) (all q) → Every (Framed F) (all-sent ms)
@@ -118,7 +114,7 @@ framed F (call {k = k} {k′ = k′} {m = m} {ms = ms} e r f c) u g =
   where
     go : (o : Option (List ℕ)) → Rises k k′ o → ((n : ℕ) → k ≤ n → or-later (eqb k n) (frame-of n ms) o ≡ F n)
         → ((b : List ℕ) → o ≡ some b → F k ≡ some b) × ((n : ℕ) → k′ ≤ n → frame-of n ms ≡ F n)
-    go none h v = (λ b e. absurd (true≢false (sym (ap is-event e))), λ n l. v n (omega arith))
+    go none h v = (λ b e. absurd (Option·none-ne-some b e), λ n l. v n (omega arith))
     go (some a) h v = (
       λ b e. sym (rw (eq-eqb k k refl) at (v k (omega arith))) ∙ e,
       λ n l. rw (ne-eqb k n (omega arith)) at (v n (omega arith)),
@@ -126,13 +122,9 @@ framed F (call {k = k} {k′ = k′} {m = m} {ms = ms} e r f c) u g =
 
 -- ==== where a copy comes from; `past` are the calls so far
 
-stays-on : (past : List Mark) (m : Mark) → m .still ≡ true → Stays past → Stays (past ++ m ∷ [])
-stays-on [] m e h = (e, tt)
-stays-on (y ∷ past) m e h = (h .0, stays-on past m e (h .1))
-
 held-on : (past : List Mark) (m : Mark) → m .still ≡ true → (x : Seen) → Held x past → Held x (past ++ m ∷ [])
 held-on [] m e x h = absurd h
-held-on (y ∷ past) m e x (inl h) = inl (h .0, stays-on (y ∷ past) m e (h .1))
+held-on (y ∷ past) m e x (inl h) = inl (h .0, every-append (λ m. m .still ≡ true) (y ∷ past) (m ∷ []) (h .1) (e, tt))
 held-on (y ∷ past) m e x (inr h) = inr (held-on past m e x h)
 
 held-new : (past : List Mark) (m : Mark) → m .still ≡ true → (x : Seen) → Origin x m → Held x (past ++ m ∷ [])

@@ -16,11 +16,9 @@ use Rattle.controller.proofs.result.Tie as tie
 copy-requires-2 : tie.Need-copy-requires-2
 copy-requires-2 c κs =
     let m = c .before in
-    let f = m .before in
-    let s = f .before .before .before .before .before .before .before in
-    let p = s .args .payload .now in
-    let l = meant-length (take identifier-length (drop 0 p)) (now (f .in-force .result)) (m .meant .ensures)
-    (length-take-le identifier-length p (omega (arith, s .pre .payload))) (f .in-force .ensures .1) in
+    let p = m .before .before .before .before .before .before .before .before .args .payload .now in
+    let l = meant-length (take identifier-length (drop 0 p)) _ (m .meant .ensures) (length-take-le identifier-length p (omega arith))
+    (m .before .in-force .ensures .1) in
     omega (arith, l)
 
 returns : tie.Need-returns

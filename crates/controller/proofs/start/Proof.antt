@@ -1,7 +1,6 @@
 -- `controller::start` meets its contract.
 use borrow.Author.Needs.{needs}
-use mathlib.Core.Path.{refl, sym, ap, _∙_}
-use native.Mathlib.Omega.{arith}
+use mathlib.Core.Path.{sym, ap, _∙_}
 use mathlib.Core.List.{[]}
 use lib.ListN.{length}
 use Rattle.model.specs.Calls.{start}
@@ -23,8 +22,7 @@ returns-2 c =
     let i = d .before .before .before in
     let a = i .before .before .before .before .before .args in
     let p = start-passes (a .table .now) (a .settings .now) (sym (i .before .start .ensures) ∙ i .if1 .left) in
-    finish _ _ [] 0 0 0 (i .before .start .ensures) (i .if1 .left) (c .done .ensures) refl refl
-    (started-quietly _ [] _ (p .1) (rw (d .before .payload .ensures) at (d .start2 .ensures))) (omega arith)
+    let q = started-quietly _ [] _ (p .1) (rw (d .before .payload .ensures) at (d .start2 .ensures)) in search (needs, finish)
 
 pub start-spec : {M : Type 1} → statement M
 start-spec =
@@ -33,7 +31,7 @@ start-spec =
     (λ c κs. search needs)
     (λ c κs. search needs)
     (λ c. search needs)
-    (λ c. refuse _ _ [] (c .before .before .start .ensures) (c .before .if1 .taken) (c .refused .ensures))
+    (λ c. search (needs, refuse))
     (λ c κs. search needs)
     start-requires-2
     (λ c κs. search needs)

@@ -7,18 +7,6 @@ use Rattle.controller.proofs.Calls.{refuse, finish}
 use Rattle.controller.proofs.tick.Statement.{statement}
 use Rattle.controller.proofs.tick.Tie as tie
 
-tick-requires-2 : tie.Need-tick-requires-2
-tick-requires-2 c κs =
-    let p = is-ready _ _ (sym (c .before .before .before .tick .ensures) ∙ c .before .before .if1 .left) in
-    (p .table, omega arith)
-
-returns-2 : tie.Need-returns-2
-returns-2 c =
-    let d = c .before .before .before .before .before in
-    let i = d .before .before .before in
-    finish _ _ _ _ 0 0 (i .before .tick .ensures) (i .if1 .left) (c .done .ensures) refl refl (d .tick2 .ensures .1)
-    (omega (arith, d .tick2 .ensures .0))
-
 pub tick-spec : {M : Type 1} → statement M
 tick-spec =
     tie.close
@@ -26,9 +14,12 @@ tick-spec =
     (λ c κs. search needs)
     (λ c κs. search needs)
     (λ c. search needs)
-    (λ c. refuse _ _ _ (c .before .before .tick .ensures) (c .before .if1 .taken) (c .refused .ensures))
-    tick-requires-2
+    (λ c. search (needs, refuse))
+    (λ c κs. let p = is-ready _ _ (sym (c .before .before .before .tick .ensures) ∙ c .before .before .if1 .left) in
+    (p .table, omega arith))
     (λ c κs. search needs)
     (λ c. search needs)
     (λ c. search needs)
-    returns-2)
+    (λ c. let d = c .before .before .before .before .before in let i = d .before .before .before in
+    finish _ _ _ _ 0 0 (i .before .tick .ensures) (i .if1 .left) (c .done .ensures) refl refl (d .tick2 .ensures .went)
+    (omega (arith, d .tick2 .ensures .within))))

@@ -14,18 +14,12 @@ report-requires c κs =
     let p = tool-passes _ _ (k .tool-record-kind .result) (sym (i .before .tool-record .ensures) ∙ i .if1 .left) in
     record { table = p .0 .table; room = p .0 .room; reads = k .tool-record-kind .ensures; number = p .2 }
 
-returns-2 : tie.Need-returns-2
-returns-2 c =
-    let r = c .before .before .before .before .before in
-    let i = r .before .before .before in
-    let n = i .before in
-    let e = r .report .ensures in
-    finish _ _ _ _ 0 _ (n .tool-record .ensures ∙ tool-refused _ _ _ _ (n .before .before .tool-record-kind .ensures)) (i .if1 .left)
-    (c .done .ensures) refl (e .taken) (e .went) (omega (arith, e .within))
-
 pub tool-record-spec : {M : Type 1} → statement M
 tool-record-spec =
     tie.close (tie.spec (λ c κs. search needs) (λ c κs. search needs) (λ c κs. search needs) (λ c. search needs)
-    (λ c. let n = c .before .before in refuse _ _ _ (n .tool-record .ensures
-    ∙ tool-refused _ _ _ _ (n .before .before .tool-record-kind .ensures)) (c .before .if1 .taken) (c .refused .ensures))
-    report-requires (λ c κs. search needs) (λ c. search needs) (λ c. search needs) returns-2)
+    (λ c. search (needs, refuse, tool-refused))
+    report-requires (λ c κs. search needs) (λ c. search needs) (λ c. search needs)
+    (λ c. let e = c .before .before .before .before .before in let i = e .before .before .before in
+    let n = tool-refused _ _ _ _ (i .before .tool-record .ensures) (i .before .before .before .tool-record-kind .ensures) in
+    finish _ _ _ _ 0 _ n (i .if1 .left) (c .done .ensures) refl (e .report .ensures .taken) (e .report .ensures .went)
+    (omega (arith, e .report .ensures .within))))

@@ -16,12 +16,13 @@ returns c =
     let i = z .before .before .before .before in
     let s = i .before .before .before .before .before .before in
     let l = length-take-le _ (s .args .run .now) (s .pre .1) in
-    let e = h .put-record .ensures .0 in
+    let e = h .put-record .ensures .ends in
     let f = z .fill .ensures .0 in
-    let g = i .copy .ensures .place in (
-      omega arith,
-      recorded (s .args .to) _ (put-then (i .copy .ensures) (z .fill .ensures .1)) (h .put-record .ensures),
-    )
+    let g = i .copy .ensures .place in
+    record {
+      place = omega arith;
+      put = recorded (s .args .to) _ (put-then (i .copy .ensures) (z .fill .ensures .1)) (h .put-record .ensures);
+    }
 
 pub put-9999-spec : {M : Type 1} → statement M
 put-9999-spec =

@@ -18,7 +18,7 @@ returns c =
     let whole = s .pre .whole in
     let n = length-take-le (a .to .at - a .from) (drop (a .from) (a .out .now)) (rw length-drop (omega arith)) in
     let e = p .repeat .ensures .place in
-    (omega arith, λ bs w. repeated (a .to .session) w (p .repeat .ensures) (q .put-little .ensures .1))
+    record { place = omega arith; put = λ bs w. repeated (a .to .session) w (p .repeat .ensures) (q .put-little .ensures .1) }
 
 pub put-again-spec : {M : Type 1} → statement M
 put-again-spec =

@@ -11,7 +11,7 @@ unfolding close-record
 returns c =
     let p = c .before .before in
     let s = p .before .before .before .before in
-    (p .put-record .ensures .0, recorded (s .args .to) _ (put-nothing _ _) (p .put-record .ensures))
+    record { place = p .put-record .ensures .ends; put = recorded (s .args .to) _ (put-nothing _ _) (p .put-record .ensures) }
 
 pub put-close-spec : {M : Type 1} → statement M
 put-close-spec =

@@ -30,10 +30,12 @@ returns c =
     let few = s .pre .kind in
     let short = copy-short (a .asked) few in
     let w = p .put-frame .ensures in
-    let e = w .place in (
-      omega arith,
-      put-as (ap (frame-record (a .to .session)) (is-copy (a .settings .now) (a .place .now) (a .asked) few (s .pre .place))) (w .put),
-    )
+    let e = w .place in
+    record {
+      within = omega arith;
+      put =
+          put-as (ap (frame-record (a .to .session)) (is-copy (a .settings .now) (a .place .now) (a .asked) few (s .pre .place))) (w .put);
+    }
 
 pub put-copy-spec : {M : Type 1} → statement M
 put-copy-spec = tie.close (tie.spec put-frame-requires (λ c. search needs) returns)

@@ -1,4 +1,4 @@
--- `frame::put_frame` meets its contract: header, data and NUL, then the head before them.
+-- `frame::put_frame` meets its contract: data and NUL, then the header and the head before them.
 use borrow.Author.Needs.{needs}
 use native.Mathlib.Omega.{arith}
 use Rattle.model.specs.Frames.{frame-record}
@@ -7,40 +7,44 @@ use Rattle.frame.proofs.Built.{recorded, wrote-frame}
 use Rattle.frame.proofs.put_frame.Statement.{statement}
 use Rattle.frame.proofs.put_frame.Tie as tie
 
-put-header-requires : tie.Need-put-header-requires
-put-header-requires c κs =
-    let s = c .before .before .before .before .before in
-    let room = s .pre .output .room in
-    (s .pre .real, omega arith)
-
 put-fields-requires : tie.Need-put-fields-requires
 put-fields-requires c κs =
-    let h = c .before .before .before in
-    let s = h .before .before .before .before .before .before in
-    let e = h .put-header .ensures .place in
-    let z = put-length (h .put-header .ensures .put) in
+    let s = c .before .before .before .before .before in
     let room = s .pre .output .room in
     record { real = s .pre .real; few = s .pre .few; sound = s .pre .sound; room = omega arith }
 
 fill-requires : tie.Need-fill-requires
 fill-requires c κs =
     let d = c .before .before .before in
-    let h = d .before .before .before .before in
-    let s = h .before .before .before .before .before .before in
-    let e = h .put-header .ensures .place in
+    let s = d .before .before .before .before .before .before in
     let f = d .put-fields .ensures .place in
-    let y = put-length (h .put-header .ensures .put) in
     let z = put-length (d .put-fields .ensures .put) in
     let room = s .pre .output .room in
     omega arith
 
-put-record-requires : tie.Need-put-record-requires
-put-record-requires c κs =
+sub-put-header : tie.Need-sub-put-header
+sub-put-header c =
+    let d = c .before .before .before .before .before .before .before in
+    let f = d .put-fields .ensures .place in
+    omega arith
+
+put-header-requires : tie.Need-put-header-requires
+put-header-requires c κs =
     let n = c .before .before .before in
     let d = n .before .before .before .before in
-    let h = d .before .before .before .before in
-    let s = h .before .before .before .before .before .before in
-    let e = h .put-header .ensures .place in
+    let s = d .before .before .before .before .before .before in
+    let f = d .put-fields .ensures .place in
+    let y = put-length (d .put-fields .ensures .put) in
+    let z = put-length (n .fill .ensures .1) in
+    let room = s .pre .output .room in
+    record { real = s .pre .real; own = omega arith; room = omega arith }
+
+put-record-requires : tie.Need-put-record-requires
+put-record-requires c κs =
+    let h = c .before .before .before in
+    let n = h .before .before .before .before in
+    let d = n .before .before .before .before in
+    let s = d .before .before .before .before .before .before in
     let f = d .put-fields .ensures .place in
     let g = n .fill .ensures .0 in
     let x = put-length (h .put-header .ensures .put) in
@@ -57,16 +61,16 @@ returns : tie.Need-returns
 unfolding frame-record
 returns c =
     let p = c .before .before in
-    let z = p .before .before .before .before in
-    let d = z .before .before .before .before in
-    let h = d .before .before .before .before in
-    let s = h .before .before .before .before .before .before in
-    let w = wrote-frame (s .args .content) _ (h .put-header .ensures) (d .put-fields .ensures) (z .fill .ensures) in
+    let h = p .before .before .before .before in
+    let n = h .before .before .before .before in
+    let d = n .before .before .before .before in
+    let s = d .before .before .before .before .before .before in
+    let w = wrote-frame (s .args .content) _ (d .put-fields .ensures) (n .fill .ensures) (h .put-header .ensures) in
     let e = w .0 in
-    let f = p .put-record .ensures .0 in
+    let f = p .put-record .ensures .ends in
     record { place = omega arith; put = recorded (s .args .to) _ (w .1) (p .put-record .ensures) }
 
 pub put-frame-spec : {M : Type 1} → statement M
 put-frame-spec =
-    tie.close (tie.spec (λ c. search needs) put-header-requires put-fields-requires fill-requires put-record-requires (λ c. search needs)
-    returns)
+    tie.close (tie.spec (λ c. search needs) (λ c. search needs) put-fields-requires fill-requires sub-put-header put-header-requires
+    put-record-requires (λ c. search needs) returns)

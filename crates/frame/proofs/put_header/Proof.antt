@@ -1,59 +1,101 @@
--- `frame::put_header` meets its contract, by the content: the length and the number of each are those of its layout.
+-- `frame::put_header` meets its contract, by the content: the number of each is the model's, and the length that of its layout.
 use borrow.Author.Needs.{needs}
 use mathlib.Core.Path.{_≡_, sym, ap, subst, _∙_}
-use Rattle.frame.specs.Output.{Real, heading-of}
-use Rattle.frame.proofs.Built.{headed}
+use Prim.Native.Nat.{ℕ, _<_}
+use native.Mathlib.Omega.{arith}
+use Rattle.frame.specs.declared.Asked.{Asked}
+use Rattle.frame.specs.declared.Content.{Content}
+use Rattle.frame.specs.declared.Content.the-variants.{Notice}
+use Rattle.frame.specs.declared.Heading.{Heading}
+use Rattle.frame.specs.Output.{Real, Headable, frame-length, heading-of}
+use Rattle.frame.proofs.Rows.{second-kind}
+use Rattle.frame.proofs.Built.{headed, copy-in-four}
 use Rattle.frame.proofs.put_header.Statement.{statement}
 use Rattle.frame.proofs.put_header.Tie as tie
+
+-- the header of what a content is
+of : {f g : Content} {h : Heading} → f ≡ g → h ≡ heading-of g → h ≡ heading-of f
+of e p = p ∙ sym (ap heading-of e)
+
+-- a notice's length has four digits
+in-four : {f : Content} {asked : Asked} {size at n : ℕ} → Headable f size at n → f ≡ Notice asked → size < 10000
+in-four {asked = asked} h e =
+    let own = h .own ∙ ap frame-length e in
+    let short = copy-in-four asked (subst Real e (h .real)) in
+    omega arith
+
+put-heading-requires-4 : tie.Need-put-heading-requires-4
+put-heading-requires-4 c κs =
+    let m = c .before .before .before .before .before in
+    let s = m .before .before .before in
+    let short = in-four (s .pre) (m .content3 .given .1) in
+    (rw (c .notice-heading .ensures) short, s .pre .room)
+
+put-heading-requires-5 : tie.Need-put-heading-requires-5
+put-heading-requires-5 c κs =
+    let m = c .before .before .before .before .before in
+    let s = m .before .before .before in
+    let short = in-four (s .pre) (m .content3 .given .1) in
+    (rw (c .notice-heading2 .ensures) short, s .pre .room)
 
 returns : tie.Need-returns
 returns c =
     let h = c .before .before in
-    headed (h .before .reply-heading .ensures ∙ sym (ap heading-of (h .before .before .before .enum-told .given .1)))
-    (h .put-heading .ensures)
+    let k = h .before .before .before in
+    let e = k .before .before .before .content3 .given .1 in
+    let n = k .before .before .before .before .before .before .pre .own ∙ ap frame-length e in
+    headed (of e (h .before .notice-heading .ensures ∙ (rw (n, k .if1 .taken)))) (h .put-heading4 .ensures)
 
 returns-2 : tie.Need-returns-2
 returns-2 c =
     let h = c .before .before in
-    headed (h .before .reply-heading2 .ensures ∙ sym (ap heading-of (h .before .before .before .before .content .given .1)))
-    (h .put-heading2 .ensures)
+    headed (of (h .before .before .before .enum-told .given .1) (h .before .reply-heading .ensures)) (h .put-heading .ensures)
 
 returns-3 : tie.Need-returns-3
 returns-3 c =
     let h = c .before .before in
-    headed (h .before .reply-heading3 .ensures ∙ sym (ap heading-of (h .before .before .before .before .content2 .given .1)))
-    (h .put-heading3 .ensures)
+    headed (of (h .before .before .before .before .content .given .1) (h .before .reply-heading2 .ensures)) (h .put-heading2 .ensures)
 
 returns-4 : tie.Need-returns-4
 returns-4 c =
     let h = c .before .before in
-    headed (sym (ap heading-of (h .before .before .before .content3 .given .1))) (h .put-notice-header .ensures)
+    headed (of (h .before .before .before .before .content2 .given .1) (h .before .reply-heading3 .ensures)) (h .put-heading3 .ensures)
 
-put-notice-header-requires : tie.Need-put-notice-header-requires
-put-notice-header-requires c κs =
-    let s = c .before .before .before .before .before in
-    (subst Real (c .before .before .content3 .given .1) (s .pre .0), s .pre .1)
+returns-5 : tie.Need-returns-5
+returns-5 c =
+    let h = c .before .before in
+    let k = h .before .before .before in
+    let e = k .before .before .before .content3 .given .1 in
+    let s = k .before .before .before .before .before .before in
+    let n = s .pre .own ∙ ap frame-length e in
+    let two = second-kind _ (subst Real e (s .pre .real)) (k .if1 .left) in
+    headed (of e (h .before .notice-heading2 .ensures ∙ (rw (n, two)))) (h .put-heading5 .ensures)
 
 pub put-header-spec : {M : Type 1} → statement M
 put-header-spec =
     tie.close
     (tie.spec
     (λ c. search needs)
+    (λ c κs. search needs)
+    (λ c κs. (rw (c .reply-heading .ensures) (omega arith), search needs))
     (λ c. search needs)
     (λ c κs. search needs)
-    (λ c. search needs)
-    (λ c. search needs)
-    (λ c κs. search needs)
-    (λ c. search needs)
+    (λ c κs. (rw (c .reply-heading2 .ensures) (omega arith), search needs))
     (λ c. search needs)
     (λ c κs. search needs)
+    (λ c κs. (rw (c .reply-heading3 .ensures) (omega arith), search needs))
     (λ c. search needs)
-    put-notice-header-requires
+    (λ c κs. search needs)
+    put-heading-requires-4
     (λ c. search needs)
     returns
+    (λ c κs. search needs)
+    put-heading-requires-5
     (λ c. search needs)
     returns-2
     (λ c. search needs)
     returns-3
     (λ c. search needs)
-    returns-4)
+    returns-4
+    (λ c. search needs)
+    returns-5)

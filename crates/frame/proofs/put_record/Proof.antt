@@ -14,7 +14,7 @@ returns c =
     let f = q .put-little2 .ensures .0 in
     let w = put-then (p .put-little .ensures .1) (q .put-little2 .ensures .1) in
     let g = w .place in
-    (refl, record { place = refl; put = record { output = w .output; place = omega arith } })
+    record { ends = refl; head = record { place = refl; put = record { output = w .output; place = omega arith } } }
 
 pub put-record-spec : {M : Type 1} → statement M
 put-record-spec =

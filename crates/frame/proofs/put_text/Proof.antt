@@ -8,9 +8,11 @@ pub put-text-spec : {M : Type 1} → statement M
 put-text-spec =
     tie.close
     (tie.spec
-    (λ c κs. rw (eq-eqb _ _ (c .before .if1 .taken)) at (c .before .before .before .before .before .before .pre))
+    (λ c κs. let s = c .before .before .before .before .before .before in
+    (rw (eq-eqb _ _ (c .before .if1 .taken)) at (s .pre .there), s .pre .room))
     (λ c. search needs)
     (λ c. rw (eq-eqb _ _ (c .before .before .before .before .if1 .taken)) (c .before .before .put-bytes .ensures))
-    (λ c κs. rw (ne-eqb _ _ (c .before .if1 .left)) at (c .before .before .before .before .before .before .pre))
+    (λ c κs. let s = c .before .before .before .before .before .before in
+    (rw (ne-eqb _ _ (c .before .if1 .left)) at (s .pre .there), s .pre .room))
     (λ c. search needs)
     (λ c. rw (ne-eqb _ _ (c .before .before .before .before .if1 .left)) (c .before .before .put-bytes2 .ensures)))

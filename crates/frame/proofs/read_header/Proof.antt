@@ -130,7 +130,7 @@ module _ {M : Type 1} (𝓤 : URA M) (H : Heap 𝓤) (A : Atoms 𝓤) (W : Given
     exits : n < 2 ^ 64 → h ≡ header-of (now s) n → now d ≡ drop header-length (now s) → ent 𝓤 (⋆ 𝓤 H A left) (Post w)
     exits fits e e′ =
         qed W left ∵ suffices ! _ (ends-at 𝓤 H A read-header.ended stayed (read-header.clauses 𝓤 H A mem run) W entry w made
-        (tt, (tt, tt)) (tt, (tt, tt))) $ says ! (e, e′) $ move ! (1 ∷ []) $ frame ! $
+        (tt, (tt, tt)) (tt, (tt, tt))) $ says ! (record { header = e; field = e′ }) $ move ! (1 ∷ []) $ frame ! $
         nothing ! $ owned ! usize (Is usize) (uint-makes 𝓤 H A W w64) n _ (refl, fits) $ fjoin ! $ move ! (2 ∷ 0 ∷ []) $ fjoin ! $ frame ! $
         nothing ! $ move ! (1 ∷ 0 ∷ []) $ fjoin ! $ move ! (1 ∷ 0 ∷ []) $ fjoin ! $ feqI ! (List Val) (w ∷ []) (w ∷ []) refl $ fjoin ! $
         fpack ! (Valss (rows (D .parts))) (within (shape D) (intos (D .parts) (h, (d, tt))) (w ∷ [])) (u ∷ [], (u′ ∷ [], tt)) $ done !

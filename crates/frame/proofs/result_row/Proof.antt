@@ -1,4 +1,7 @@
 -- `frame::result_row` meets its contract: its arms are the rows.
+use lib.ListN.{length}
+use Prim.Native.Nat.{_-_}
+use Rattle.model.specs.Layouts.{result-rows}
 use Rattle.frame.proofs.Arms.{last-arm}
 use Rattle.frame.proofs.result_row.Statement.{statement}
 use Rattle.frame.proofs.result_row.Tie as tie
@@ -12,4 +15,4 @@ result-row-spec =
     (λ c. rw (c .match .keys9)) (λ c. rw (c .match .keys10)) (λ c. rw (c .match .keys11)) (λ c. rw (c .match .keys12))
     (λ c. rw (c .match .keys13)) (λ c. rw (c .match .keys14)) (λ c. rw (c .match .keys15)) (λ c. rw (c .match .keys16))
     (λ c. rw (c .match .keys17)) (λ c. rw (c .match .keys18)) (λ c. rw (c .match .keys19))
-    (λ c. rw (last-arm 19 _ (c .match .rest) (c .before .pre))))
+    (λ c. rw (last-arm (length result-rows - 1) _ (c .match .rest) (c .before .pre))))

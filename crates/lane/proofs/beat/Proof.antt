@@ -4,10 +4,6 @@ use Rattle.lane.proofs.Controls.{none-beats}
 use Rattle.lane.proofs.beat.Statement.{statement}
 use Rattle.lane.proofs.beat.Tie as tie
 
-returns : tie.Need-returns
-returns c =
-    let s = c .before .before .before in
-    λ read. none-beats read (s .args .kind) (s .args .lane .now) (s .pre .1) (c .if1 .taken)
-
 pub beat-spec : {M : Type 1} → statement M
-beat-spec = tie.close (tie.spec (λ c. search needs) returns (λ c κs. search needs) (λ c. search needs) (λ c. search needs))
+beat-spec = tie.close (tie.spec (λ c. search needs) (λ c. search (needs, none-beats)) (λ c κs. search needs) (λ c. search needs)
+    (λ c. search needs))

@@ -1,6 +1,7 @@
 -- `lane::hold` meets its contract, by what becomes of the notice.
 use borrow.Author.Needs.{needs}
-use Rattle.lane.proofs.Events.{keeps-not, keeps-once, keeps-opens, keeps-waits}
+use mathlib.Core.Path.{refl}
+use Rattle.lane.proofs.Events.{keeps-same, keeps-opens, keeps-waits}
 use Rattle.lane.proofs.hold.Statement.{statement}
 use Rattle.lane.proofs.hold.Tie as tie
 
@@ -14,8 +15,8 @@ hold-spec =
     (λ c κs. let e = c .before in rw (e .enum-told3 .given .1) at (e .before .before .before .before .pre .push))
     (λ c. search needs)
     (λ c κs. let e = c .before .before in rw (e .take .given .1) at (e .before .before .before .before .pre .push))
-    (λ c. λ read. keeps-not read _ _ _ _ _ (c .before .before .before .before .pre) (c .enum-told .given .1))
-    (λ c. λ read. keeps-once read _ _ _ _ _ (c .before .before .before .before .pre) (c .enum-told2 .given .1))
+    (λ c. λ read. keeps-same read _ _ _ _ _ (c .before .before .before .before .pre) (c .enum-told .given .1) refl refl)
+    (λ c. λ read. keeps-same read _ _ _ _ _ (c .before .before .before .before .pre) (c .enum-told2 .given .1) refl refl)
     (λ c. search needs)
     (λ c. let p = c .before .before in let e = p .before .before in
     λ read. keeps-opens read _ _ _ _ _ (e .before .before .before .before .pre) _ (e .enum-told3 .given .1) (p .put .ensures))

@@ -1,36 +1,15 @@
 -- `lane::put` meets its contract: the notice first, and then the control before it.
 use borrow.Author.Needs.{needs}
-use Prim.Native.Nat.{_+_, _*_, _≤_}
-use mathlib.Core.Path.{ap, _∙_}
-use lib.ListN.{length}
-use Rattle.lane.specs.Kinds.{control-size}
 use Rattle.lane.proofs.Events.{place-fits, still-long, pushes}
 use Rattle.lane.proofs.put.Statement.{statement}
 use Rattle.lane.proofs.put.Tie as tie
-
-module _ (c : tie.After-place-size) where
-  fits : let s = c .before .before .before in
-      control-size + s .args .i * c .place-size .result + c .place-size .result ≤ length (s .args .lane .now)
-  fits =
-      place-fits _ _ _ _ _ (c .before .before .before .pre) _ (c .place-size .ensures)
 
 copy-requires : tie.Need-copy-requires
 copy-requires c κs =
     let z = c .before in
     let s = z .before .before .before in
-    let h = fits z in
+    let h = place-fits _ _ _ _ _ (s .pre) _ (z .place-size .ensures) in
     rw (s .pre .place, ← z .place-size .ensures) (search needs)
-
-store-requires : tie.Need-store-requires
-store-requires c κs =
-    let y = c .before .before .before in
-    let z = y .before .before in
-    let s = z .before .before .before in
-    record {
-      known = s .pre .known;
-      size = ap length (y .copy .ensures .output) ∙ still-long _ _ _ _ _ (s .pre) _ (z .place-size .ensures);
-      control = s .pre .control;
-    }
 
 returns : tie.Need-returns
 returns c =
@@ -44,9 +23,9 @@ put-spec =
     tie.close
     (tie.spec
     (λ c κs. search needs)
-    (λ c. let h = fits c in search needs)
-    (λ c. let h = fits c in search needs)
+    (λ c. let h = place-fits _ _ _ _ _ (c .before .before .before .pre) _ (c .place-size .ensures) in search needs)
+    (λ c. let h = place-fits _ _ _ _ _ (c .before .before .before .pre) _ (c .place-size .ensures) in search needs)
     copy-requires
-    store-requires
+    (λ c κs. search (needs, still-long))
     (λ c. search needs)
     returns)

@@ -12,11 +12,7 @@ use Rattle.lane.proofs.shift_down.Tie as tie
 module _ (c : tie.After-place-size) where
   fit : control-size + c .place-size .result + (c .before .before .before .args .held - 1) * c .place-size .result
       ≤ length (c .before .before .before .args .lane .now)
-  fit =
-      rw (c .place-size .ensures) (waiting _ _ _ _ (c .before .before .before .pre) (not-false _ (c .before .if1 .left)))
-
-  one : 1 ≤ c .before .before .before .args .held
-  one = c .before .before .before .pre .one (not-false _ (c .before .if1 .left))
+  fit = waiting _ _ _ _ (c .before .before .before .pre) (not-false _ (c .before .if1 .left)) _ (c .place-size .ensures)
 
 returns-2 : tie.Need-returns-2
 returns-2 c =
@@ -31,7 +27,7 @@ shift-down-spec =
     (tie.spec
     (λ c. not-shifted _ _ _ _ (c .before .before .pre) (not-true _ (c .if1 .taken)))
     (λ c κs. search needs)
-    (λ c. let h = one c in search needs)
+    (λ c. let h = c .before .before .before .pre .one (not-false _ (c .before .if1 .left)) in search needs)
     (λ c. let h = fit c in search needs)
     (λ c. let h = fit (c .before) in search needs)
     (λ c κs. let h = fit (c .before) in search needs)

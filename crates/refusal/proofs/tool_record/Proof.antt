@@ -1,62 +1,33 @@
 -- `refusal::tool_record` meets its contract.
 use borrow.Author.Needs.{needs}
+use borrow.Author.Tests.{eq-eqb, ne-eqb}
 use mathlib.Core.Path.{sym, _∙_}
 use Rattle.refusal.specs.Numbers.{tool-number}
-use Rattle.refusal.proofs.Numbers.{is-ready, lent-gives, own-gives, tool-own, a-bad-one, last-one, one-more, a-scan}
+use Rattle.refusal.proofs.Numbers.{is-ready, lent-gives, own-gives, tool-own}
 use Rattle.refusal.proofs.tool_record.Statement.{statement}
 use Rattle.refusal.proofs.tool_record.Tie as tie
 
-returns : tie.Need-returns
-unfolding tool-number
-returns c =
-    let a = c .before .before .before .args in
-    lent-gives (a .table .now) (a .output) (tool-own (a .table .now) (a .record-kind)) (c .before .tick .ensures) (c .if1 .taken)
-
-returns-2 : tie.Need-returns-2
-unfolding tool-number
-returns-2 c =
-    let k = c .before .before in
-    let r = k .before .before in
-    let a = r .before .before .before .args in
-    own-gives (a .table .now) (a .output) (tool-own (a .table .now) (a .record-kind)) (r .before .tick .ensures) (r .if1 .left)
-    (last-one (a .table .now) (k .enum-told2 .given .1) (sym (c .before .last .ensures .0) ∙ c .if2 .taken))
-
-returns-3 : tie.Need-returns-3
-unfolding tool-number
-returns-3 c =
-    let r = c .before .before in
-    let a = r .before .before .before .args in
-    own-gives (a .table .now) (a .output) (tool-own (a .table .now) (a .record-kind)) (r .before .tick .ensures) (r .if1 .left)
-    (a-bad-one (a .table .now) (c .enum-told .given .1))
-
-returns-4 : tie.Need-returns-4
-unfolding tool-number
-returns-4 c =
-    let k = c .before .before in
-    let r = k .before .before in
-    let a = r .before .before .before .args in
-    own-gives (a .table .now) (a .output) (tool-own (a .table .now) (a .record-kind)) (r .before .tick .ensures) (r .if1 .left)
-    (one-more (a .table .now) (k .enum-told2 .given .1) (λ e. c .if2 .left (c .before .last .ensures .0 ∙ e)))
-
-returns-5 : tie.Need-returns-5
-unfolding tool-number
-returns-5 c =
-    let r = c .before .before in
-    let a = r .before .before .before .args in
-    own-gives (a .table .now) (a .output) (tool-own (a .table .now) (a .record-kind)) (r .before .tick .ensures) (r .if1 .left)
-    (a-scan (a .table .now) (c .enum-told3 .given .1))
-
 pub tool-record-spec : {M : Type 1} → statement M
+unfolding tool-number
 tool-record-spec =
     tie.close
     (tie.spec
     (λ c κs. search needs)
-    returns
+    (λ c. let a = c .before .before .before .args in
+    lent-gives (a .table .now) (a .output) (tool-own (a .table .now) (a .record-kind)) (c .before .tick .ensures) (c .if1 .taken))
     (λ c. search needs)
     (λ c. search needs)
     (λ c κs. let r = c .before .before in is-ready _ _ (sym (r .before .tick .ensures) ∙ r .if1 .left) .table)
-    returns-2
+    (λ c. let k = c .before .before in let r = k .before .before in let a = r .before .before .before .args in
+    own-gives (a .table .now) (a .output) (tool-own (a .table .now) (a .record-kind)) (r .before .tick .ensures) (r .if1 .left)
+    (rw (k .enum-told2 .given .1, eq-eqb _ _ (sym (c .before .last .ensures .0) ∙ c .if2 .taken))))
     (λ c. search needs)
-    returns-3
-    returns-4
-    returns-5)
+    (λ c. let r = c .before .before in let a = r .before .before .before .args in
+    own-gives (a .table .now) (a .output) (tool-own (a .table .now) (a .record-kind)) (r .before .tick .ensures) (r .if1 .left)
+    (rw (c .enum-told .given .1)))
+    (λ c. let k = c .before .before in let r = k .before .before in let a = r .before .before .before .args in
+    own-gives (a .table .now) (a .output) (tool-own (a .table .now) (a .record-kind)) (r .before .tick .ensures) (r .if1 .left)
+    (rw (k .enum-told2 .given .1, ne-eqb _ _ (λ e. c .if2 .left (c .before .last .ensures .0 ∙ e)))))
+    (λ c. let r = c .before .before in let a = r .before .before .before .args in
+    own-gives (a .table .now) (a .output) (tool-own (a .table .now) (a .record-kind)) (r .before .tick .ensures) (r .if1 .left)
+    (rw (c .enum-told3 .given .1))))

@@ -1,12 +1,12 @@
 -- `region::beat` meets its contract. The invariant: what is left to be done to the lanes from a kind on, over what was done, is all of it.
 use borrow.Author.Needs.{needs}
 use mathlib.Core.Path.{refl}
-use Prim.Native.Nat.{ℕ, _+_, _-_, _≤_}
+use Prim.Native.Nat.{ℕ, _-_}
 use lib.ListN.{length}
 use Rattle.model.specs.Kinds.{kinds}
 use Rattle.model.specs.Notices.{beats}
 use Rattle.frame.specs.Places.{notice-in}
-use Rattle.region.proofs.Areas.{lane-lies, lane-lent}
+use Rattle.region.proofs.Areas.{lane-ends, lane-lent}
 use Rattle.region.proofs.Walks.{dealt-to, Dealing, dealing-none, dealing-next, dealt-to-all}
 use Rattle.region.proofs.beat.Statement.{statement}
 use Rattle.region.proofs.beat.Tie as tie
@@ -28,21 +28,6 @@ loop-again c =
     (dealt-to few (l .inv .changes .becomes .good) (z .before .lane-at .ensures) (z .size .ensures)
     (d .beat .ensures (notice-in (l .kind))))
 
--- the lane is in the region
-module _ (c : tie.After-size Inv-loop μ-loop) where
-  lies : c .before .lane-at .result + c .size .result ≤ length (c .before .before .before .loop .region)
-  lies =
-      let t = c .before .before in
-      lane-lies (t .before .loop .region) (t .loop-test .taken) (c .before .lane-at .ensures) (c .size .ensures)
-      (t .before .loop .inv .changes .becomes .good .size)
-
-beat-requires : tie.Need-beat-requires Inv-loop μ-loop
-beat-requires c κs =
-    let z = c .before in
-    let t = z .before .before in
-    let few = t .loop-test .taken in
-    (few, lane-lent _ few (z .before .lane-at .ensures) (z .size .ensures) (t .before .loop .inv .changes .becomes .good))
-
 pub beat-spec : {M : Type 1} → statement M
 beat-spec =
     tie.close
@@ -52,11 +37,11 @@ beat-spec =
     (λ c. dealing-none (λ (kind : ℕ). beats) _ _ refl (c .before .pre))
     (λ c κs. search needs)
     (λ c κs. search needs)
-    (λ c. let f = lies c in search needs)
+    (λ c. let e = lane-ends _ (c .before .before .loop-test .taken) in search needs)
     (λ c. search needs)
     (λ c. search needs)
-    (λ c. let f = lies c in search needs)
-    beat-requires
+    (λ c. let e = lane-ends _ (c .before .before .loop-test .taken) in search needs)
+    (λ c κs. search (needs, lane-lent))
     (λ c. let n = c .before .before .before .before .before .before .before .loop .inv .count in search needs)
     (λ c. search needs)
     (λ c. search needs)

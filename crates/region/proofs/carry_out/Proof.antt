@@ -4,11 +4,6 @@ use Rattle.region.proofs.Ends.{changed-so, carries-out}
 use Rattle.region.proofs.carry_out.Statement.{statement}
 use Rattle.region.proofs.carry_out.Tie as tie
 
-store-requires : tie.Need-store-requires
-store-requires c κs =
-    let s = c .before .before .before .before .before .before .before .before .before .before .before in
-    (c .before .before .before .before .let-go .ensures .becomes .good, s .pre .idle)
-
 returns : tie.Need-returns
 returns c =
     let e = c .before .before in
@@ -21,4 +16,5 @@ returns c =
 
 pub carry-out-spec : {M : Type 1} → statement M
 carry-out-spec =
-    tie.close (tie.spec (λ c κs. search needs) (λ c κs. search needs) store-requires (λ c κs. search needs) (λ c. search needs) returns)
+    tie.close (tie.spec (λ c κs. search needs) (λ c κs. search needs) (λ c κs. search needs) (λ c κs. search needs) (λ c. search needs)
+    returns)

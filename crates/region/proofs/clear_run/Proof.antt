@@ -4,13 +4,7 @@ use Rattle.region.proofs.Areas.{run-replaced, run-over}
 use Rattle.region.proofs.clear_run.Statement.{statement}
 use Rattle.region.proofs.clear_run.Tie as tie
 
-returns : tie.Need-returns
-returns c =
-    let p = c .before .before in
-    let g = p .before .before .before .pre in
-    let o = p .clear .ensures in
-    record { becomes = run-replaced g (o .area) (o .none); bytes = run-over g o }
-
 pub clear-run-spec : {M : Type 1} → statement M
 clear-run-spec =
-    tie.close (tie.spec (λ c. search needs) (λ c. search needs) (λ c. search needs) (λ c κs. search needs) (λ c. search needs) returns)
+    tie.close (tie.spec (λ c. search needs) (λ c. search needs) (λ c. search needs) (λ c κs. search needs) (λ c. search needs)
+    (λ c. search (needs, run-replaced, run-over)))

@@ -5,7 +5,7 @@ use Rattle.frame.specs.Places.{notice-in}
 use Rattle.session.specs.Meaning.{deed-of}
 use Rattle.session.specs.declared.Deed.{Deed}
 use Rattle.region.specs.Said.{DealtTo}
-use Rattle.region.proofs.Areas.{lane-lies, lane-lent}
+use Rattle.region.proofs.Areas.{lane-ends, lane-lent}
 use Rattle.region.proofs.Walks.{dealt-to}
 use Rattle.region.proofs.Ends.{nothing-dealt}
 use Rattle.region.proofs.deal.Statement.{statement}
@@ -17,12 +17,6 @@ returns c =
     let r = s .args .region .now in
     subst (λ (d : Deed). DealtTo (s .args .kind) (deed-of d) r _ r) (sym (c .enum-told .given .1))
     (nothing-dealt r (s .args .kind) (s .pre .1) (s .pre .0))
-
-deal-requires : tie.Need-deal-requires
-deal-requires c κs =
-    let z = c .before in
-    let p = z .before .before .before .before .pre in
-    (p .1, lane-lent _ (p .1) (z .before .lane-at .ensures) (z .size .ensures) (p .0))
 
 returns-2 : tie.Need-returns-2
 returns-2 c =
@@ -39,12 +33,10 @@ deal-spec =
     returns
     (λ c κs. search needs)
     (λ c κs. search needs)
-    (λ c. let s = c .before .before .before .before in let f = lane-lies (s .args .region .now) (s .pre .1) (c .before .lane-at .ensures)
-    (c .size .ensures) (s .pre .0 .size) in search needs)
+    (λ c. let e = lane-ends _ (c .before .before .before .before .pre .1) in search needs)
     (λ c. search needs)
     (λ c. search needs)
-    (λ c. let s = c .before .before .before .before in let f = lane-lies (s .args .region .now) (s .pre .1) (c .before .lane-at .ensures)
-    (c .size .ensures) (s .pre .0 .size) in search needs)
-    deal-requires
+    (λ c. let e = lane-ends _ (c .before .before .before .before .pre .1) in search needs)
+    (λ c κs. search (needs, lane-lent))
     (λ c. search needs)
     returns-2)

@@ -4,7 +4,7 @@ use mathlib.Core.Path.{refl}
 use mathlib.Core.List.{[]}
 use Rattle.region.specs.Region.{run-area}
 use Rattle.region.proofs.Areas.{parts}
-use Rattle.region.proofs.Ends.{longer-none, kind-known, idle-few, ends-kept, Judged}
+use Rattle.region.proofs.Ends.{longer-none, fair, ends-kept, Judged}
 use Rattle.region.proofs.end_kept.Statement.{statement}
 use Rattle.region.proofs.end_kept.Tie as tie
 
@@ -29,14 +29,15 @@ carry-out-requires : tie.Need-carry-out-requires
 carry-out-requires c κs =
     let o = judged (c .before .before .before) in
     let s = c .before .before .before .before .before .before .before .before .before .before .before in
-    record { good = s .pre .0; known = kind-known o; idle = idle-few o }
+    record { good = s .pre .0; known = fair o .0; idle = fair o .1 }
 
 returns : tie.Need-returns
 returns c =
     let o = c .before .before .before in
     let u = o .before .before .before .before in
     let s = u .before .before .before .before .before .before .before .before in
-    rw (c .left-to-say .ensures) (refl, ends-kept (judged u) (o .carry-out .ensures) (parts (s .args .region .now) (s .pre .0) .run))
+    rw (c .left-to-say .ensures)
+    (record { whole = refl; ends = ends-kept (judged u) (o .carry-out .ensures) (parts (s .args .region .now) (s .pre .0) .run) })
 
 pub end-kept-spec : {M : Type 1} → statement M
 end-kept-spec =

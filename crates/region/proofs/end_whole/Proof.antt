@@ -9,7 +9,7 @@ use Rattle.model.specs.Runs.{Run, longer}
 use Rattle.run.specs.Area.{run-of}
 use Rattle.region.specs.Region.{run-area}
 use Rattle.region.proofs.Rulings.{ruled-as}
-use Rattle.region.proofs.Ends.{taken-few, kind-known, idle-few, ends-whole, Judged}
+use Rattle.region.proofs.Ends.{taken-few, fair, ends-whole, Judged}
 use Rattle.region.proofs.end_whole.Statement.{statement}
 use Rattle.region.proofs.end_whole.Tie as tie
 
@@ -45,7 +45,7 @@ carry-out-requires c κs =
     let u = c .before .before .before in
     let o = judged u in
     let s = u .before .before .before .before .before .before .before .before .before .before .before in
-    record { good = s .pre .good; known = kind-known o; idle = idle-few o }
+    record { good = s .pre .good; known = fair o .0; idle = fair o .1 }
 
 returns : tie.Need-returns
 returns c =

@@ -1,6 +1,6 @@
 -- `region::lane` meets its contract.
 use borrow.Author.Needs.{needs}
-use Rattle.region.proofs.Areas.{lane-lies, lane-part}
+use Rattle.region.proofs.Areas.{lane-ends, lane-part}
 use Rattle.region.proofs.lane.Statement.{statement}
 use Rattle.region.proofs.lane.Tie as tie
 
@@ -10,10 +10,8 @@ lane-spec =
     (tie.spec
     (λ c κs. search needs)
     (λ c κs. search needs)
-    (λ c. let s = c .before .before .before in let f = lane-lies (s .args .region .now) (s .pre .1) (c .before .lane-at .ensures)
-    (c .size .ensures) (s .pre .0) in search needs)
+    (λ c. let e = lane-ends _ (c .before .before .before .pre .1) in search needs)
     (λ c. search needs)
     (λ c. search needs)
-    (λ c. let s = c .before .before .before in let f = lane-lies (s .args .region .now) (s .pre .1) (c .before .lane-at .ensures)
-    (c .size .ensures) (s .pre .0) in search needs)
+    (λ c. let e = lane-ends _ (c .before .before .before .pre .1) in search needs)
     (λ c. let z = c .before in lane-part _ (z .before .before .before .pre .1) (z .before .lane-at .ensures) (z .size .ensures)))

@@ -4,11 +4,6 @@ use Rattle.region.proofs.Areas.{parts, run-replaced}
 use Rattle.region.proofs.lengthen.Statement.{statement}
 use Rattle.region.proofs.lengthen.Tie as tie
 
-returns : tie.Need-returns
-returns c =
-    let p = c .before .before in
-    run-replaced (p .before .before .before .before .pre) (p .lengthen .ensures .1) (p .lengthen .ensures .0)
-
 pub lengthen-spec : {M : Type 1} → statement M
 lengthen-spec =
     tie.close
@@ -18,4 +13,4 @@ lengthen-spec =
     (λ c. search needs)
     (λ c κs. let s = c .before .before .before in parts (s .args .region .now) (s .pre) .run)
     (λ c. search needs)
-    returns)
+    (λ c. search (needs, run-replaced)))

@@ -1,7 +1,7 @@
 -- `region::let_go` meets its contract, by whether it begins.
 use borrow.Author.Needs.{needs}
 use borrow.Author.Tests.{not-true, not-false}
-use Rattle.region.proofs.Ends.{unchanged, lanes-cleared}
+use Rattle.region.proofs.Areas.{unchanged, lanes-cleared}
 use Rattle.region.proofs.let_go.Statement.{statement}
 use Rattle.region.proofs.let_go.Tie as tie
 

@@ -17,13 +17,6 @@ rule-requires c κs =
     let s = k .before .before .before .before in
     (subst (λ (z : List ℕ). length z ≤ run-kept) (sym (k .kept .ensures)) (kept-few _), s .pre .1)
 
-returns : tie.Need-returns
-returns c =
-    let u = c .before .before in
-    let n = u .before .before in
-    let k = n .before in
-    ruled-as _ (k .kept .ensures) (n .count .ensures .0) (u .rule .ensures)
-
 pub rule-kept-spec : {M : Type 1} → statement M
 rule-kept-spec =
     tie.close
@@ -35,4 +28,4 @@ rule-kept-spec =
     (λ c κs. let s = c .before .before .before .before in parts (s .args .region .now) (s .pre .0) .run)
     rule-requires
     (λ c. search needs)
-    returns)
+    (λ c. search (needs, ruled-as)))

@@ -5,30 +5,11 @@ use Rattle.model.specs.Kinds.{room-of}
 use Rattle.model.specs.Notices.{takes}
 use Rattle.frame.specs.Places.{notice-in}
 use Rattle.lane.specs.Lane.{lane-of}
-use Rattle.region.proofs.Areas.{lane-lies, lane-part, lane-lent}
+use Rattle.region.proofs.Areas.{lane-ends, lane-part, lane-lent}
 use Rattle.region.proofs.Walks.{dealt-to}
-use Rattle.region.proofs.Ticks.{unlike-closed, unlike-opened, takes-none, takes-one}
+use Rattle.region.proofs.Ticks.{takes-none, takes-one}
 use Rattle.region.proofs.take.Statement.{statement}
 use Rattle.region.proofs.take.Tie as tie
-
-take-requires : tie.Need-take-requires
-take-requires c κs =
-    let z = c .before in
-    let p = z .before .before .before .before .before .before .before .before .pre in
-    let f = lane-lent _ (p .known) (z .before .lane-at .ensures) (z .size .ensures) (p .good) in
-    record { known = p .known; lane = f; place = p .place }
-
-returns : tie.Need-returns
-returns c =
-    let l = c .before .before in
-    let p = l .before .before .before .before .pre in
-    takes-none _ _ (p .known) (l .load .ensures .0) (c .enum-told .given .1) unlike-closed (p .good)
-
-returns-2 : tie.Need-returns-2
-returns-2 c =
-    let l = c .before .before in
-    let p = l .before .before .before .before .pre in
-    takes-none _ _ (p .known) (l .load .ensures .0) (c .enum-told2 .given .1) unlike-opened (p .good)
 
 returns-3 : tie.Need-returns-3
 returns-3 c =
@@ -47,11 +28,8 @@ pub take-spec : {M : Type 1} → statement M
 take-spec =
     tie.close (tie.spec (λ c κs. search needs) (λ c. search needs) (λ c. search needs) (λ c. search needs) (λ c κs. search needs)
     (λ c κs. search needs)
-    (λ c. let s = c .before .before .before .before .before .before .before .before in
-    let f = lane-lies (s .args .region .now) (s .pre .known) (c .before .lane-at .ensures) (c .size .ensures) (s .pre .good .size) in
-    search needs)
+    (λ c. let e = lane-ends _ (c .before .before .before .before .before .before .before .before .pre .known) in search needs)
     (λ c. search needs) (λ c. search needs)
-    (λ c. let s = c .before .before .before .before .before .before .before .before in
-    let f = lane-lies (s .args .region .now) (s .pre .known) (c .before .lane-at .ensures) (c .size .ensures) (s .pre .good .size) in
-    search needs)
-    take-requires (λ c. search needs) returns (λ c. search needs) returns-2 (λ c. search needs) returns-3)
+    (λ c. let e = lane-ends _ (c .before .before .before .before .before .before .before .before .pre .known) in search needs)
+    (λ c κs. search (needs, lane-lent)) (λ c. search needs) (λ c. search (needs, takes-none)) (λ c. search needs)
+    (λ c. search (needs, takes-none)) (λ c. search needs) returns-3)

@@ -19,14 +19,6 @@ tick-stays-requires c κs =
           (sym (i .idled .ensures) ∙ c .before .before .idling .given .1),
     )
 
-returns : tie.Need-returns
-returns c =
-    let t = c .before .before in
-    let i = t .before .before .before .before .before in
-    let l = i .before in
-    tick-stays (l .before .before .before .args .region .now) (l .load .result) (l .load .ensures .0) (l .load .ensures .1)
-    (i .idled .result) _ _ _ (i .idled .ensures) (t .before .before .before .idling .given .1) (t .tick-stays .ensures)
-
 returns-2 : tie.Need-returns-2
 returns-2 c =
     let p = c .before .before in
@@ -51,6 +43,6 @@ tick-spec =
     (λ c κs. search needs)
     (λ c κs. (c .before .before .before .before .before .before .before .before .pre, rw (c .cleared .ensures) (omega arith)))
     (λ c. search needs)
-    returns
+    (λ c. search (needs, tick-stays))
     (λ c. search needs)
     returns-2)

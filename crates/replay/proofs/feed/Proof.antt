@@ -8,7 +8,7 @@ use native.Mathlib.Omega.{arith}
 use lib.ListN.{length, take}
 use Rattle.replay.proofs.Follows.{behind-room}
 use Rattle.replay.proofs.Fed.{Feeding, feeding-begins, feeding-on, feeding-ends, on-done, on-refused}
-use Rattle.replay.proofs.Turns.{fits-in, same-output, fewer, no-more}
+use Rattle.replay.proofs.Turns.{fits-in, fewer}
 use Rattle.replay.proofs.feed.Statement.{statement}
 use Rattle.replay.proofs.feed.Tie as tie
 
@@ -23,76 +23,48 @@ Inv-loop table₀ output₀ lines₀ bytes session at₀ left₀ going₀ table 
 abbrev μ-loop : tie.MeasureT-loop
 μ-loop table₀ output₀ lines₀ bytes session at₀ left₀ going₀ table output lines at left going = cond going (suc (length left)) 0
 
-loop-holds : tie.Need-loop-holds Inv-loop μ-loop
-loop-holds c =
-    let s = c .before .before .before .before in
-    let a = s .args in
-    let waited = take (a .to .at) (a .lines .now) in
-    let begins = feeding-begins (a .to .session) (a .bytes .now) (length (a .lines .now)) (a .table .now) waited in
-    (refl, refl, refl, s .pre .within, begins)
-
-print-requires : tie.Need-print-requires Inv-loop μ-loop
-print-requires c κs =
-    let called = c .before .before .before .before .before .before in
-    let loop = called .before .before .before .before in
-    let i = loop .loop .inv in
-    (fits-in (called .bytes .ensures), record { within = omega arith; room = omega arith })
-
 loop-less : tie.Need-loop-less Inv-loop μ-loop
 loop-less c =
     let called = c .before .before .before .before .before .before .before .before .before .before .before .before in
-    let r = called .bytes .result in
-    let out = called .bytes .ensures in
     let test = called .before .before .before in
-    let l = test .before .loop in
-    fewer 0 (l .left .now) r (l .going) (test .loop-test .taken) (c .before .before .rest .ensures) out (c .if1 .taken)
+    fewer (test .before .loop .left .now) (called .bytes .result) (test .loop-test .taken) (c .before .before .rest .ensures)
+    (called .bytes .ensures) (on-done _ (length (c .before .before .rest .result .now)) (c .if1 .taken))
 
 loop-again : tie.Need-loop-again Inv-loop μ-loop
 loop-again c =
     let called = c .before .before .before .before .before .before .before .before .before .before .before .before in
-    let r = called .bytes .result in
-    let out = called .bytes .ensures in
     let test = called .before .before .before in
-    let l = test .before .loop in
-    let i = l .inv in
+    let i = test .before .loop .inv in
     let pre = test .before .before .before .before .before .before .pre .lends in
-    let p = c .before .before .before .before .before .print in
-    let rest = c .before .before .rest in
-    let same = i .2 in (
-      out .size ∙ i .0,
-      same-output out ∙ i .1,
-      p .kept .1 .1 .0 ∙ i .2,
+    let behind = behind-room (i .2) (c .before .before .before .before .before .print .ensures .0) in (
       omega arith,
-      feeding-on (i .4) (test .loop-test .taken) out (i .0 ∙ pre .table) (i .1 ∙ pre .output)
-          (behind-room (i .2) (p .ensures .0)) (rest .ensures) (on-done (r .number) (length (rest .result .now)) (c .if1 .taken)),
+      omega arith,
+      omega arith,
+      omega arith,
+      feeding-on (i .4) (test .loop-test .taken) (called .bytes .ensures) (i .0 ∙ pre .table) (i .1 ∙ pre .output) behind
+          (c .before .before .rest .ensures) (on-done _ (length (c .before .before .rest .result .now)) (c .if1 .taken)),
     )
 
 loop-less-2 : tie.Need-loop-less-2 Inv-loop μ-loop
 loop-less-2 c =
     let called = c .before .before .before .before .before .before .before .before .before .before .before .before in
-    let r = called .bytes .result in
     let test = called .before .before .before in
-    let l = test .before .loop in
-    no-more (l .left .now) (c .before .before .rest .result .now) (r .number) (l .going) (test .loop-test .taken) (c .if1 .left)
+    fewer (test .before .loop .left .now) (called .bytes .result) (test .loop-test .taken) (c .before .before .rest .ensures)
+    (called .bytes .ensures) (on-refused _ (length (c .before .before .rest .result .now)) (c .if1 .left))
 
 loop-again-2 : tie.Need-loop-again-2 Inv-loop μ-loop
 loop-again-2 c =
     let called = c .before .before .before .before .before .before .before .before .before .before .before .before in
-    let r = called .bytes .result in
-    let out = called .bytes .ensures in
     let test = called .before .before .before in
-    let l = test .before .loop in
-    let i = l .inv in
+    let i = test .before .loop .inv in
     let pre = test .before .before .before .before .before .before .pre .lends in
-    let p = c .before .before .before .before .before .print in
-    let rest = c .before .before .rest in
-    let same = i .2 in (
-      out .size ∙ i .0,
-      same-output out ∙ i .1,
-      p .kept .1 .1 .0 ∙ i .2,
+    let behind = behind-room (i .2) (c .before .before .before .before .before .print .ensures .0) in (
       omega arith,
-      feeding-on (i .4) (test .loop-test .taken) out (i .0 ∙ pre .table) (i .1 ∙ pre .output)
-          (behind-room (i .2) (p .ensures .0)) (rest .ensures) (on-refused (r .number) (length (rest .result .now)) (c .if1 .left)),
+      omega arith,
+      omega arith,
+      omega arith,
+      feeding-on (i .4) (test .loop-test .taken) (called .bytes .ensures) (i .0 ∙ pre .table) (i .1 ∙ pre .output) behind
+          (c .before .before .rest .ensures) (on-refused _ (length (c .before .before .rest .result .now)) (c .if1 .left)),
     )
 
 pub feed-spec : {M : Type 1} → statement M
@@ -101,9 +73,9 @@ feed-spec =
     (tie.spec
     Inv-loop
     μ-loop
-    loop-holds
+    (λ c. (refl, refl, refl, c .before .before .before .before .pre .within, feeding-begins _ _ _ _ _))
     (λ c κs. search needs)
-    print-requires
+    (λ c κs. search (needs, fits-in))
     (λ c κs. search needs)
     loop-less
     loop-again

@@ -10,7 +10,10 @@ returns : tie.Need-returns
 returns c =
     let s = c .before .before .before .before .before in
     let input = s .args .input .now in
-    (search needs, take-put (s .args .size) (length input - s .args .size) input (c .before .before .read .last .0) (s .pre))
+    record {
+      within = search needs;
+      kept = take-put (s .args .size) (length input - s .args .size) input (c .before .before .read .last .0) (s .pre);
+    }
 
 pub fill-spec : {M : Type 1} → statement M
 fill-spec =

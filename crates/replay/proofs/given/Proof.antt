@@ -30,12 +30,6 @@ returns c =
     let f = fed .feed .ensures in
     (follows-as (λ x m. given-bytes x slice (record-kind .result) (record-kind .ensures .0) _ are-bytes rest) (f .0), f .1)
 
-print-requires : tie.Need-print-requires
-print-requires c κs =
-    let called = c .before .before .before .before .before .before in
-    let p = called .before .before .before .before .before .before .before .before .before .before .pre in
-    (fits-in (called .call .ensures), record { within = p .0 .within; room = p .0 .lends .room })
-
 returns-2 : tie.Need-returns-2
 returns-2 c =
     let called = c .before .before .before .before .before .before .before .before .before in
@@ -64,7 +58,7 @@ given-spec =
     (λ c. search needs)
     returns
     (λ c κs. sym (c .before .before .before .is-within .ensures) ∙ c .before .before .if1 .left)
-    print-requires
+    (λ c κs. search (needs, fits-in))
     (λ c. search needs)
     (λ c. search needs)
     (λ c. search needs)

@@ -10,7 +10,7 @@ returns c =
     let free = c .before .before .before .before .room .ensures in
     let put = c .before .before .tell .ensures in
     let here = c .before .before .before .before .before .before .before .before .pre .1 .within in
-    (behind-put here (free .0) (free .1) (put .0) (put .1), omega (arith, put .1, free .1))
+    (behind-put here (free .0) (free .1) (put .put) (put .within), omega (arith, put .within, free .1))
 
 pub print-spec : {M : Type 1} → statement M
 print-spec =

@@ -9,7 +9,6 @@ use native.Mathlib.Omega.{arith}
 use lib.ListN.{length, take, drop, length-drop}
 use lib.Seq.{length-take-le, take-all}
 use Rattle.replay.specs.Whole.{Measured, too-long}
-use Rattle.replay.proofs.Follows.{follows-room}
 use Rattle.replay.proofs.Records.{Serving, serving-begins, serving-on, serving-ends}
 use Rattle.replay.proofs.serve.Statement.{statement}
 use Rattle.replay.proofs.serve.Tie as tie
@@ -26,12 +25,6 @@ Inv-loop table₀ output₀ lines₀ input to₀ left₀ size₀ table output li
 
 abbrev μ-loop : tie.MeasureT-loop
 μ-loop table₀ output₀ lines₀ input to₀ left₀ size₀ table output lines to left size = length left
-
-loop-holds : tie.Need-loop-holds Inv-loop μ-loop
-loop-holds c =
-    let a = c .before .before .before .before .before .args in
-    let begins = serving-begins (a .input .now) (length (a .lines .now)) (a .table .now) [] in
-    (refl, refl, refl, omega arith, omega arith, c .whole .ensures, begins)
 
 given-requires : tie.Need-given-requires Inv-loop μ-loop
 given-requires c κs =
@@ -64,7 +57,7 @@ loop-again c =
       omega arith,
       omega arith,
       c .whole2 .ensures,
-      serving-on (i .6) (i .5 .whole) some few (follows-room same (g .ensures .0)) rest,
+      serving-on (i .6) (i .5 .whole) some few (rw same at (g .ensures .0)) rest,
     )
 
 returns : tie.Need-returns Inv-loop μ-loop
@@ -82,7 +75,7 @@ serve-spec =
     Inv-loop
     μ-loop
     (λ c κs. search needs)
-    loop-holds
+    (λ c. (refl, refl, refl, omega arith, omega arith, c .whole .ensures, serving-begins _ _ _ _))
     (λ c. let l = c .before .before .before .before .before .loop in sym (length-take-le (l .size) (l .left .now) (l .inv .5 .within)))
     given-requires
     (λ c. let l = c .before .before .before .before .before .before .before .before .before .before .before .before .loop in

@@ -23,9 +23,7 @@ serve-and-move-spec =
     (λ c. let s = c .before .before .before .before .before .before .before .before in
     sym (length-take-le (s .args .have) (s .args .input .now) (s .pre .1)))
     (λ c κs. search needs)
-    (λ c. let v = c .before .before .before .before .before .before .before in
-    let s = v .before .before .before .before .before .before .before .before .before in
-    omega (arith, waits-within (s .args .input .now) (s .pre .1) (v .serve .ensures .1 .size)))
+    (λ c. search (needs, waits-within))
     (λ c κs. let v = c .before .before .before .before .before .before .before in
     let s = v .before .before .before .before .before .before .before .before .before in
     let few = waits-within (s .args .input .now) (s .pre .1) (v .serve .ensures .1 .size) in (omega arith, omega arith))

@@ -23,11 +23,6 @@ Inv-loop output lines₀ at to₀ left₀ size₀ lines to left size =
 abbrev μ-loop : tie.MeasureT-loop
 μ-loop output lines₀ at to₀ left₀ size₀ lines to left size = length left
 
-loop-holds : tie.Need-loop-holds Inv-loop μ-loop
-loop-holds c =
-    let a = c .before .before .before .args in
-    (left-all (a .lines .now) (a .at) (printed (lines-in (a .output .now))), omega arith, c .whole .ensures)
-
 line-requires : tie.Need-line-requires Inv-loop μ-loop
 line-requires c κs =
     let l = c .before .before .before .loop in
@@ -46,7 +41,7 @@ loop-again c =
     let n = length-take-le (l .size) (l .left .now) few in
     let rest = take-all (length (l .left .now) - l .size) (drop (l .size) (l .left .now)) (simp length-drop (omega arith)) in (
       left-as (ap (λ (z : List ℕ). printed (lines-in z)) (sym rest))
-          (left-put (left-as (lines-next (l .left .now) (l .size) (l .inv .2 .whole) some) (l .inv .0)) (k .ensures .0)),
+          (left-put (left-as (lines-next (l .left .now) (l .size) (l .inv .2 .whole) some) (l .inv .0)) (k .ensures .put)),
       omega arith,
       c .whole2 .ensures,
     )
@@ -55,7 +50,7 @@ returns : tie.Need-returns Inv-loop μ-loop
 returns c =
     let l = c .before .loop in
     let z : l .size ≡ 0 = omega (arith, c .loop-test .left) in
-    (left-none (left-as (lines-none (l .left .now) (l .size) (l .inv .2 .whole) z) (l .inv .0)), omega arith)
+    record { within = omega arith; put = left-none (left-as (lines-none (l .left .now) (l .size) (l .inv .2 .whole) z) (l .inv .0)) }
 
 pub show-spec : {M : Type 1} → statement M
 show-spec =
@@ -64,7 +59,7 @@ show-spec =
     Inv-loop
     μ-loop
     (λ c κs. search needs)
-    loop-holds
+    (λ c. (left-all _ _ _, omega arith, c .whole .ensures))
     (λ c. let l = c .before .before .loop in sym (length-take-le (l .size) (l .left .now) (l .inv .2 .within)))
     line-requires
     (λ c. omega (arith, c .before .before .before .before .before .before .loop .inv .2 .within))

@@ -1,31 +1,21 @@
 -- `replay::tell` meets its contract.
 use borrow.Author.Needs.{needs}
-use mathlib.Core.Path.{sym}
 use native.Mathlib.Omega.{arith}
 use lib.Seq.{length-take-le}
-use Rattle.text.proofs.Puts.{put-then, put-as}
 use Rattle.replay.proofs.Lines.{refused-text, done-text}
 use Rattle.replay.proofs.tell.Statement.{statement}
 use Rattle.replay.proofs.tell.Tie as tie
 
 returns : tie.Need-returns
 returns c =
-    let a = c .before .before .before .before .before .before .before .before .before .before .before .before .before .before .before
-    .before .before .before .args in
-    let first = c .before .before .before .before .before .before .before .before .before .before .before .copy .ensures in
-    let second = c .before .before .before .before .before .before .before .put-digits .ensures in
-    let third = c .before .before .copy2 .ensures in
-    let r = third .place in (
-      put-as (refused-text (a .answer) (a .output .now)
-          (c .before .before .before .before .before .before .before .before .before .before .before .before .before .before .if1 .taken))
-          (put-then (put-then first (second .1)) third),
-      omega arith,
-    )
-
-slice-aggregate-show : tie.Need-slice-aggregate-show
-slice-aggregate-show c =
-    let s = c .before .before .before .before .before in
-    sym (length-take-le (s .args .answer .written) (s .args .output .now) (s .pre .0 .within))
+    let digits = c .before .before .before .before .before .before .before in
+    let first = digits .before .before .before .before in
+    let last = c .before .before .copy2 .ensures in
+    let r = last .place in
+    record {
+      within = omega arith;
+      put = refused-text _ _ (first .before .before .before .if1 .taken) (first .copy .ensures) (digits .put-digits .ensures .1) last;
+    }
 
 show-requires : tie.Need-show-requires
 show-requires c κs =
@@ -39,9 +29,9 @@ returns-2 c =
     let a = s .args in
     let n = length-take-le (a .answer .written) (a .output .now) (s .pre .0 .within) in
     let k = c .before .before .show .ensures in
-    (put-as (done-text (a .answer) (a .output .now) (c .before .before .before .before .before .if1 .left)) (k .0), omega arith)
+    record { within = omega arith; put = done-text _ _ (c .before .before .before .before .before .if1 .left) (k .put) }
 
 pub tell-spec : {M : Type 1} → statement M
 tell-spec =
     tie.close (tie.spec (λ c. search needs) (λ c κs. search needs) (λ c κs. search needs) (λ c. search needs) (λ c κs. search needs)
-    (λ c. search needs) returns slice-aggregate-show show-requires (λ c. search needs) returns-2)
+    (λ c. search needs) returns (λ c. search (needs, length-take-le)) show-requires (λ c. search needs) returns-2)

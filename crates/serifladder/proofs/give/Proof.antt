@@ -13,7 +13,7 @@ returns c =
     let n = b .before .before .before .before in
     let all-four = put-then (put-then (put-then (n .put-little .ensures .1) (b .put-little2 .ensures .1)) (w .put-little3 .ensures .1))
     (d .put-little4 .ensures .1) in
-    (refl, all-four .output)
+    record { number = refl; numbers = all-four .output }
 
 pub give-spec : {M : Type 1} → statement M
 give-spec =

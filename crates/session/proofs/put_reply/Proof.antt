@@ -15,15 +15,15 @@ pub put-reply-spec : {M : Type 1} → statement M
 put-reply-spec =
     tie.close (tie.spec (λ c. search needs) (λ c. search needs) (λ c κs. search needs) (λ c. search needs) (λ c κs. search needs)
     (λ c. search needs) (λ c κs. search needs) (λ c. search needs) put-9999-requires
-    (λ c. (omega arith, no-reply _ _ _ (c .enum-told .given .1) refl)) (λ c. search needs)
+    (λ c. record { within = omega arith; put = no-reply _ _ _ (c .enum-told .given .1) refl }) (λ c. search needs)
     (λ c. let p = c .before .before in
-    (omega arith, one-reply _ _ _ (p .before .before .enum-told2 .given .1) _ refl (p .put-0002 .ensures .1)))
+    record { within = omega arith; put = one-reply _ _ _ (p .before .before .enum-told2 .given .1) _ refl (p .put-0002 .ensures .put) })
     (λ c. search needs)
     (λ c. let p = c .before .before in
-    (omega arith, one-reply _ _ _ (p .before .before .before .reply .given .1) _ refl (p .put-0005 .ensures .1)))
+    record { within = omega arith; put = one-reply _ _ _ (p .before .before .before .reply .given .1) _ refl (p .put-0005 .ensures .put) })
     (λ c. search needs)
     (λ c. let p = c .before .before in
-    (omega arith, one-reply _ _ _ (p .before .before .before .reply2 .given .1) _ refl (p .put-0004 .ensures .1)))
+    record { within = omega arith; put = one-reply _ _ _ (p .before .before .before .reply2 .given .1) _ refl (p .put-0004 .ensures .put) })
     (λ c. search needs)
     (λ c. let p = c .before .before in
-    (omega arith, one-reply _ _ _ (p .before .before .enum-told3 .given .1) _ refl (p .put-9999 .ensures .1))))
+    record { within = omega arith; put = one-reply _ _ _ (p .before .before .enum-told3 .given .1) _ refl (p .put-9999 .ensures .put) }))

@@ -7,16 +7,6 @@ use Rattle.table.proofs.Receives.{end-lent, heard}
 use Rattle.table.proofs.hear.Statement.{statement}
 use Rattle.table.proofs.hear.Tie as tie
 
-end-run-requires : tie.Need-end-run-requires
-end-run-requires c κs =
-    let p = c .before .before .before .before .before .before .before .before .before .pre in
-    (part-good _ _ (p .0 .table) (p .0 .session), p .1)
-
-answer-requires : tie.Need-answer-requires
-answer-requires c κs =
-    let k = c .before .before .before .before .before .before in
-    end-lent (k .before .before .before .before .before .before .before .before .before .before .pre .0) (k .end-run .ensures)
-
 returns : tie.Need-returns
 returns c =
     let y = c .before .before in
@@ -28,5 +18,6 @@ returns c =
 pub hear-spec : {M : Type 1} → statement M
 hear-spec =
     tie.close (tie.spec (λ c κs. search needs) (λ c κs. search needs) (λ c. search needs) (λ c. search needs) (λ c. search needs)
-    (λ c. search needs) (λ c. search needs) (λ c. search needs) end-run-requires answer-requires (λ c. search needs) (λ c. search needs)
+    (λ c. search needs) (λ c. search needs) (λ c. search needs) (λ c κs. search (needs, part-good)) (λ c κs. search (needs, end-lent))
+    (λ c. search needs) (λ c. search needs)
     (λ c. search needs) returns)

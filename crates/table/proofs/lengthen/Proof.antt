@@ -5,11 +5,8 @@ use Rattle.table.proofs.Receives.{lengthened}
 use Rattle.table.proofs.lengthen.Statement.{statement}
 use Rattle.table.proofs.lengthen.Tie as tie
 
-returns : tie.Need-returns
-returns c =
-    let k = c .before .before in let p = k .before .before .before .before .pre in lengthened _ _ _ (p .0) (p .1) (k .lengthen .ensures)
-
 pub lengthen-spec : {M : Type 1} → statement M
 lengthen-spec =
     tie.close (tie.spec (λ c. search needs) (λ c. search needs) (λ c. search needs) (λ c. search needs) (λ c. search needs)
-    (λ c. search needs) (λ c κs. let p = c .before .before .before .pre in part-good _ _ (p .0) (p .1)) (λ c. search needs) returns)
+    (λ c. search needs) (λ c κs. let p = c .before .before .before .pre in part-good _ _ (p .0) (p .1)) (λ c. search needs)
+    (λ c. search (needs, lengthened)))

@@ -27,9 +27,9 @@ returns c =
     let t = s .args .table .now in
     let w = rw (a .asked-by .ensures, z .settings .ensures .0) at (y .put-copy .ensures) in
     record {
-      within = w .0;
+      within = w .within;
       bytes = put-as (copy-said (settings-in t) (s .args .to .session) (s .args .kind) (region-in (s .args .to .session) t)
-          (s .args .place .now) (s .pre .subscribed)) (w .1);
+          (s .args .place .now) (s .pre .subscribed)) (w .put);
     }
 
 pub put-copy-spec : {M : Type 1} → statement M

@@ -1,6 +1,5 @@
 -- `table::put_event` meets its contract, by whether the last copy was asked for alike.
 use borrow.Author.Needs.{needs}
-use native.Mathlib.Omega.{arith}
 use Rattle.table.proofs.Again.{again-lent, copied-again}
 use Rattle.table.proofs.put_event.Statement.{statement}
 use Rattle.table.proofs.put_event.Tie as tie
@@ -17,21 +16,11 @@ returns c =
     let w = i .before in
     copied-again (w .before .before .before .before .before .before .pre) (w .repeats .ensures (i .if1 .taken)) (y .put-again .ensures)
 
-put-copy-requires : tie.Need-put-copy-requires
-put-copy-requires c κs =
-    let p = c .before .before .before .before .before .before .before .before .before .pre in
-    record {
-      output = record { room = p .lent .room; numbered = omega arith };
-      kind = p .known;
-      settings = c .settings .ensures .1;
-      place = p .place;
-    }
-
 returns-2 : tie.Need-returns-2
 returns-2 c =
     let y = c .before .before in
     let w = rw (y .before .settings .ensures .0) at (y .put-copy .ensures) in
-    record { within = w .0; bytes = w .1 }
+    record { within = w .within; bytes = w .put }
 
 pub put-event-spec : {M : Type 1} → statement M
 put-event-spec =
@@ -42,6 +31,6 @@ put-event-spec =
     (λ c. search needs)
     returns
     (λ c κs. search needs)
-    put-copy-requires
+    (λ c κs. search needs)
     (λ c. search needs)
     returns-2)

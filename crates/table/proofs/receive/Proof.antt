@@ -11,13 +11,7 @@ returns c =
     let s = i .before .before .before .before in
     rw (piece-is (s .args .bytes .now) (s .args .end) (s .pre .1) (i .if1 .taken)) at (k .end-run .ensures)
 
-returns-2 : tie.Need-returns-2
-returns-2 c =
-    let k = c .before .before in
-    let p = k .before .before .before .before .before .before .pre in
-    goes-on-so (p .0) (p .1) (k .before .before .if1 .left) (k .lengthen .ensures)
-
 pub receive-spec : {M : Type 1} → statement M
 receive-spec =
     tie.close (tie.spec (λ c. search needs) (λ c. search needs) (λ c. search needs) (λ c κs. search needs) (λ c. search needs)
-    (λ c. search needs) returns (λ c κs. search needs) (λ c. search needs) returns-2)
+    (λ c. search needs) returns (λ c κs. search needs) (λ c. search needs) (λ c. search (needs, goes-on-so)))

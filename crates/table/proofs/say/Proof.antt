@@ -14,12 +14,6 @@ Inv-loop table out₀ due session at₀ kind₀ out at kind =
 abbrev μ-loop : tie.MeasureT-loop
 μ-loop table out₀ due session at₀ kind₀ out at kind = length kinds - kind
 
-loop-again : tie.Need-loop-again Inv-loop μ-loop
-loop-again c =
-    let y = c .before .before in
-    let t = y .before .before in
-    saying-next (t .before .before .before .before .pre) (t .before .loop .inv) (t .loop-test .taken) (y .say-one .ensures)
-
 pub say-spec : {M : Type 1} → statement M
 say-spec =
     tie.close
@@ -31,6 +25,6 @@ say-spec =
     (λ c κs. open-lent (c .before .before .before .before .before .pre) (c .before .before .loop .inv) (c .before .loop-test .taken))
     (λ c. search needs)
     (λ c. search needs)
-    loop-again
+    (λ c. search (needs, saying-next))
     (λ c. c .before .loop .inv .bytes .size)
     (λ c. all-said (c .before .before .before .before .pre) (c .before .loop .inv) (c .loop-test .left)))

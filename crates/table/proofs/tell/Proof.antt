@@ -1,7 +1,6 @@
 -- `table::tell` meets its contract. The invariant: what the sessions come to that are left is what all come to, and what is left to add
 -- up of those that take the event; and the copy that was written last stands before the place.
 use borrow.Author.Needs.{needs}
-use mathlib.Core.Path.{refl}
 use Prim.Native.Nat.{_-_}
 use native.Mathlib.Omega.{arith}
 use Rattle.model.specs.Limits.{session-count}
@@ -26,30 +25,6 @@ abbrev μ-loop : tie.MeasureT-loop
 μ-loop table₀ out₀ at kind place at₀ from₀ revision₀ flag₀ taken₀ bit₀ session₀ table out at′ from revision flag taken bit session =
     session-count - session
 
-loop-holds : tie.Need-loop-holds Inv-loop μ-loop
-loop-holds c =
-    (turns-none _ _ _ _ _ (c .before .before .before .pre .0 .table), record { power = refl; sum = omega arith }, last-none _ _ _ _ _ _ _)
-
-tell-session-requires : tie.Need-tell-session-requires Inv-loop μ-loop
-tell-session-requires c κs =
-    let p = c .before .before .before .before .before .before .before .pre in
-    let l = c .before .before .before .loop in
-    record {
-      known = p .0 .known;
-      lent = turn-lent (l .inv .0) (p .1) (c .before .before .loop-test .taken);
-      place = p .0 .place;
-      last = l .inv .2;
-    }
-
-loop-again : tie.Need-loop-again Inv-loop μ-loop
-loop-again c =
-    let k = c .before .before .before .before .before in
-    let t = k .before .before .before in
-    let i = t .before .loop .inv in
-    let few = t .loop-test .taken in
-    let w = k .tell-session .ensures in
-    (turns-next (i .0) few (w .within) (w .went), sums-next (i .1) _ (c .share .ensures) few _ (w .went) (w .takes), w .last)
-
 returns : tie.Need-returns Inv-loop μ-loop
 unfolding decode
 returns c =
@@ -63,8 +38,8 @@ tell-spec =
     (tie.spec
     Inv-loop
     μ-loop
-    loop-holds
-    tell-session-requires
+    (λ c. search (needs, turns-none, last-none))
+    (λ c κs. search (needs, turn-lent))
     (λ c κs. search needs)
     (λ c. let k = c .before .before .before .before .before in let t = k .before .before .before in
     omega (arith, adds (t .before .loop .inv .1) (k .tell-session .result .taken) (c .share .ensures) (t .loop-test .taken)))
@@ -72,7 +47,7 @@ tell-spec =
     omega (arith, bit-small (t .before .loop .inv .1) (t .loop-test .taken)))
     (λ c. search needs)
     (λ c. search needs)
-    loop-again
+    (λ c. search (needs, turns-next, sums-next))
     (λ c. c .before .loop .inv .0 .size)
     (λ c. c .before .loop .inv .0 .long)
     returns)

@@ -6,11 +6,6 @@ use Rattle.table.proofs.Regions.{part-good}
 use Rattle.table.proofs.tell_session.Statement.{statement}
 use Rattle.table.proofs.tell_session.Tie as tie
 
-take-requires : tie.Need-take-requires
-take-requires c κs =
-    let p = c .before .before .before .before .before .before .pre in
-    record { good = part-good _ _ (p .lent .table) (p .lent .session); known = p .known; place = p .place }
-
 returns : tie.Need-returns
 returns c =
     let k = c .before .before .before .before in
@@ -22,12 +17,6 @@ asked-by-requires c κs =
     let p = k .before .before .before .before .before .before .before .pre in
     let l = still-lent (p .lent) (k .take .ensures .good) in
     record { table = l .table; session = l .session; known = p .known }
-
-put-event-requires : tie.Need-put-event-requires
-put-event-requires c κs =
-    let a = c .before .before in
-    let k = a .before .before .before .before .before .before in
-    asked-lent (k .before .before .before .before .before .before .before .pre) (k .take .ensures) (a .asked-by .ensures)
 
 returns-2 : tie.Need-returns-2
 returns-2 c =
@@ -49,11 +38,11 @@ tell-session-spec =
     (λ c. search needs)
     (λ c. search needs)
     (λ c. search needs)
-    take-requires
+    (λ c κs. search (needs, part-good))
     (λ c. search needs)
     returns
     asked-by-requires
-    put-event-requires
+    (λ c κs. search (needs, asked-lent))
     (λ c. search needs)
     (λ c. search needs)
     returns-2)

@@ -16,12 +16,6 @@ Inv-loop table₀ out₀ at at₀ session₀ table out at′ session = Turns (co
 abbrev μ-loop : tie.MeasureT-loop
 μ-loop table₀ out₀ at at₀ session₀ table out at′ session = session-count - session
 
-loop-again : tie.Need-loop-again Inv-loop μ-loop
-loop-again c =
-    let k = c .before .before .before .before in
-    let t = k .before .before .before in
-    turns-next (t .before .loop .inv) (t .loop-test .taken) (k .tick-session .ensures .0) (k .tick-session .ensures .1)
-
 pub tick-spec : {M : Type 1} → statement M
 tick-spec =
     tie.close
@@ -33,7 +27,8 @@ tick-spec =
     (c .before .before .loop-test .taken))
     (λ c. search needs)
     (λ c. search needs)
-    loop-again
+    (λ c. search (needs, turns-next))
     (λ c. c .before .loop .inv .size)
     (λ c. c .before .loop .inv .long)
-    (λ c. let e = turns-all (c .before .loop .inv) (c .loop-test .left) in (e .0, went-one {m = ticks} (e .1) (e .2))))
+    (λ c. let e = turns-all (c .before .loop .inv) (c .loop-test .left) in
+    record { within = e .0; went = went-one {m = ticks} (e .1) (e .2) }))

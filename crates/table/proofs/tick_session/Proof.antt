@@ -13,27 +13,25 @@ returns : tie.Need-returns
 returns c =
     let y = c .before .before in
     let k = y .before .before .before .before .before in
-    let l = y .put-close .ensures .0 in (
-      omega arith,
-      tick-passed (k .before .before .before .before .pre) (k .tick .ensures)
-          (rw (y .before .before .if1 .taken) (put-as (sym (append-nil _)) (y .put-close .ensures .1))),
-    )
-
-say-requires : tie.Need-say-requires
-say-requires c κs =
-    let k = c .before .before .before .before .before .before in due-lent (k .before .before .before .before .pre) (k .tick .ensures)
+    let l = y .put-close .ensures .place in
+    record {
+      within = omega arith;
+      went = tick-passed (k .before .before .before .before .pre) (k .tick .ensures)
+          (rw (y .before .before .if1 .taken) (put-as (sym (append-nil _)) (y .put-close .ensures .put)));
+    }
 
 returns-2 : tie.Need-returns-2
 returns-2 c =
     let y = c .before .before in
-    let k = y .before .before .before .before .before .before .before in (
-      y .say .ensures .within,
-      tick-passed (k .before .before .before .before .pre) (k .tick .ensures)
-          (rw (y .before .before .before .before .if1 .left) (y .say .ensures .bytes)),
-    )
+    let k = y .before .before .before .before .before .before .before in
+    record {
+      within = y .say .ensures .within;
+      went = tick-passed (k .before .before .before .before .pre) (k .tick .ensures)
+          (rw (y .before .before .before .before .if1 .left) (y .say .ensures .bytes));
+    }
 
 pub tick-session-spec : {M : Type 1} → statement M
 tick-session-spec =
     tie.close (tie.spec (λ c. search needs) (λ c. search needs) (λ c. search needs) (λ c. search needs) (λ c. search needs)
     (λ c. search needs) (λ c κs. let p = c .before .before .before .pre in part-good _ _ (p .table) (p .session)) (λ c κs. search needs)
-    (λ c. search needs) (λ c. search needs) returns say-requires (λ c. search needs) (λ c. search needs) returns-2)
+    (λ c. search needs) (λ c. search needs) returns (λ c κs. search (needs, due-lent)) (λ c. search needs) (λ c. search needs) returns-2)
