@@ -13,7 +13,7 @@ use Rattle.table.specs.Table.{decode}
 use Rattle.controller.specs.Contract.{model-answer, Outcome}
 use Rattle.controller.specs.declared.Answer.{Answer}
 use Rattle.controller.proofs.Outputs.{so-long}
-use Rattle.serifladder.specs.Export.{Given, Exported}
+use Rattle.serifladder.specs.Export.{AnswerWritten, Exported}
 
 still : (t : List ℕ) → decode t ≡ uncounted (decode t)
 unfolding decode
@@ -36,7 +36,7 @@ module _ {c : Call} {t o a : List ℕ} where
 
   -- the call's outcome, with the answer y, of which C is given the numbers
   pub made : {r : ℕ} {t′ o′ a′ : List ℕ} {y : Answer} → answer-least ≤ length a → Outcome c t o y t′ o′
-      → Given y a r a′
+      → AnswerWritten y a r a′
       → Exported c t o a r t′ o′ a′
   made h w given = record {
     number = rw le-ltb (given .number ∙ ap (λ (x : Answer). x .number) (w .answer));

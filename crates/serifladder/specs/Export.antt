@@ -18,7 +18,7 @@ abbrev pub told : Call → List ℕ → List ℕ → List ℕ → Returned
 told c t o a = returned (length a) (lent t (length o)) (decode t) c
 
 -- the four numbers of an answer are written out, and the first of them is returned
-pub record Given (y : Answer) (a : List ℕ) (r : ℕ) (a′ : List ℕ) : Type 0 where
+pub record AnswerWritten (y : Answer) (a : List ℕ) (r : ℕ) (a′ : List ℕ) : Type 0 where
   pub number : r ≡ y .number
   pub numbers : a′ ≡ sets a 0 (answer-bytes (model-answer y))
 

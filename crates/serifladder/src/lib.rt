@@ -11,7 +11,7 @@ ghost use Rattle.model.specs.Calls.{
   one-tick,
   tool,
 };
-ghost use Rattle.serifladder.specs.Export.{Given, Exported};
+ghost use Rattle.serifladder.specs.Export.{AnswerWritten, Exported};
 use controller::Answer;
 use model::ANSWER_LEAST;
 
@@ -21,7 +21,7 @@ const ANSWER_TOO_SHORT: u64 = 10;
 // The four numbers, 8 bytes each, and the first of them.
 fn give(answer: &mut [u8], x: Answer) -> u64
     requires { ⌜ answer-least ≤ length (now answer) ⌝ }
-    ensures { λ r. ⌜ Given x (now (answer .entry)) r (now (answer .exit)) ⌝ }
+    ensures { λ r. ⌜ AnswerWritten x (now (answer .entry)) r (now (answer .exit)) ⌝ }
 {
     let a = text::put_little(answer, 0, 8, x.number);
     let b = text::put_little(answer, a, 8, x.consumed);
