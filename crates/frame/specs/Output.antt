@@ -91,10 +91,10 @@ heading-of content = record {
 abbrev pub heading-bytes : Heading → List ℕ
 heading-bytes h = header (h .size) (h .mid) (h .revision) (h .«byte_12»)
 
--- the header of a frame can go there: it is told how long the frame is
-pub record Headable (content : Content) (length at size : ℕ) : Type 0 where
+-- the header of a frame can go there: it is told how many bytes the frame has
+pub record Headable (content : Content) (count at size : ℕ) : Type 0 where
   pub real : Real content
-  pub own : length ≡ frame-length content
+  pub own : count ≡ frame-length content
   pub room : at + header-length ≤ size
 
 abbrev pub frame-of : Content → Payloads → List ℕ
