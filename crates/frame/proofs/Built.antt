@@ -56,18 +56,18 @@ pub headed : {o o′ : List ℕ} {at r : ℕ} {h g : Heading} → h ≡ g → Wr
 headed {o} {o′} {at} {r} e w = subst (λ (x : Heading). Written o at header-length (heading-bytes x) r o′) e w
 
 -- data and NUL, and then the header before them
-pub wrote-frame : {o o₁ o₂ o₃ : List ℕ} {at next nul end : ℕ} (content : Content) (b : Payloads)
-    → Written o (at + header-length) (data-length (layout-of content)) (data-in content b) nul o₁
+pub wrote-frame : {o o₁ o₂ o₃ : List ℕ} {at from next nul end : ℕ} (content : Content) (b : Payloads) → from ≡ at + header-length
+    → Written o from (data-length (layout-of content)) (data-in content b) nul o₁
     → (end ≡ nul + 1) × Put o₁ nul (replicate 1 0) end o₂
     → Written o₂ at header-length (heading-bytes (heading-of content)) next o₃
     → (end ≡ at + suc (frame-length content)) × Put o at (frame-of content b ++ NUL ∷ []) end o₃
 unfolding frame
-wrote-frame content b d z h =
+wrote-frame content b e d z h =
     let p = d .place in
     let q = d .put .place in
     let i = z .0 in
     let n : frame-length content ≡ header-length + length (data-in content b) = omega arith in
-    (omega arith, put-as (rw (n, append-assoc)) (put-before (put-then (d .put) (z .1)) (h .put) (h .place)))
+    (omega arith, put-as (rw (n, append-assoc)) (put-before (put-then (d .put) (z .1)) (h .put) (omega arith)))
 
 -- ==== how long they are, and which bytes serve them
 

@@ -600,6 +600,9 @@ const CLOSE_RECORD_KIND: u64 = 512;
 // Where the kind stands, behind the length.
 const RECORD_KIND_AT: usize = 2;
 
+// Where the data of a frame begins, behind the header.
+const DATA_AT: usize = model::RECORD_HEAD + HEADER_LENGTH;
+
 // Makes an output record of the payload that stands behind the place of its head, up to `end`.
 fn put_record(out: &mut [u8], to: To, record_kind: u64, end: usize) -> usize
     requires { ⌜ Recordable (now out) to «record_kind» end ⌝ }
@@ -619,16 +622,17 @@ pub fn put_close(out: &mut [u8], to: To) -> usize
     put_record(out, to, CLOSE_RECORD_KIND, to.at + model::RECORD_HEAD)
 }
 
-// Any frame by its rows, with its NUL. Where the data ends tells the header how long the frame is.
+// Any frame by its rows, with its NUL. Where the data ends tells the header how long the frame is. The header's place is reckoned then, so
+// that it does not stand on the stack while the fields are written.
 fn put_frame(out: &mut [u8], to: To, content: Content, settings: &[u8], told: &[u8]) -> usize
     requires { ⌜ Sendable (now out) to content (payloads (now settings) (now told)) ⌝ }
     ensures { λ r. ⌜ Written (now (out .entry)) (to .at) (record-length (frame-length content))
         (frame-record (to .session) (frame-of content (payloads (now (settings .entry)) (now (told .entry))))) r
         (now (out .exit)) ⌝ }
 {
-    let at = to.at + model::RECORD_HEAD;
-    let nul = put_fields(out, at + HEADER_LENGTH, content, settings, told);
+    let nul = put_fields(out, to.at + DATA_AT, content, settings, told);
     let end = text::fill(out, nul, 1, 0);
+    let at = to.at + model::RECORD_HEAD;
     put_header(out, at, content, nul - at);
     put_record(out, to, FRAME_RECORD_KIND, end)
 }

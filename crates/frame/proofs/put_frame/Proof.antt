@@ -24,13 +24,13 @@ fill-requires c κs =
 
 sub-put-header : tie.Need-sub-put-header
 sub-put-header c =
-    let d = c .before .before .before .before .before .before .before in
+    let d = c .before .before .before .before .before .before .before .before in
     let f = d .put-fields .ensures .place in
     omega arith
 
 put-header-requires : tie.Need-put-header-requires
 put-header-requires c κs =
-    let n = c .before .before .before in
+    let n = c .before .before .before .before in
     let d = n .before .before .before .before in
     let s = d .before .before .before .before .before .before in
     let f = d .put-fields .ensures .place in
@@ -42,7 +42,7 @@ put-header-requires c κs =
 put-record-requires : tie.Need-put-record-requires
 put-record-requires c κs =
     let h = c .before .before .before in
-    let n = h .before .before .before .before in
+    let n = h .before .before .before .before .before in
     let d = n .before .before .before .before in
     let s = d .before .before .before .before .before .before in
     let f = d .put-fields .ensures .place in
@@ -62,15 +62,15 @@ unfolding frame-record
 returns c =
     let p = c .before .before in
     let h = p .before .before .before .before in
-    let n = h .before .before .before .before in
+    let n = h .before .before .before .before .before in
     let d = n .before .before .before .before in
     let s = d .before .before .before .before .before .before in
-    let w = wrote-frame (s .args .content) _ (d .put-fields .ensures) (n .fill .ensures) (h .put-header .ensures) in
+    let w = wrote-frame (s .args .content) _ (omega arith) (d .put-fields .ensures) (n .fill .ensures) (h .put-header .ensures) in
     let e = w .0 in
     let f = p .put-record .ensures .ends in
     record { place = omega arith; put = recorded (s .args .to) _ (w .1) (p .put-record .ensures) }
 
 pub put-frame-spec : {M : Type 1} → statement M
 put-frame-spec =
-    tie.close (tie.spec (λ c. search needs) (λ c. search needs) put-fields-requires fill-requires sub-put-header put-header-requires
+    tie.close (tie.spec (λ c. search needs) put-fields-requires fill-requires (λ c. search needs) sub-put-header put-header-requires
     put-record-requires (λ c. search needs) returns)
