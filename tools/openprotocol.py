@@ -105,7 +105,7 @@ LAYOUTS = {
     (STARTED, 1): Layout(NUMBERED, *CONTROLLER),
     (REFUSED, 1): Layout(PLAIN, Row(NUMBER, 4, "mid"), Row(NUMBER, 2, "error")),
     (ACCEPTED, 1): Layout(PLAIN, Row(NUMBER, 4, "mid")),
-    (IDENTIFIER, 1): Layout(NUMBERED, Row(TEXT, TEXT_SIZE, "identifier")),
+    (IDENTIFIER, 1): Layout(PLAIN, Row(TEXT, TEXT_SIZE, "identifier")),
     (IDENTIFIER, 2): Layout(
         NUMBERED,
         Row(TEXT, TEXT_SIZE, "identifier"),

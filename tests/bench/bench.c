@@ -232,7 +232,7 @@ static const struct call_kind CALL_KINDS[] = {
     { "bytes: keep-alive, 8 KB behind it", prepare_started, run_message_in_flood, 8, 25 },
     { "bytes: 8 KB without NUL", prepare_started, run_flood, 8, 0 },
     { "bytes: acknowledge that sends the next", prepare_queue, run_acknowledge, 7, 236 },
-    { "bytes: 0050 to four subscribers", prepare_identifiers, run_download, 8, 29 + 4 * 52 },
+    { "bytes: 0050 to four subscribers", prepare_identifiers, run_download, 8, 29 + 4 * 50 },
     { "tick, nothing open", prepare_started, run_tick, 12, 0 },
     { "tick, copies due on four sessions", prepare_due, run_tick, 1, 4 * 236 },
     { "tool record to four sessions", prepare_results, run_tighten, 8, 4 * 236 },

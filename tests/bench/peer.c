@@ -248,13 +248,18 @@ static uint8_t *put_result(uint8_t *at, unsigned s, const struct lane *lane, con
 static uint8_t *put_identifier(uint8_t *at, unsigned s, const struct session *session, const uint8_t *identifier)
 {
     static const char REST[PARTS + 1] = "02                         03                         04                         ";
-    unsigned rest = session->revision == 2 ? PARTS : 0, length = HEADER + 2 + TEXT + rest;
+    bool parts = session->revision == 2; /* and the fields are numbered */
+    unsigned length = parts ? HEADER + 2 + TEXT + PARTS : HEADER + TEXT;
     at = put_record(at, length + 1, 256 + s);
-    memcpy(at, rest ? "01280052002         01" : "00470052001         01", HEADER + 2);
-    at[11] = byte_12(&session->control.lane[IDENTIFIERS]);
-    memcpy(at + HEADER + 2, identifier, TEXT);
-    if (rest)
+    if (parts) {
+        memcpy(at, "01280052002         01", HEADER + 2);
+        memcpy(at + HEADER + 2, identifier, TEXT);
         memcpy(at + HEADER + 2 + TEXT, REST, PARTS);
+    } else {
+        memcpy(at, "00450052001         ", HEADER);
+        memcpy(at + HEADER, identifier, TEXT);
+    }
+    at[11] = byte_12(&session->control.lane[IDENTIFIERS]);
     at[length] = 0;
     return at + length + 1;
 }

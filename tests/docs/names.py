@@ -7,8 +7,8 @@ A document names in backquotes: a file (`tests/README.md`; tests/README names th
 its ending (`model/specs/Frames`, `table/proofs/Says`), a function (`frame::put_copy`), a constant, a type, a definition or a law
 (`OUTPUT_LEAST`, `event-frame`, `Demand3.equal`), a must-fail edit (`NUL_counted`), a function or an array of C (`put_record()`, `RULES[]`),
 a test of the host (`a-slow-disk`, whose function is a_slow_disk), a command (`make test`; also where it stands indented). The pages of
-docs/past, which tell of what was, and MUST-FAIL, which is derived, may name what is gone: of them the links alone are looked at. Of
-links those count that lead to files here, with their #anchors.
+docs/past and docs/landings, which tell of what was, and MUST-FAIL, which is derived, may name what is gone: of them the links alone are
+looked at. Of links those count that lead to files here, with their #anchors.
 
 Exit status 0: every name is there, and every link leads somewhere."""
 
@@ -44,7 +44,7 @@ def documents():
 
 def past():
     """Those that tell of what was."""
-    return sorted(glob.glob(os.path.join(ROOT, "docs", "past", "*.md")))
+    return sorted(path for folder in ("past", "landings") for path in glob.glob(os.path.join(ROOT, "docs", folder, "*.md")))
 
 
 def words():

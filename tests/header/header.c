@@ -140,8 +140,8 @@ static void history(void)
     expect_record("0002", SERIFLADDER_FRAME + s, 58);
     expect_answer("0051", bytes(s, two + sizeof STARTED, sizeof IDENTIFIERS), SERIFLADDER_DONE, sizeof IDENTIFIERS,
                   SERIFLADDER_RECORD_HEADER + 25, 0);
-    expect_answer("an identifier", scan(), SERIFLADDER_DONE, 0, SERIFLADDER_RECORD_HEADER + 48, 1u << s);
-    expect_record("0052", SERIFLADDER_FRAME + s, 48);
+    expect_answer("an identifier", scan(), SERIFLADDER_DONE, 0, SERIFLADDER_RECORD_HEADER + 46, 1u << s);
+    expect_record("0052", SERIFLADDER_FRAME + s, 46);
 
     expect_answer("a record cut", tighten(SERIFLADDER_RECORD_HEADER + TIGHTENING_PAYLOAD - 1), SERIFLADDER_TOOL_RECORD_BAD, 0, 0, 0);
     expect_answer("the last tightening", tighten(SERIFLADDER_RECORD_HEADER + TIGHTENING_PAYLOAD), SERIFLADDER_DONE, 0, 0, 0);

@@ -57,6 +57,14 @@ class Reached:
                   and (len(payload) - PAYLOADS[record_kind].size) % 256 == 0):
                 self.times["a record whose length is wrong in its upper byte only"] += 1
 
+    def identifiers(self, groups):
+        """0052 in each revision, and in both at once: a call's frames stand one behind the other, the shorter behind the longer too."""
+        for _, lines in groups:
+            revisions = re.findall(r"^\d S \d{4}0052(\d{3})", "\n".join(lines), re.M)
+            for revision in revisions:
+                self.times["0052 in revision %s" % revision] += 1
+            self.times["a call that sends 0052 in both revisions"] += len(set(revisions)) == 2
+
     def given_up(self, groups):
         """`groups`: a record's kind, and its lines. A notice that a tick sends for the first time comes behind one given up."""
         newest, in_a_row, whole = {}, collections.Counter(), False
@@ -98,7 +106,9 @@ def main():
         made.before_start = lambda: None  # before a start the marker prints R 2
         records, _ = split(made.make())
         reached.records(records)
-        reached.given_up(groups_of(options.program, records))
+        groups = list(groups_of(options.program, records))
+        reached.identifiers(groups)
+        reached.given_up(groups)
     for what, values in sorted(reached.seen.items()):
         print("%-60s %d" % (what, len(values)))
     for what, times in sorted(reached.times.items()):

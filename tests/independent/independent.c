@@ -531,7 +531,12 @@ static struct frame begin_frame(unsigned mid, unsigned revision, char acknowledg
 
 static void send_frame(struct output *output, unsigned s, struct frame *frame)
 {
+    bool revision_1_of_0052 = frame->length == HEADER_BYTES + TEXT_BYTES;
     write_digits(frame->bytes, 4, (uint32_t)frame->length);
+    if (FAULT == LENGTH_47_IN_REVISION_1 && revision_1_of_0052)
+        write_digits(frame->bytes, 4, 47);
+    if (FAULT == OLD_BYTE_BEHIND_REVISION_1 && revision_1_of_0052)
+        add_bytes(frame, frame->bytes + frame->length - 1, 1);
     add_filling(frame, 0, 1);
     put_record(output, RECORD_KIND_FRAME + s, frame->bytes, frame->length);
 }
@@ -578,8 +583,12 @@ static const struct row RESULT_ROWS[] = {
 };
 
 static const struct layout STARTED_1 = { true, RESULT_ROWS, 3 }; /* cell, channel, name */
-static const struct layout IDENTIFIER_1 = { true, IDENTIFIER_ROWS, 1 };
-static const struct layout IDENTIFIER_2 = { true, IDENTIFIER_ROWS, 4 };
+static const struct layout IDENTIFIER_1 = {
+    FAULT == NUMBER_KEPT_IN_REVISION_1, IDENTIFIER_ROWS, 1
+};
+static const struct layout IDENTIFIER_2 = {
+    FAULT != REVISION_2_WITHOUT_NUMBERS, IDENTIFIER_ROWS, 4
+};
 static const struct layout RESULT_1 = { true, RESULT_ROWS, 23 };
 
 static void add_field(struct frame *frame, const struct row *row, const uint8_t *const *sources)

@@ -302,11 +302,11 @@ const IDENTIFIERS_OLDER: usize = 1;
 
 const IDENTIFIER_EXTENTS: [Extent; IDENTIFIERS_OLDER + 1] = [
     Extent {
-        numbered: true,
+        numbered: false, // revision 1
         count: 1,
     },
     Extent {
-        numbered: true,
+        numbered: true, // revision 2
         count: IDENTIFIER_COUNT,
     },
 ];

@@ -1,16 +1,16 @@
 -- The table of messages, row by row as the paper has it; and how much goes out at most.
 use mathlib.Core.Path.{_≡_, refl}
-use Prim.Native.Nat.{ℕ, zero, suc, _%_, _≤_, _<_}
+use Prim.Native.Nat.{ℕ, zero, suc, _+_, _%_, _≤_, _<_}
 use mathlib.Core.Bool.{Bool, true, false, cond}
-use mathlib.Core.List.{List, [], _∷_, map}
+use mathlib.Core.List.{List, [], _∷_, _++_, map}
 use lib.Dec.{eqb}
 use lib.ListN.{length, getD}
 use native.Mathlib.Omega.{arith}
-use Rattle.model.specs.Limits.{identifier-length, copy-every, given-up-at, output-least}
+use Rattle.model.specs.Limits.{header-length, identifier-length, copy-every, given-up-at, output-least}
 use Rattle.model.specs.Bytes.{spaces, digits}
 use Rattle.model.specs.Records.{Settings, settings-length, settings-of, tightening-length, tightening-of}
 use Rattle.model.specs.Events.{Event, identified, tightened, Notice}
-use Rattle.model.specs.Layouts.{characters, data-from, revision-count, layouts-0052, layouts-0061}
+use Rattle.model.specs.Layouts.{characters, data-from, data-length, Layouts, revision-count, layouts-0052, layouts-0061}
 use Rattle.model.specs.Frames.{header, frame, frame-0002, event-frame}
 use Rattle.model.specs.Kinds.{Room, Kind, kinds, kind-at, identifiers, tightenings, copy-most, copies-most, longest-reply, event-most}
 use Rattle.model.specs.Kinds.{receive-most, tick-most, call-most}
@@ -53,6 +53,16 @@ pub the-lengths : map length frames
     ≡ longest-reply ∷ map (λ k. k .longest) kinds
 unfolding frame-0002 event-frame frame header data-from characters digits settings-of tightening-of
 the-lengths = refl
+
+-- and how long a frame of each kind is, by the revision, from 1 on
+abbrev lengths : Layouts → List ℕ
+lengths ls = map (λ l. header-length + data-length l) (ls .older ++ ls .newest ∷ [])
+
+pub lengths-by-revision : map (λ k. lengths (k .layouts)) kinds
+    ≡ (45 ∷ 128 ∷ [])
+    ∷ (231 ∷ [])
+    ∷ []
+lengths-by-revision = refl
 
 -- 01, "What the product holds": the output that has to be lent suffices
 pub call-fits : call-most ≤ output-least

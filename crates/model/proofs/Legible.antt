@@ -12,7 +12,7 @@ use Rattle.model.specs.Limits.{identifier-length, number-length, number-
 use Rattle.model.specs.Bytes.{space, digit-0, digit-1, all, digits}
 use Rattle.model.specs.Records.{Item, number as number-item, text as text-item, time, Value, counted, said, number-at, text-at}
 use Rattle.model.specs.Records.{Settings, settings-items, tightening-items, result-items, scanned-items}
-use Rattle.model.specs.Layouts.{Sources, settings, source, Row, number, text, blank, known, Layout, data-of}
+use Rattle.model.specs.Layouts.{Sources, settings, source, Row, number, text, blank, known, characters, Layout, data-from, data-of}
 use Rattle.model.specs.Layouts.{layout-0002, layout-0004, layout-0005, layouts-0052, layouts-0061}
 use Rattle.model.specs.Kinds.{kind-at}
 use Rattle.model.specs.Events.{Result, Event, identified, tightened, kind-of, told-of}
@@ -113,6 +113,12 @@ unfolding event-frame
 event-back st e h k revision no-acknowledge =
     frame-back settings-items (items-of e) (sources st (told-of e)) h k ((kind-at (kind-of e)) .notice) revision
     (cond no-acknowledge digit-1 digit-0) (layout-for e revision) (notice-fits e revision)
+
+-- 02, P1: what 0052 says in revision 1 is the identifier, from byte 21 on
+pub identifier-alone : (st : Settings) (no-acknowledge : Bool) (x : List ℕ)
+    → event-frame st 1 no-acknowledge (identified x) ≡ frame 0052 1 (cond no-acknowledge digit-1 digit-0) x
+unfolding event-frame data-from characters digits
+identifier-alone st no-acknowledge x = ap (frame 0052 1 (cond no-acknowledge digit-1 digit-0)) (append-nil x)
 
 -- a copy of it
 pub copy-back : (st : Settings) (e : Event) → CleanSettings st → CleanEvent e → (id revision : ℕ) (no-acknowledge : Bool)

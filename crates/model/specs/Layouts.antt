@@ -115,8 +115,9 @@ abbrev pub identifier-rows : List Row
 identifier-rows =
     text identifier-length told 0 ∷ blank identifier-length ∷ blank identifier-length ∷ blank identifier-length ∷ []
 
+-- (in revision 1 the identifier has no number before it: 02, P1, after 004, section 3.3.23)
 abbrev pub layouts-0052 : Layouts
-layouts-0052 = record { older = first-of identifier-rows true 1 ∷ []; newest = first-of identifier-rows true 4 }
+layouts-0052 = record { older = first-of identifier-rows false 1 ∷ []; newest = first-of identifier-rows true 4 }
 
 -- fields 04 to 23 of revision 1: a tightening's items in their order, and its number
 abbrev pub result-rows : List Row
