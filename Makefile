@@ -16,7 +16,7 @@ PREFIX := /usr/local
 
 help:
 	@echo "make run     proves the library, builds the host around it, and starts that with a simulated tool on 127.0.0.1:4545"
-	@echo "make watch   a small line server that shows what the host sends; in another terminal"
+	@echo "make watch   a small line server that shows what the host sends; in another terminal; FETCH=17 or FETCH=17-23 asks for old results"
 	@echo "make test    everything that the gate runs: layout, proofs, must-fail edits, the comparison with the implementation in C, the host"
 	@echo "make install the library for C, the host, serifladder-replay, ladder, watch, unit file and man pages, to PREFIX=$(PREFIX)"
 	@echo "make uninstall removes them"
@@ -56,7 +56,7 @@ run: host
 	  --journal $(DEMO)/journal --demo
 
 watch:
-	@exec tools/watch
+	@exec tools/watch $(FETCH:%=--fetch %)
 
 host: tools $(ARCHIVE)
 	@$(MAKE) --silent --no-print-directory -C host

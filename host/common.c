@@ -53,6 +53,13 @@ bool read_number(const char *text, uint64_t greatest, uint64_t *number)
     return true;
 }
 
+unsigned long number_at(const uint8_t *digits, size_t count)
+{
+    char text[NUMBER_LENGTH + 1] = "";
+    memcpy(text, digits, count);
+    return strtoul(text, NULL, 10);
+}
+
 bool write_all(int file, const void *bytes, size_t length)
 {
     const char *from = bytes;

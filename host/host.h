@@ -65,6 +65,10 @@ struct answer read_answer(const uint8_t bytes[SERIFLADDER_ANSWER_SIZE]);
 /* Reads a text that is a decimal number and nothing else, `greatest` at most. */
 bool read_number(const char *text, uint64_t greatest, uint64_t *number);
 
+/* The number that decimal digits in a frame stand for, NUMBER_LENGTH of them at most. */
+enum { NUMBER_LENGTH = 10 }; /* of a result's number */
+unsigned long number_at(const uint8_t *digits, size_t count);
+
 /* Writes all of it, or answers false with errno. */
 bool write_all(int file, const void *bytes, size_t length);
 
@@ -200,7 +204,7 @@ struct replayed {
 /* Makes the calls of a journal over a table, the listener being told of them if there is one. */
 struct replayed replay_journal(int file, uint8_t table[SERIFLADDER_TABLE_SIZE], const struct listener *who);
 
-/* Reads a table that was kept; false where the file is none. */
+/* Reads a table that was kept, be it by a host from before tightenings were kept; false where the file is none. */
 bool table_read(int file, uint8_t table[SERIFLADDER_TABLE_SIZE]);
 bool table_is_formed(uint8_t table[SERIFLADDER_TABLE_SIZE]);
 
@@ -262,7 +266,7 @@ void sessions_end(void); /* the host ends, in order or not */
 const struct session_state *session_state(unsigned session);
 const struct session_losses *session_losses(void);
 
-/* The number of a result, from its frame. */
+/* The number of a result, from its 0061. */
 unsigned long result_number(const uint8_t *frame, size_t length);
 
 /* ---- tool.c: house records from a FIFO or over a Unix socket */

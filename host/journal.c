@@ -336,16 +336,17 @@ static bool goes_on(void)
     return earlier.rest == 0 && earlier.whole <= journal.size && (earlier.whole == 0 || earlier_started);
 }
 
-/* The parts may come to take more than the disk has room for: better said at the start than by the end of the host. */
+/* The parts and their tables may come to take more than the disk has room for: better said at the start than by the end of the host. */
 static void look_at_disk(void)
 {
     struct statvfs disk;
     struct stat found;
     struct numbers there = numbers_there();
     char name[PATH_MAX];
-    uint64_t more = journal.size > INT64_MAX / (journal.keep + 1) ? INT64_MAX : journal.size * (journal.keep + 1), taken = size;
-    for (size_t i = 0; i < there.count; i++) {
-        part_name(name, there.of[i], "");
+    uint64_t part = journal.size + SERIFLADDER_TABLE_SIZE, count = journal.keep + 1, taken = size;
+    uint64_t more = part > INT64_MAX / count ? INT64_MAX : part * count;
+    for (size_t i = 0; i < there.count * END_COUNT; i++) {
+        part_name(name, there.of[i / END_COUNT], ENDS[i % END_COUNT]);
         if (stat(name, &found) == 0)
             taken += (uint64_t)found.st_size;
     }

@@ -16,12 +16,15 @@ enum {
     BYTES_A_SECOND = 262144,  /* so much may come over a link; */
     BYTES_OF_A_CALL = 64,     /* a call counts as so many more, since a run of no bytes costs one too */
     HEADER = 20,              /* bytes of the shortest message */
+    OLD_NUMBER = HEADER + 2,  /* where a 0065 has the result's number */
     RUN_KEPT = 45,            /* so many bytes of a run are kept, for the log */
     TOO_LONG = 10000,         /* a run of so many bytes is no message */
     TOO_LONG_GREATEST = 5,    /* so many times that length, with no message between, is too much */
     SYSTEM_ROOM = 16384,      /* so much the system keeps to be sent, so that it shows soon who does not read, */
     SYSTEM_HEARD = 65536      /* and so much that has come and waits to be heard */
 };
+
+#define NOT_KEPT "15" /* the error of a 0064 whose number, ten digits, is not kept */
 
 static struct link {
     int socket; /* -1: no link */
@@ -128,13 +131,15 @@ static void send_waiting(struct link *link)
         link->failed = strerror(errno);
 }
 
-/* A line for a frame: of a 0004 with the message and its error, of a 0005 with the message, and with the text of a 0050, of a 0061 with the
-   result's number. */
+/* A line for a frame: of a 0004 with the message and its error, and with the number of a 0064 that is not kept, of a 0005 with the message,
+   and with the text of a 0050, of a 0061 and a 0065 with the result's number. */
 static void say_sent(const struct link *link, const uint8_t *frame, size_t length)
 {
     const char *text = (const char *)frame, *data = text + HEADER;
     char more[80] = "";
-    if (memcmp(text + 4, "0004", 4) == 0)
+    if (memcmp(text + 4, "0004", 4) == 0 && memcmp(data + 4, NOT_KEPT, 2) == 0)
+        snprintf(more, sizeof more, " to %.4s, error %.2s, number %lu", data, data + 4, number_at(link->run + HEADER, NUMBER_LENGTH));
+    else if (memcmp(text + 4, "0004", 4) == 0)
         snprintf(more, sizeof more, " to %.4s, error %.2s", data, data + 4);
     else if (memcmp(text + 4, "0005", 4) == 0 && memcmp(data, "0050", 4) == 0)
         snprintf(more, sizeof more, " to %.4s \"%.*s\"", data, (int)(link->run_length - HEADER), (const char *)link->run + HEADER);
@@ -142,6 +147,8 @@ static void say_sent(const struct link *link, const uint8_t *frame, size_t lengt
         snprintf(more, sizeof more, " to %.4s", data);
     else if (memcmp(text + 4, "0061", 4) == 0)
         snprintf(more, sizeof more, " number %lu", result_number(frame, length));
+    else if (memcmp(text + 4, "0065", 4) == 0)
+        snprintf(more, sizeof more, " old result, number %lu", number_at(frame + OLD_NUMBER, NUMBER_LENGTH));
     say("session %td %s > %.4s%s", link - links, link->peer, text + 4, more);
 }
 

@@ -90,6 +90,19 @@ struct replayed replay_journal(int file, uint8_t table[SERIFLADDER_TABLE_SIZE], 
     return replayed;
 }
 
+/* ---- a table that was kept */
+
+/* docs/TABLE.md: where the places of tightenings begin and, behind them, the sessions. In a table from before tightenings were kept the
+   sessions stood where the places are now. */
+enum { EARLIER_SIZE = 16384, KEPT_COUNT = 12, PLACES = 1024, REGIONS = 8192, REGIONS_SIZE = SERIFLADDER_SESSIONS * 1024 };
+
+static void bring_up_to_date(uint8_t table[SERIFLADDER_TABLE_SIZE])
+{
+    table[KEPT_COUNT] = 0;
+    memmove(table + REGIONS, table + PLACES, REGIONS_SIZE);
+    memset(table + PLACES, 0, REGIONS - PLACES);
+}
+
 /* An opening of a session that is none is refused, and alters nothing; of a table that is not well formed the refusal is another. */
 bool table_is_formed(uint8_t table[SERIFLADDER_TABLE_SIZE])
 {
@@ -103,5 +116,9 @@ bool table_read(int file, uint8_t table[SERIFLADDER_TABLE_SIZE])
     size_t length = 0;
     for (ssize_t got = 1; got > 0 && length < SERIFLADDER_TABLE_SIZE; length += got > 0 ? (size_t)got : 0)
         got = read(file, table + length, SERIFLADDER_TABLE_SIZE - length);
-    return length == SERIFLADDER_TABLE_SIZE && read(file, &behind, 1) == 0 && table_is_formed(table);
+    if (length == EARLIER_SIZE)
+        bring_up_to_date(table);
+    else if (length != SERIFLADDER_TABLE_SIZE || read(file, &behind, 1) != 0)
+        return false;
+    return table_is_formed(table);
 }

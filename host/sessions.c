@@ -2,8 +2,6 @@
    holds the same; here it is kept so that the log has a line for each result that is lost, and for the status. */
 #include "host.h"
 
-#include <stdio.h>
-#include <stdlib.h>
 #include <string.h>
 
 enum {
@@ -11,7 +9,6 @@ enum {
     GIVEN_UP = 120,        /* so many ticks after a result was first sent it is given up */
     MESSAGE_LENGTH = 20,   /* of an acknowledge that counts */
     DATA = 20,             /* where a frame's data field begins */
-    NUMBER_LENGTH = 10,    /* of a result's number, which stands at the end of its frame */
     RESULT_LENGTH = 232,   /* of a result's frame, its NUL included */
     UNSENT_GREATEST = WAITING_GREATEST / RESULT_LENGTH + 1
 };
@@ -121,13 +118,6 @@ static void accepted(unsigned s, unsigned message)
     }
 }
 
-static unsigned long number_at(const uint8_t *digits, size_t count)
-{
-    char text[NUMBER_LENGTH + 1] = "";
-    memcpy(text, digits, count);
-    return strtoul(text, NULL, 10);
-}
-
 void session_sent(unsigned s, const uint8_t *frame, size_t length, bool waits)
 {
     struct session *session = &sessions[s];
@@ -148,6 +138,7 @@ void session_sent(unsigned s, const uint8_t *frame, size_t length, bool waits)
     }
 }
 
+/* It stands at the end of a 0061. */
 unsigned long result_number(const uint8_t *frame, size_t length)
 {
     return number_at(frame + length - 1 - NUMBER_LENGTH, NUMBER_LENGTH);

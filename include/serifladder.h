@@ -1,7 +1,8 @@
 /* Serifladder: Open Protocol sessions with line servers, proved. Six calls over bytes that the host lends.
 
    The library holds no memory, no socket and no clock of its own. The host lends a table, which keeps the four sessions from call to
-   call, and an output, into which a call writes what is to be sent. docs/HOST.md shows how a host drives the calls.
+   call, and the last 64 tightenings, whoever took them, for which a line server may ask by number (0064); and an output, into which a call
+   writes what is to be sent. docs/HOST.md shows how a host drives the calls.
 
    What the caller owes:
    - every run of bytes is given as a pointer and its length, and the pointer is valid for that length (for a length of 0 too it is not
@@ -22,7 +23,7 @@ extern "C" {
 
 /* Sizes: what is lent has at least so many bytes. Longer runs are taken, and not touched behind them. */
 enum {
-    SERIFLADDER_TABLE_SIZE = 16384,
+    SERIFLADDER_TABLE_SIZE = 32768,
     SERIFLADDER_OUTPUT_SIZE = 2048,
     SERIFLADDER_ANSWER_SIZE = 32
 };
@@ -72,7 +73,8 @@ enum {
 
 /* The six calls. Behind each stand the numbers that it may answer besides 0 and 10. */
 
-/* Begins a history with a settings record: all sessions closed, no identifier in force. Takes any bytes as a table. Answers 1, 9. */
+/* Begins a history with a settings record: all sessions closed, no identifier in force, no tightening kept. Takes any bytes as a table.
+   Answers 1, 9. */
 uint64_t serifladder_start(uint8_t *table, size_t table_length, const uint8_t *settings, size_t settings_length,
                            uint8_t *answer, size_t answer_length);
 
@@ -80,7 +82,8 @@ uint64_t serifladder_start(uint8_t *table, size_t table_length, const uint8_t *s
 uint64_t serifladder_open(uint8_t *table, size_t table_length, uint8_t *output, size_t output_length, uint64_t session,
                           uint8_t *answer, size_t answer_length);
 
-/* The link is gone: the session is closed and its notices with it; nothing is written. Answers 1 to 5. */
+/* The link is gone: the session is closed and its notices with it; nothing is written. The tightenings that are kept stay. Answers 1 to
+   5. */
 uint64_t serifladder_hang_up(uint8_t *table, size_t table_length, uint8_t *output, size_t output_length, uint64_t session,
                              uint8_t *answer, size_t answer_length);
 
@@ -93,8 +96,8 @@ uint64_t serifladder_bytes(uint8_t *table, size_t table_length, uint8_t *output,
 uint64_t serifladder_tick(uint8_t *table, size_t table_length, uint8_t *output, size_t output_length,
                           uint8_t *answer, size_t answer_length);
 
-/* The tool says a tightening or an identifier: exactly one house record. A tightening that is done has the next number.
-   Answers 1 to 3, 7, 8. */
+/* The tool says a tightening or an identifier: exactly one house record. A tightening that is done has the next number, and is kept under
+   it. Answers 1 to 3, 7, 8. */
 uint64_t serifladder_record(uint8_t *table, size_t table_length, uint8_t *output, size_t output_length,
                             const uint8_t *record, size_t record_length, uint8_t *answer, size_t answer_length);
 

@@ -91,10 +91,11 @@ def read_times(name):
 def read_table(path):
     """The lent table with which a journal begins."""
     with reading(path), open(path, "rb") as file:
-        table = file.read(lent_table.USED)
-    if len(table) < lent_table.USED or not table.startswith(lent_table.MARK):
-        raise Fault("%s is no table" % path)
-    return table
+        data = file.read(lent_table.SIZE + 1)
+    try:
+        return lent_table.read(data)
+    except ValueError:
+        raise Fault("%s is no table" % path) from None
 
 
 def copied(file):

@@ -102,8 +102,11 @@ class Picture:
     def heading(self):
         shown = self.notices()
         many = sum(1 for notice in shown if len(notice.seconds) > 1)
-        words = "%s, %d of them sent more than once; %d lost; %d refused" % (
-            count(len(shown), "notice"), many, sum(row.lost for row in self.rows), sum(1 for row in self.rows if row.refused))
+        losses = [row.lost for row in self.rows if row.lost]
+        fetched = sum(loss.fetched is not None for loss in losses)
+        words = "%s, %d of them sent more than once; %d lost%s; %d refused" % (
+            count(len(shown), "notice"), many, len(losses), ", %d of them fetched later" % fetched if fetched else "",
+            sum(1 for row in self.rows if row.refused))
         if self.has_times():
             words += "; from %s on" % time.strftime("%Y-%m-%d %H:%M:%S UTC", time.gmtime(next(row.time for row in self.rows if row.time)))
         if self.pages() > 1:

@@ -31,15 +31,19 @@ MESSAGES = {
     "0060": "subscribe to tightenings",
     "0062": "acknowledge of a tightening",
     "0063": "unsubscribe from tightenings",
+    "0064": "asks for an old tightening",
     "9999": "keep alive",
 }
 
 IDENTIFIER, TIGHTENED = "0052", "0061"  # the kinds of notice, by their MIDs
+FETCH, FETCHED = "0064", "0065"  # an old tightening is asked for by its number, and given as a reply: it is no notice
 SUBSCRIBES = {"0051": IDENTIFIER, "0060": TIGHTENED}
 UNSUBSCRIBES = {"0054": IDENTIFIER, "0063": TIGHTENED}
 ACKNOWLEDGES = {"0053": IDENTIFIER, "0062": TIGHTENED}
 MOST = {IDENTIFIER: 2, TIGHTENED: 8}  # notices of a kind that a session holds, the open one included
 REPEATED, GIVEN_UP = 20, 120  # ticks after the first copy
+
+FETCHED_NUMBER = openprotocol.LAYOUTS[openprotocol.OLD_RESULT, 1].places["number"]
 
 TOOL, CONTROLLER = -2, -1  # the rails; a session's is its number
 
@@ -95,7 +99,9 @@ def run_words(run, closes):
         notes = ["of %s" % count(run.length, "byte")]
     else:
         notes = [MESSAGES.get(word, "not named here")]
-        if word == "0050" and run.length > 20:
+        if word == FETCH and run.length == openprotocol.HEADER + openprotocol.NUMBER_DIGITS and head[20:].isdigit():
+            notes = ["asks for " + ("old tightening %d" % int(head[20:]) if int(head[20:]) else "the newest tightening")]
+        elif word in ("0050", FETCH) and run.length > 20:
             notes[0] += " " + text_bytes(head[20:]) + (" .." if run.length > len(head) else "")
         if int(head[:4]) != run.length:
             notes.append("says %d bytes and has %d" % (int(head[:4]), run.length))
@@ -128,8 +134,8 @@ def frame_words(frame):
         return "accepted: %04d" % fields["mid"]
     if mid == IDENTIFIER:
         return "identifier " + text_bytes(fields["identifier"].encode())
-    return "tightening %d, %s, %s, %s" % (fields["number"], text_bytes(fields["identifier"].encode()), torque(fields["torque"]),
-                                          verdict(fields["tightening_status"]))
+    return "%stightening %d, %s, %s, %s" % ("old " if mid == FETCHED else "", fields["number"], text_bytes(fields["identifier"].encode()),
+                                            torque(fields["torque"]), verdict(fields["tightening_status"]))
 
 
 # ---- notices
@@ -167,6 +173,17 @@ class Notice:
         if self.number:
             return "notice %d, %s: sent, and not acknowledged %s" % (self.number, self.event_words(), when)
         return "%s: waited, and was never sent; dropped %s" % (self.event_words(), when)
+
+
+@dataclass
+class Loss:
+    """What becomes of a notice that is lost: of a tightening the server may still ask by its number."""
+
+    words: str
+    fetched: int = None  # the second in which it got it so
+
+    def text(self):
+        return self.words + ("" if self.fetched is None else "; fetched at %d s" % self.fetched)
 
 
 @dataclass
@@ -306,7 +323,7 @@ class Row:
     caption: object  # a text, or what makes it when the row is drawn
     source: object  # the line that replay printed, or a record's kind and payload, or None
     link: bool = False  # no message, but a link that comes or goes
-    lost: bool = False  # no arrow, but what becomes of a notice
+    lost: Loss = None  # no arrow, but what becomes of a notice
     vain: bool = False  # an acknowledge that closes nothing
     refused: int = 0
     notice: Notice = None
@@ -371,6 +388,7 @@ class Ladder:
         self.message = Run(0)  # the run that ended last
         self.last = 0  # tightening number
         self.books = Books()
+        self.losses = [{} for _ in range(lent_table.SESSIONS)]  # of each session, by their numbers: tightenings that may still be kept
 
     def add(self, origin, target, word, caption, source, **more):
         if max(origin, target) >= 0:
@@ -396,15 +414,26 @@ class Ladder:
                 if lent.run():
                     self.runs[session] = lent.run()
         servers = ", ".join("server %d" % session for session in sorted(self.open)) or "none"
-        self.add(CONTROLLER, CONTROLLER, "table", "goes on from the part before: open %s, last number %d" % (servers, self.last), None)
+        self.add(CONTROLLER, CONTROLLER, "table", "goes on from the part before: open %s, last number %d, %s kept" % (
+            servers, self.last, count(len(lent_table.kept(table)), "tightening")), None)
 
     def meet_times(self, place):
         """The times that were noted up to a place in the journal."""
         while self.times and self.times[0][0] <= place:
             self.zero = self.times.popleft()[1] - self.second
 
-    def lose(self, session, caption):
-        self.add(session, session, "lost", caption, None, lost=True)
+    def lose(self, session, words, number=None):
+        """What is lost to a session; of a tightening with its number."""
+        loss = Loss(words)
+        self.add(session, session, "lost", loss.text, None, lost=loss)
+        if number is not None:
+            losses = self.losses[session]
+            losses[number] = loss
+            if len(losses) > lent_table.KEPT:
+                losses.pop(min(losses))
+
+    def lose_notice(self, notice, when):
+        self.lose(notice.session, notice.lost_words(when), notice.event if notice.kind == TIGHTENED else None)
 
     def take(self, piece):
         self.meet_times(piece.place)
@@ -414,7 +443,7 @@ class Ladder:
             self.second += 1
             closed = {int(line[0]) for line in piece.lines if line[2] == "C"}
             for notice in self.books.give_up(self.second, closed):
-                self.lose(notice.session, notice.lost_words("within %d s: given up" % GIVEN_UP))
+                self.lose_notice(notice, "within %d s: given up" % GIVEN_UP)
         elif refused:
             self.take_refused(piece, refused)
             return
@@ -448,6 +477,8 @@ class Ladder:
             self.add(CONTROLLER, CONTROLLER, "start", partial(start_words, payload), source)
             for session in sorted(self.open):
                 self.end_session(session, "when the controller was started anew")
+            for losses in self.losses:
+                losses.clear()  # a start keeps no tightening
             self.last = fields_of(SETTINGS, payload)["last"]
         elif OPEN <= record_kind < HANG_UP:
             self.add_open(record_kind - OPEN, source)
@@ -470,12 +501,8 @@ class Ladder:
         self.add(TOOL, CONTROLLER, tool_word(record_kind, payload), partial(tool_words, record_kind, payload, number, taken), source,
                  concerns=(*taken, *not_taken))
         for session in not_taken:
-            self.lose(session, "tightening %d: not taken; server %d has %d already" % (number, session, MOST[TIGHTENED]))
-        self.lose_replaced(replaced)
-
-    def lose_replaced(self, replaced):
-        for notice in replaced:
-            self.lose(notice.session, notice.lost_words("for a newer one"))
+            self.lose(session, "tightening %d: not taken; server %d has %d already" % (number, session, MOST[TIGHTENED]), number)
+        self.lose_all(replaced, "for a newer one")
 
     def take_bytes(self, session, part, source):
         """The row of a run stands where it ends."""
@@ -506,11 +533,11 @@ class Ladder:
     def end_session(self, session, when):
         self.open -= {session}
         self.runs.pop(session, None)
-        self.lose_all(session, self.books.drop(session), when)
+        self.lose_all(self.books.drop(session), when)
 
-    def lose_all(self, session, notices, when):
+    def lose_all(self, notices, when):
         for notice in notices:
-            self.lose(session, notice.lost_words(when))
+            self.lose_notice(notice, when)
 
     def take_line(self, line):
         session = int(line[0])
@@ -527,17 +554,24 @@ class Ladder:
         self.add(CONTROLLER, session, mid, partial(frame_words, frame), line)
         if mid == "0005":
             self.take_accepted(session, frame[20:24])
+        elif mid == FETCHED:
+            self.take_fetched(session, int(frame[FETCHED_NUMBER]))
 
     def take_accepted(self, session, mid):
         """What an accepted message changes in the books."""
         if mid in SUBSCRIBES:
             self.books.subscriptions[session][SUBSCRIBES[mid]] = Subscription(self.message.head[11:12] != b"1")
         elif mid in UNSUBSCRIBES:
-            self.lose_all(session, self.books.drop(session, (UNSUBSCRIBES[mid],)), "when the server unsubscribed")
+            self.lose_all(self.books.drop(session, (UNSUBSCRIBES[mid],)), "when the server unsubscribed")
         elif mid == "0003":
-            self.lose_all(session, self.books.drop(session), "when the server stopped")
+            self.lose_all(self.books.drop(session), "when the server stopped")
         elif mid == "0050":
-            self.lose_replaced(self.books.tell(IDENTIFIER, filled(self.message.head[20:]))[2])
+            self.lose_all(self.books.tell(IDENTIFIER, filled(self.message.head[20:]))[2], "for a newer one")
+
+    def take_fetched(self, session, number):
+        loss = self.losses[session].pop(number, None)
+        if loss:
+            loss.fetched = self.second
 
     def take_notice(self, session, frame, line):
         notice = self.books.send(session, frame, self.second)

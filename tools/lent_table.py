@@ -5,11 +5,16 @@ from dataclasses import dataclass
 
 from house_records import PAYLOADS, SCANNED, TIGHTENING
 
+SIZE = 32768
 MARK = b"SERIFLAD"
 LAST = slice(8, 12)  # the last tightening number, in what is shared
-PART = 1024  # bytes, of what is shared and of each session's region
+KEPT_COUNT = 12  # the byte that says how many tightenings are kept
+MEMORY, KEPT, PLACE = 1024, 64, PAYLOADS[TIGHTENING].size  # where their places begin, how many there are, the bytes of one
+SHARED, REGION = 8192, 1024  # bytes, of what is shared and of each session's region behind it
 SESSIONS = 4
-USED = PART * (1 + SESSIONS)  # the bytes that have a meaning
+USED = SHARED + REGION * SESSIONS  # the bytes that have a meaning
+
+EARLIER_SIZE = 16384  # of a table from before tightenings were kept: its regions stand where their places are now
 
 CLOSED, OPENED, STARTED = range(3)  # phases
 RUN_COUNT, RUN = slice(8, 10), slice(10, 55)  # the bytes that were received, and the first of them
@@ -24,12 +29,30 @@ def little(data):
     return int.from_bytes(data, "little")
 
 
+def read(data):
+    """The bytes that have a meaning of a table, or of an earlier one as they stand in one of today; ValueError where it is neither."""
+    if len(data) not in (SIZE, EARLIER_SIZE) or not data.startswith(MARK):
+        raise ValueError("it is no table")
+    table = bytearray(data[:USED])
+    if len(data) == EARLIER_SIZE:
+        table[KEPT_COUNT] = 0
+        table[MEMORY:MEMORY] = bytes(SHARED - MEMORY)
+    return bytes(table[:USED])
+
+
 def last_number(table):
     return little(table[LAST])
 
 
+def kept(table):
+    """The payloads of the tightenings that are kept, by their numbers, the oldest first."""
+    last = last_number(table)
+    places = {number: MEMORY + number % KEPT * PLACE for number in range(last + 1 - table[KEPT_COUNT], last + 1)}
+    return {number: table[at:at + PLACE] for number, at in places.items()}
+
+
 def regions(table):
-    return [Region(table[at:at + PART]) for at in range(PART, USED, PART)]
+    return [Region(table[at:at + REGION]) for at in range(SHARED, USED, REGION)]
 
 
 @dataclass

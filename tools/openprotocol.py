@@ -2,6 +2,7 @@
 read into named fields, or written of them, by layouts.
 
     message(60)                        0060, revision 1, as bytes with their NUL
+    fetch(1002)                        0064 for the result of that number
     Stream().take(received)            the runs that are whole by now
     read(run)                          a Frame: mid, revision, byte_12, fields
     write(5, {"mid": 60})              a run that the controller sends"""
@@ -17,7 +18,12 @@ REFUSED, ACCEPTED = 4, 5
 DOWNLOAD_IDENTIFIER = 50
 SUBSCRIBE_IDENTIFIERS, IDENTIFIER, ACKNOWLEDGE_IDENTIFIER, UNSUBSCRIBE_IDENTIFIERS = 51, 52, 53, 54
 SUBSCRIBE_RESULTS, RESULT, ACKNOWLEDGE_RESULT, UNSUBSCRIBE_RESULTS = 60, 61, 62, 63
+FETCH_RESULT, OLD_RESULT = 64, 65  # an old one, by its number
 KEEP_ALIVE = 9999
+
+NEWEST = 0  # asked for as a number: the newest result that is kept
+NOT_KEPT = 15  # the error where there is none of that number
+NUMBER_DIGITS = 10  # of a result's number
 
 # What the error of a 0004 means.
 ERRORS = {
@@ -27,6 +33,7 @@ ERRORS = {
     8: "an identifier over the net is not granted",
     9: "already subscribed to results",
     10: "not subscribed to results",
+    NOT_KEPT: "no such result is kept",
     96: "already started",
     97: "revision not supported",
     99: "unknown message",
@@ -36,6 +43,11 @@ ERRORS = {
 def message(mid, revision=b"001", byte_12=b" ", rest=b"        ", data=b""):
     """A message with its NUL; `rest` are bytes 13 to 20, which the controller does not read."""
     return b"%04d%04d" % (HEADER + len(data), mid) + revision + byte_12 + rest + data + b"\0"
+
+
+def fetch(number=NEWEST):
+    """The 0064 that asks for the result of that number."""
+    return message(FETCH_RESULT, data=b"%0*d" % (NUMBER_DIGITS, number))
 
 
 class Stream:
@@ -135,7 +147,21 @@ LAYOUTS = {
         Row(TEXT, TIME_SIZE, "time"),
         Row(TEXT, TIME_SIZE, "change_time"),
         Row(NUMBER, 1, "batch_status"),
-        Row(NUMBER, 10, "number"),
+        Row(NUMBER, NUMBER_DIGITS, "number"),
+    ),
+    (OLD_RESULT, 1): Layout(
+        NUMBERED,
+        Row(NUMBER, NUMBER_DIGITS, "number"),
+        Row(TEXT, TEXT_SIZE, "identifier"),
+        Row(NUMBER, 3, "parameter_set"),
+        Row(NUMBER, 4, "batch_counter"),
+        Row(NUMBER, 1, "tightening_status"),
+        Row(NUMBER, 1, "torque_status"),
+        Row(NUMBER, 1, "angle_status"),
+        Row(NUMBER, 6, "torque"),
+        Row(NUMBER, 5, "angle"),
+        Row(TEXT, TIME_SIZE, "time"),
+        Row(NUMBER, 1, "batch_status"),
     ),
     (KEEP_ALIVE, 1): Layout(PLAIN),
 }

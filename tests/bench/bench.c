@@ -39,6 +39,7 @@ enum {
     OUTPUT = SERIFLADDER_OUTPUT_SIZE,
     ANSWER = SERIFLADDER_ANSWER_SIZE,
     SESSIONS = SERIFLADDER_SESSIONS,
+    KEPT = 64,    /* tightenings, by the controller */
     FLOOD = 8192, /* bytes at once */
     REPEATS = 2001,
     ROUNDS_LEAST = 15,
@@ -182,6 +183,14 @@ static void prepare_started(unsigned i) { all_started(i, NULL); }
 static void prepare_identifiers(unsigned i) { all_started(i, "002000510011        "); }
 static void prepare_results(unsigned i) { all_started(i, "002000600011        "); }
 
+/* As many as are kept, numbers 1 to 64; nobody listens. */
+static void prepare_kept(unsigned i)
+{
+    all_started(i, NULL);
+    for (unsigned k = 0; k < KEPT; k++)
+        tighten(i);
+}
+
 static void prepare_queue(unsigned i)
 {
     all_started(i, "00200060001         ");
@@ -214,6 +223,8 @@ static void run_message_in_flood(unsigned i) { receive(i, 1, message_in_flood, F
 static void run_flood(unsigned i) { receive(i, 1, flood, FLOOD); }
 static void run_acknowledge(unsigned i) { SEND(i, 1, "00200062001         "); }
 static void run_download(unsigned i) { SEND(i, 1, "00290050001         BODY 4712"); }
+static void run_newest(unsigned i) { SEND(i, 1, "00300064001         0000000000"); }
+static void run_oldest(unsigned i) { SEND(i, 1, "00300064001         0000000001"); }
 static void run_tick(unsigned i) { tick(i); }
 static void run_tighten(unsigned i) { tighten(i); }
 
@@ -222,7 +233,7 @@ struct call_kind {
     void (*prepare)(unsigned);
     void (*run)(unsigned);
     unsigned times; /* that often from one state */
-    uint64_t written; /* what the last call writes, as document 01 has it */
+    uint64_t written; /* what the last call writes, as documents 01 and 02 have it */
 };
 
 static const struct call_kind CALL_KINDS[] = {
@@ -233,9 +244,13 @@ static const struct call_kind CALL_KINDS[] = {
     { "bytes: 8 KB without NUL", prepare_started, run_flood, 8, 0 },
     { "bytes: acknowledge that sends the next", prepare_queue, run_acknowledge, 7, 236 },
     { "bytes: 0050 to four subscribers", prepare_identifiers, run_download, 8, 29 + 4 * 50 },
+    { "bytes: 0064, the newest of 64 kept", prepare_kept, run_newest, 8, 123 },
+    { "bytes: 0064, the oldest of 64 kept", prepare_kept, run_oldest, 8, 123 },
     { "tick, nothing open", prepare_started, run_tick, 12, 0 },
     { "tick, copies due on four sessions", prepare_due, run_tick, 1, 4 * 236 },
     { "tool record to four sessions", prepare_results, run_tighten, 8, 4 * 236 },
+    { "tool record to nobody, none kept", prepare_started, run_tighten, 8, 0 },
+    { "tool record to nobody, 64 kept", prepare_kept, run_tighten, 8, 0 },
 };
 
 enum { CALL_KIND_COUNT = sizeof CALL_KINDS / sizeof CALL_KINDS[0] };

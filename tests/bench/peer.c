@@ -1,5 +1,6 @@
 /* A peer for speed: what the bench holds the product's time against. Each call works in place on the lent table, which is a struct; a frame
-   is built once for all sessions; a held result is kept as the bytes that are sent; bytes are tested and copied a word at a time.
+   is built once for all sessions; a held result is kept as the bytes that are sent; an 0061's are made where the memory keeps them, and an
+   0065 is put together out of those; bytes are tested and copied a word at a time.
 
    A table is well formed when its mark stands and every count is within its range. It stands any bytes as a table. */
 #include "peer.h"
@@ -10,7 +11,7 @@
 
 enum {
     SESSIONS = 4,
-    TABLE_BYTES = 16384,
+    TABLE_BYTES = 32768,
     OUTPUT_BYTES = 2048,
     ANSWER_BYTES = 32,
 
@@ -19,6 +20,7 @@ enum {
     GIVE_UP_TICKS = 120,
     RESULTS_HELD = 8,
     IDENTIFIERS_HELD = 2,
+    RESULTS_KEPT = 64,
 
     RUN_KEPT = 45,
     RUN_GREATEST = 9999,
@@ -28,6 +30,8 @@ enum {
     TIME = 19,
     CONTROLLER = 37,    /* fields 01 to 03 of 0002 and 0061 */
     RESULT = 211,       /* the data field of 0061 */
+    OLD_RESULT = 98,    /* that of 0065 */
+    DIGITS = 10,        /* of a result's number, there and in 0064 */
     PARTS = 81          /* parts 2 to 4 of 0052 revision 2 */
 };
 
@@ -72,7 +76,9 @@ struct IN_TABLE table {
     uint8_t granted;
     uint8_t controller[CONTROLLER];
     uint8_t in_force[TEXT];
+    uint8_t kept_count; /* results that are kept: those of the last numbers, each at its number's place */
     struct session sessions[SESSIONS];
+    uint8_t kept[RESULTS_KEPT][RESULT];
 };
 
 static_assert(sizeof(struct table) <= TABLE_BYTES, "the table fits what is lent");
@@ -295,6 +301,27 @@ static void make_result(uint8_t *result, const struct table *table, const uint8_
     put_10(result + 201, table->last);
 }
 
+/* What 0065 tells of a result, where 0061 has it. The field numbers stand in the bytes that it begins with. */
+static uint8_t *put_old_result(uint8_t *at, unsigned s, const uint8_t *result)
+{
+    static const char FRAME[HEADER + OLD_RESULT + 1] =
+        "01180065001         01          02                         03   04    05 06 07 08      09     10                   11 ";
+    at = put_record(at, HEADER + OLD_RESULT + 1, 256 + s);
+    memcpy(at, FRAME, HEADER + OLD_RESULT + 1);
+    memcpy(at + 22, result + 201, DIGITS);
+    memcpy(at + 34, result + 39, TEXT);
+    memcpy(at + 61, result + 70, 3);
+    memcpy(at + 66, result + 81, 4);
+    at[72] = result[87];
+    at[75] = result[90];
+    at[78] = result[93];
+    memcpy(at + 81, result + 120, 6);
+    memcpy(at + 89, result + 149, 5);
+    memcpy(at + 96, result + 156, TIME);
+    at[117] = result[198];
+    return at + HEADER + OLD_RESULT + 1;
+}
+
 /* ---- notices */
 
 static const uint8_t *open_notice(const struct session *session, enum kind kind)
@@ -365,10 +392,12 @@ static uint8_t *offer_result(uint8_t *at, unsigned s, struct session *session, c
     return lane->count > 1 ? at : put_result(at, s, lane, result);
 }
 
+/* The result is made in its number's place, which was the oldest's. */
 static uint8_t *tightened(uint8_t *at, struct table *table, const uint8_t *payload, uint64_t *taken)
 {
-    uint8_t result[RESULT];
     table->last += 1;
+    table->kept_count += table->kept_count < RESULTS_KEPT;
+    uint8_t *result = table->kept[table->last % RESULTS_KEPT];
     make_result(result, table, payload, is_spaces(payload) ? table->in_force : payload);
     for (unsigned s = 0; s < SESSIONS; s++)
         if (gets(&table->sessions[s], TIGHTENINGS))
@@ -453,6 +482,30 @@ static uint8_t *download(uint8_t *at, unsigned s, struct table *table, const str
     return identified(accept(at, s, message->bytes + 4), table, identifier, &taken);
 }
 
+/* The number of ten digits, or -1 where one is none. */
+static int64_t number_of(const uint8_t *digits)
+{
+    if ((above(word(digits) ^ 0x30 * EACH, 9 * EACH) | above(word(digits + 2) ^ 0x30 * EACH, 9 * EACH)) != 0)
+        return -1;
+    return (int64_t)decimal(four(digits)) * 1000000 + (int64_t)decimal(four(digits + 4)) * 100 + (digits[8] - '0') * 10 + (digits[9] - '0');
+}
+
+static uint8_t *fetch(uint8_t *at, unsigned s, const struct table *table, const struct message *message)
+{
+    const uint8_t *mid = message->bytes + 4;
+    if (message->length != HEADER + DIGITS)
+        return refuse_message(at, s, mid, 1);
+    if (message->revision != 1)
+        return refuse_message(at, s, mid, 97);
+    int64_t number = number_of(message->bytes + HEADER);
+    if (number < 0)
+        return refuse_message(at, s, mid, 1);
+    uint64_t age = number == 0 ? 0 : (uint64_t)table->last - (uint64_t)number; /* of one above the last it is huge */
+    if (age >= table->kept_count)
+        return refuse_message(at, s, mid, 15);
+    return put_old_result(at, s, table->kept[(table->last - age) % RESULTS_KEPT]);
+}
+
 static uint8_t *acknowledge(uint8_t *at, unsigned s, struct session *session, enum kind kind, const struct message *message)
 {
     return message->length == HEADER && session->control.lane[kind].count > 0 ? next_notice(at, s, session, kind) : at;
@@ -464,7 +517,7 @@ static uint8_t *stop(uint8_t *at, unsigned s, struct session *session, const uin
     return accept(at, s, mid);
 }
 
-/* A message of 20 bytes in a started session, but for the acknowledges, 0001 and 0050. */
+/* A message of 20 bytes in a started session, but for the acknowledges and 0001. */
 static uint8_t *plain_message(uint8_t *at, unsigned s, struct session *session, unsigned mid, const struct message *message)
 {
     switch (mid) {
@@ -498,6 +551,8 @@ static uint8_t *message_when_started(uint8_t *at, unsigned s, struct table *tabl
         return acknowledge(at, s, session, IDENTIFIERS, message);
     case 62:
         return acknowledge(at, s, session, TIGHTENINGS, message);
+    case 64:
+        return fetch(at, s, table, message);
     case 3: case 51: case 54: case 60: case 63: case 9999:
         if (message->length != HEADER)
             return refuse_message(at, s, mid, 1);
@@ -601,7 +656,7 @@ static bool is_formed(const struct table *table)
         STARTED, IDLE_LIMIT - 1,
         { { NO_ACKNOWLEDGE, GIVE_UP_TICKS - 1, IDENTIFIERS_HELD }, { NO_ACKNOWLEDGE, GIVE_UP_TICKS - 1, RESULTS_HELD } }
     };
-    uint64_t bad = table->mark ^ MARK;
+    uint64_t bad = (table->mark ^ MARK) | (table->kept_count > RESULTS_KEPT) | (table->kept_count > table->last);
     for (unsigned s = 0; s < SESSIONS; s++) {
         const struct session *session = &table->sessions[s];
         bad |= above(word(&session->control), word(&LIMITS));
@@ -653,6 +708,7 @@ uint64_t peer_start(uint8_t *lent, size_t table_length, const uint8_t *settings,
     put_2(table->controller + 8, payload[2]);
     memcpy(table->controller + 12, payload + 4, TEXT);
     memset(table->in_force, ' ', TEXT);
+    table->kept_count = 0;
     for (unsigned s = 0; s < SESSIONS; s++) {
         clear_session(&table->sessions[s], CLOSED);
         table->sessions[s].first = 0;

@@ -1,4 +1,4 @@
-/* The rules of document 01 a third time, written for speed: the same six calls as independent.h, over a table of its own making. */
+/* The rules of documents 01 and 02 a third time, written for speed: the same six calls as independent.h, over a table of its own making. */
 #ifndef PEER_H
 #define PEER_H
 

@@ -5,7 +5,7 @@
 
    Both libraries get the same calls, now the one first and now the other. After each the
    four numbers, the returned number and the output bytes must be equal; output past the
-   written bytes, the table past 16,384 and the answer past 32 must be untouched, and a
+   written bytes, the table past 32,768 and the answer past 32 must be untouched, and a
    refused call must alter nothing. Between the history's calls refused ones are tried:
    every slice too short, a table without its mark, sessions far too high, slices that are
    not exactly one record. So are pieces longer than a house record can hold; the
@@ -27,7 +27,7 @@
 #include <string.h>
 
 enum {
-    TABLE = 16384,
+    TABLE = 32768,
     OUTPUT = 2048,
     ANSWER = 32,
     SPARE = 64, /* room behind each lent slice, filled with MARK */
@@ -153,7 +153,7 @@ static void check_side(const struct side *side, const struct call *call)
     if (refused && (answered(side, 1) | answered(side, 2) | answered(side, 3)) != 0)
         different(call, "refused, but consumed, written or taken is not 0");
     if (!same(side->table, side->table_before, refused ? 0 : TABLE, sizeof side->table))
-        different(call, refused ? "refused, but the table altered" : "table past 16,384 touched");
+        different(call, refused ? "refused, but the table altered" : "table past 32,768 touched");
     size_t written = refused ? 0 : (size_t)answered(side, 2);
     if (written > OUTPUT)
         different(call, "more written than lent");

@@ -1,5 +1,5 @@
 /* Tables of garbage that is near: the tables of real histories with a few bytes altered, mostly where the control of a
-   session stands, and further calls over them. For the independent implementation, to be run under the sanitizers; built
+   session or of the memory stands, and further calls over them. For the independent implementation, to be run under the sanitizers; built
    with -DPREFIX=serifladder for the product.
 
        garbage < histories
@@ -8,9 +8,10 @@
    independent implementation, in tests/README.md; both are said again here. A refused call alters no byte of table or
    output; one that is done leaves the output past its written bytes, and a table that is well formed. Pages that may not
    be touched lie behind all that is lent, and before the table. The product's calls are made over a twin of the table too,
-   which has something else where a table has no meaning: in the lanes of sessions that are not started. They answer and
-   write the same. Exit status 0: all so, and a count over its bound in a started, subscribed session was met often enough,
-   and so was a session with such lanes that started. */
+   which has something else where a table has no meaning: in the lanes of sessions that are not started, and in the places
+   of the memory that keep nothing. They answer and write the same. Exit status 0: all so, and what is to be met was met often
+   enough: a count over its bound in a started, subscribed session and in the memory, a session with such lanes that started,
+   and an 0065 out of a memory with such places. */
 #define _DEFAULT_SOURCE /* MAP_ANONYMOUS */
 #include "../independent/independent.h"
 
@@ -39,18 +40,23 @@ enum {
     KINDS = 2,
     CALLS_ASIDE = 4,
     PAGE = 4096,
-    LEAST_OVER = 1000, /* calls over a table with a count over its bound in a started, subscribed session */
+    LEAST_OVER = 1000, /* calls over a table with a count over its bound in a started, subscribed session, or in the memory */
     LEAST_NEAR = 5000, /* calls over an altered table that is well formed */
-    LEAST_TWIN = 100   /* sessions that started where the twin had other lanes */
+    LEAST_OLD = 300,   /* of these, answered by an 0065 */
+    LEAST_TWIN = 100   /* sessions that started where the twin had other lanes, and 0065 where its memory had other places */
 };
 
-static const unsigned HELD_AT_MOST[KINDS] = { 2, 8 };
+static const unsigned HELD_AT_MOST[KINDS] = { 2, 8 }, KEPT_AT_MOST = 64;
 
 /* ---- where a table's control stands, and which tables are well formed */
 
+/* More kept than may be, or than there were numbers: of neither library is that well formed. */
+static bool kept_over_its_bound(const uint8_t *table);
+
 #ifdef PREFIX
 
-enum { USED = 5120, MARK_SIZE = 8, FIRST_SESSION = 1024, SESSION_SIZE = 1024, RUN_COUNT = 8, CONTROL_SIZE = 10, SHARED_SIZE = 81 };
+enum { USED = 12288, MARK_SIZE = 8, FIRST_SESSION = 8192, SESSION_SIZE = 1024, RUN_COUNT = 8, CONTROL_SIZE = 10, SHARED_SIZE = 81 };
+enum { LAST = 8, KEPT_COUNT = 12, MEMORY = 1024, PLACE = 106 };
 static const unsigned CONTROL[CONTROL_SIZE] = { 0, 1, RUN_COUNT, RUN_COUNT + 1, 56, 57, 58, 128, 129, 130 };
 static const unsigned SUBSCRIBED[KINDS] = { 56, 128 }, COUNT[KINDS] = { 58, 130 };
 
@@ -72,7 +78,27 @@ static bool session_formed(const uint8_t *session)
 
 static bool shared_formed(const uint8_t *table)
 {
-    return memcmp(table, "SERIFLAD", MARK_SIZE) == 0;
+    return memcmp(table, "SERIFLAD", MARK_SIZE) == 0 && !kept_over_its_bound(table);
+}
+
+static void alter(uint8_t *from, const uint8_t *to, unsigned (*any_below)(unsigned))
+{
+    memset(from, (int)any_below(256), (size_t)(to - from));
+}
+
+/* Something else behind the control, in the places of numbers that are not kept, and behind the last place. */
+static void alter_memory(uint8_t *table, unsigned (*any_below)(unsigned))
+{
+    uint8_t *places = table + MEMORY;
+    alter(table + KEPT_COUNT + 1, table + 16, any_below);
+    alter(table + 49, table + 56, any_below);
+    alter(table + SHARED_SIZE, places, any_below);
+    for (unsigned place = 0; place < KEPT_AT_MOST; place++) {
+        unsigned age = (four_bytes(table + LAST) - place) % KEPT_AT_MOST;
+        if (age >= table[KEPT_COUNT])
+            alter(places + place * PLACE, places + (place + 1) * PLACE, any_below);
+    }
+    alter(places + KEPT_AT_MOST * PLACE, table + FIRST_SESSION, any_below);
 }
 
 /* Other lanes, well formed, for sessions that are not started. */
@@ -91,7 +117,8 @@ static void alter_lanes(uint8_t *session, unsigned (*any_below)(unsigned))
 
 #else
 
-enum { USED = 7254, MARK_SIZE = 8, FIRST_SESSION = 66, SESSION_SIZE = 1797, RUN_COUNT = 2, CONTROL_SIZE = 14, SHARED_SIZE = 66 };
+enum { USED = 13528, MARK_SIZE = 8, FIRST_SESSION = 66, SESSION_SIZE = 1797, RUN_COUNT = 2, CONTROL_SIZE = 14, SHARED_SIZE = 66 };
+enum { LAST = 37, KEPT_COUNT = 7254, OLDEST = 7255, MEMORY = 7256, PLACE = 98 };
 enum { TEXT = 25, RESULT = 211 };
 static const unsigned CONTROL[CONTROL_SIZE] = { 0, 1, RUN_COUNT, RUN_COUNT + 1, 49, 50, 51, 52, 53, 54, 55, 56, 57, 58 };
 static const unsigned SUBSCRIBED[KINDS] = { 49, 54 }, COUNT[KINDS] = { 52, 57 };
@@ -128,13 +155,25 @@ static bool session_formed(const uint8_t *session)
     return is_text(session + 59, TEXT * session[COUNT[0]]) && is_text(session + 109, RESULT * session[COUNT[1]]);
 }
 
+/* Until all places are used the oldest stands in the first. */
+static bool memory_formed(const uint8_t *table)
+{
+    return !kept_over_its_bound(table) && table[OLDEST] < KEPT_AT_MOST
+        && (table[OLDEST] == 0 || table[KEPT_COUNT] == KEPT_AT_MOST) && is_text(table + MEMORY, PLACE * table[KEPT_COUNT]);
+}
+
 static bool shared_formed(const uint8_t *table)
 {
-    return memcmp(table, "op-indep", MARK_SIZE) == 0 && table[8] + 256 * table[9] <= 9999 && table[10] <= 99
+    return memcmp(table, "op-indep", MARK_SIZE) == 0 && memory_formed(table) && table[8] + 256 * table[9] <= 9999 && table[10] <= 99
         && table[11] <= 1 && is_text(table + 12, TEXT) && is_text(table + 41, TEXT);
 }
 
 #endif
+
+static bool kept_over_its_bound(const uint8_t *table)
+{
+    return table[KEPT_COUNT] > KEPT_AT_MOST || table[KEPT_COUNT] > four_bytes(table + LAST);
+}
 
 static bool table_formed(const uint8_t *table)
 {
@@ -160,7 +199,7 @@ static bool count_over_its_bound(const uint8_t *table)
 static uint8_t *table, *output, *answer, *given; /* what is lent */
 static uint8_t before[TABLE], output_before[OUTPUT], kept[TABLE];
 static uint64_t dice;
-static unsigned long numbers[11], aside_count, over_count, near_count;
+static unsigned long numbers[11], aside_count, over_count, kept_over_count, near_count, old_count;
 
 static unsigned roll(unsigned below)
 {
@@ -194,6 +233,12 @@ static uint64_t answered(unsigned which)
     for (unsigned b = 8; b > 0; b--)
         value = value << 8 | answer[8 * which + b - 1];
     return value;
+}
+
+/* Did the call send an 0065? It is the reply to a message, and alone. */
+static bool sent_old_result(void)
+{
+    return answered(2) == 4 + 119 && memcmp(output + 4, "01180065", 8) == 0;
 }
 
 static uint64_t make_call(const struct asked *asked)
@@ -241,6 +286,21 @@ static void checked_call(const struct asked *asked)
 
 /* ---- garbage */
 
+/* An 0064 for the newest, for a number about those that may be kept, or for one in which a byte is no digit; of a session
+   that is started, where there is one. */
+static struct asked a_fetch(void)
+{
+    static char text[] = "00300064            0000000000";
+    uint64_t session = roll(SESSIONS);
+    for (unsigned i = 0; i < SESSIONS && table[FIRST_SESSION + session * SESSION_SIZE] != 2; i++)
+        session = (session + 1) % SESSIONS;
+    uint64_t number = (uint64_t)four_bytes(table + LAST) + 1 - roll(67);
+    snprintf(text + 20, sizeof text - 20, "%010llu", roll(4) && number < UINT64_C(10000000000) ? (unsigned long long)number : 0);
+    if (roll(8) == 0)
+        text[20 + roll(10)] = ' ';
+    return (struct asked){ BYTES, session, (const uint8_t *)text, sizeof text };
+}
+
 /* To a session that is opened and not started often the one that starts it. */
 static struct asked a_message(uint64_t session)
 {
@@ -273,7 +333,7 @@ static struct asked a_scan(void)
 static struct asked any_call(void)
 {
     uint64_t session = roll(4);
-    switch (roll(8)) {
+    switch (roll(10)) {
     case 0:
         return (struct asked){ OPEN, session, NULL, 0 };
     case 1:
@@ -283,7 +343,9 @@ static struct asked any_call(void)
     case 3:
         return a_scan();
     case 4:
+        return a_fetch();
     case 5:
+    case 6:
         return (struct asked){ TICK, 0, NULL, 0 };
     default:
         return a_message(session);
@@ -302,10 +364,22 @@ static void spoil_run(uint8_t *session)
         session[RUN_COUNT + 2 + roll(45)] = 0;
 }
 
+/* A count of the memory at an edge, or what stands behind it (the independent one's place of the oldest), or a last number that
+   may be below it. */
+static void spoil_memory(void)
+{
+    static const uint8_t COUNTS[] = { 0, 1, 2, 7, 62, 63, 64, 64, 65, 66, 128, 255 };
+    table[KEPT_COUNT + roll(2)] = COUNTS[roll(sizeof COUNTS)];
+    if (roll(3) == 0) {
+        memset(table + LAST, 0, 4);
+        table[LAST] = roll(2) ? table[KEPT_COUNT] : (uint8_t)(table[KEPT_COUNT] - 1 + roll(3));
+    }
+}
+
 /* Another value for a byte: near its own, at an edge of what controls and texts hold, or any. */
 static uint8_t another(uint8_t byte)
 {
-    static const uint8_t EDGES[] = { 0, 1, 2, 3, 8, 9, 14, 15, 16, 17, 31, 32, 39, 40, 99, 100, 119, 120, 126, 127, 255 };
+    static const uint8_t EDGES[] = { 0, 1, 2, 3, 8, 9, 14, 15, 16, 17, 31, 32, 39, 40, 63, 64, 65, 99, 100, 119, 120, 126, 127, 255 };
     switch (roll(4)) {
     case 0:
         return (uint8_t)roll(256);
@@ -316,8 +390,8 @@ static uint8_t another(uint8_t byte)
     }
 }
 
-/* Mostly a byte of a session's control; else one of what all share, a run, or any byte that is used; seldom everything, or
-   everything but the mark. */
+/* Mostly a byte of a session's control; else one of what all share, the memory's control, a run, or any byte that is used;
+   seldom everything, or everything but the mark. */
 static void spoil(void)
 {
     unsigned sort = roll(200);
@@ -328,10 +402,12 @@ static void spoil(void)
     }
     for (unsigned i = roll(3) + 1; i > 0; i--) {
         uint8_t *session = table + FIRST_SESSION + roll(SESSIONS) * SESSION_SIZE;
-        unsigned where = roll(12);
+        unsigned where = roll(14);
         uint8_t *byte = where == 0 ? table + roll(USED) : where == 1 ? table + roll(SHARED_SIZE) : session + CONTROL[roll(CONTROL_SIZE)];
         if (where == 2)
             spoil_run(session);
+        else if (where == 3 || where == 4)
+            spoil_memory();
         else
             *byte = another(*byte);
     }
@@ -341,7 +417,7 @@ static void spoil(void)
 
 static uint8_t twin[TABLE], with_twin[OUTPUT], answer_before[ANSWER];
 static bool twin_stands;
-static unsigned long twin_starts;
+static unsigned long twin_starts, twin_fetches;
 
 static void swap_twin(void)
 {
@@ -356,8 +432,11 @@ static void begin_twin(void)
 {
     twin_stands = table_formed(table);
     memcpy(twin, table, TABLE);
-    for (unsigned s = 0; twin_stands && s < SESSIONS; s++)
+    if (!twin_stands)
+        return;
+    for (unsigned s = 0; s < SESSIONS; s++)
         alter_lanes(twin + FIRST_SESSION + s * SESSION_SIZE, roll);
+    alter_memory(twin, roll);
 }
 
 /* The call that was made over the table, over its twin. */
@@ -367,20 +446,22 @@ static void call_twin(const struct asked *asked)
         return;
     for (unsigned s = 0; s < SESSIONS; s++)
         twin_starts += twin[FIRST_SESSION + s * SESSION_SIZE] == 1 && table[FIRST_SESSION + s * SESSION_SIZE] == 2;
+    twin_fetches += sent_old_result();
     memcpy(with_twin, output, OUTPUT);
     memcpy(answer_before, answer, ANSWER);
     memcpy(output, output_before, OUTPUT);
     swap_twin();
     uint64_t number = make_call(asked);
     if (memcmp(answer, answer_before, ANSWER) != 0 || memcmp(output, with_twin, OUTPUT) != 0)
-        wrong("otherwise where the lanes of a session that is not started are others", number);
+        wrong("otherwise where the lanes of a session that is not started, or places that keep nothing, are others", number);
     swap_twin();
 }
 
 static bool twins_enough(void)
 {
-    printf("garbage: %lu sessions started where a twin of the table had other lanes\n", twin_starts);
-    return twin_starts >= LEAST_TWIN;
+    printf("garbage: %lu sessions started where a twin of the table had other lanes, %lu 0065 sent where its memory had other places\n",
+           twin_starts, twin_fetches);
+    return twin_starts >= LEAST_TWIN && twin_fetches >= LEAST_TWIN;
 }
 
 #else
@@ -400,9 +481,11 @@ static void aside(const struct asked *asked)
     for (unsigned i = 0; i < CALLS_ASIDE; i++) {
         struct asked call = i == 0 && asked->what != START ? *asked : any_call();
         over_count += count_over_its_bound(table);
+        kept_over_count += kept_over_its_bound(table);
         near_count += table_formed(table);
         aside_count += 1;
         checked_call(&call);
+        old_count += sent_old_result();
         call_twin(&call);
     }
     memcpy(table, kept, TABLE);
@@ -428,7 +511,9 @@ int main(void)
     given = fenced(2 * PAYLOAD_GREATEST);
     serve_input(serve_history);
     printf("garbage: %lu calls over altered tables: %lu of them well formed, %lu with a count over its bound in a\n"
-           "started, subscribed session; in all %lu done, %lu answered 2, %lu answered 5 or 6, no crash\n",
-           aside_count, near_count, over_count, numbers[0], numbers[2], numbers[5] + numbers[6]);
-    return !twins_enough() || over_count < LEAST_OVER || near_count < LEAST_NEAR;
+           "started, subscribed session, %lu with one in the memory, %lu answered by an 0065; in all %lu done, %lu answered 2,\n"
+           "%lu answered 5 or 6, no crash\n",
+           aside_count, near_count, over_count, kept_over_count, old_count, numbers[0], numbers[2], numbers[5] + numbers[6]);
+    return !twins_enough() || over_count < LEAST_OVER || kept_over_count < LEAST_OVER || near_count < LEAST_NEAR
+        || old_count < LEAST_OLD;
 }

@@ -30,7 +30,7 @@ SOURCE = os.path.join(HERE, "..", "independent", "independent.c")
 # A function that ends without its answer is no program, and what nobody has written is no lucky zero.
 FLAGS = ["-std=c11", "-O1", "-Werror=return-type", "-ftrivial-auto-var-init=pattern", "-I", os.path.dirname(SOURCE)]
 SANITIZE = ["-fsanitize=address,undefined", "-fno-sanitize-recover=all"]
-SECONDS = 6  # of the processor: more than what all of it needs
+SECONDS = 10  # of the processor: more than what all of it needs
 GARBAGE_HISTORIES = 100
 
 OTHERWISE = {"<": ["<=", ">"], "<=": ["<", "=="], ">": [">=", "<"], ">=": [">", "=="], "==": ["!="], "!=": ["=="], "&&": ["||"],

@@ -96,6 +96,7 @@ static uint64_t tighten(size_t length)
 /* A byte less than the header's size is refused with the number that is named there. */
 static void sizes(void)
 {
+    expect("the table's size", SERIFLADDER_TABLE_SIZE, 32768);
     uint8_t settings[SERIFLADDER_RECORD_HEADER + SETTINGS_PAYLOAD];
     write_header(settings, SETTINGS_PAYLOAD, SERIFLADDER_SETTINGS);
     memset(settings + 8, ' ', 25);
@@ -123,6 +124,7 @@ static void sizes(void)
 static void history(void)
 {
     static const char STARTED[] = "00200001001         ", IDENTIFIERS[] = "00200051001         ";
+    static const char NEWEST[] = "00300064001         0000000000";
     const uint64_t s = SERIFLADDER_SESSIONS - 1;
     expect_answer("settings with cell 10000", start(10000, 0), SERIFLADDER_SETTINGS_BAD, 0, 0, 0);
     expect_answer("the start", start(9999, UINT32_MAX - 1), SERIFLADDER_DONE, 0, 0, 0);
@@ -146,6 +148,8 @@ static void history(void)
     expect_answer("a record cut", tighten(SERIFLADDER_RECORD_HEADER + TIGHTENING_PAYLOAD - 1), SERIFLADDER_TOOL_RECORD_BAD, 0, 0, 0);
     expect_answer("the last tightening", tighten(SERIFLADDER_RECORD_HEADER + TIGHTENING_PAYLOAD), SERIFLADDER_DONE, 0, 0, 0);
     expect_answer("one more", tighten(SERIFLADDER_RECORD_HEADER + TIGHTENING_PAYLOAD), SERIFLADDER_LAST_NUMBER_REACHED, 0, 0, 0);
+    expect_answer("0064", bytes(s, NEWEST, sizeof NEWEST), SERIFLADDER_DONE, sizeof NEWEST, SERIFLADDER_RECORD_HEADER + 119, 0);
+    expect_record("0065", SERIFLADDER_FRAME + s, 119);
 
     for (unsigned tick = 1; tick < 15; tick++)
         expect_answer("a tick", serifladder_tick(TABLE, OUTPUT, ANSWER), SERIFLADDER_DONE, 0, 0, 0);

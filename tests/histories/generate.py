@@ -6,8 +6,8 @@
 The history is aimed at deep states. It is made of stretches, each of one sort, so that
 long orderly ones (which reach clocks of 120 and full queues) alternate with disorder.
 The generator keeps a rough idea of what stands at the other end (is the session up, how
-long was it silent) to stay in deep states; it does not know the rules, and its idea
-may be wrong. The same seed always gives the same history.
+long was it silent, which tightenings are kept) to stay in deep states; it does not know the
+rules, and its idea may be wrong. The same seed always gives the same history.
 
 --framed writes those of COUNT seeds, SEED and on, as the programs of tests/compare read them."""
 
@@ -25,8 +25,8 @@ from openprotocol import message  # noqa: E402
 
 LONG_EVERY = 25  # of as many seeds one gives a history three times as long, in which a whole queue is given up
 
-KNOWN = (1, 3, 50, 51, 53, 54, 60, 62, 63, 9999)
-OTHERS = (0, 2, 4, 5, 6, 10, 49, 52, 55, 59, 61, 64, 65, 70, 71, 72, 73, 100, 999, 1001,
+KNOWN = (1, 3, 50, 51, 53, 54, 60, 62, 63, 64, 9999)
+OTHERS = (0, 2, 4, 5, 6, 10, 49, 52, 55, 59, 61, 65, 66, 70, 71, 72, 73, 100, 999, 1001,
           1234, 5000, 5001, 5100, 6000, 9990, 9998)
 REVISIONS = (b"001", b"000", b"   ", b"002", b"003", b"004", b"010", b"011", b"100", b"101",
              b"200", b"257", b"999")
@@ -35,6 +35,7 @@ BAD_REVISIONS = (b"0  ", b"  1", b"00 ", b" 01", b"1  ", b"0 1", b"00a", b"/00",
                  b"\xb0\xb01", b"  \x1f")
 NO_DIGITS = (0x20, 0x2F, 0x3A, 0x3B, 0x3C, 0x3D, 0x3E, 0x3F, 0x2B, 0x2D, 0x41, 0xB0, 0x1F)
 TICK_RECORD = record(TICK)
+KEPT = 64  # tightenings, by the controller
 
 
 class Session:
@@ -55,6 +56,7 @@ class History:
         self.sessions = [Session() for _ in range(4)]
         self.manner = "whole"  # how messages are cut into records
         self.serial = 0
+        self.last = self.kept = 0  # the last number, as it is believed to be, and how many are kept
 
     # ---- small chances
 
@@ -122,8 +124,10 @@ class History:
         return PAYLOADS[SETTINGS].pack(self.settings_fields(last, granted))
 
     def start(self, last=None, granted=None):
-        self.put(SETTINGS, self.settings(last, granted))
+        fields = self.settings_fields(last, granted)
+        self.put(SETTINGS, PAYLOADS[SETTINGS].pack(fields))
         self.sessions = [Session() for _ in range(4)]
+        self.last, self.kept = fields["last"], 0
 
     # ---- contents
 
@@ -164,6 +168,9 @@ class History:
 
     def tightening(self):
         self.put(TIGHTENING, self.tightening_payload())
+        if self.last < GREATEST_NUMBER:
+            self.last += 1
+            self.kept = min(self.kept + 1, KEPT)
 
     def scan(self):
         self.put(SCANNED, self.text())
@@ -258,10 +265,39 @@ class History:
             data = self.odd_byte(data)
         self.send(s, message(50, self.pick(GOOD_REVISIONS), self.twelve(), self.rest(), data))
 
+    def asked_number(self):
+        """Mostly one at an edge of what is kept, or one that would wrap to it; 0 asks for the newest."""
+        oldest = self.last - self.kept + 1
+        number = self.pick((0, 0, self.last, self.last + 1, oldest, oldest, oldest - 1, self.between(oldest, self.last),
+                            self.between(oldest, self.last), self.last - self.between(0, KEPT + 2)))
+        if self.chance(0.12):
+            number += (GREATEST_NUMBER + 1) * self.pick((1, 1, 2))
+        elif self.chance(0.06):
+            number = self.pick((GREATEST_NUMBER, GREATEST_NUMBER + 1, 10 ** 10 - 1, self.between(0, 10 ** 10 - 1)))
+        return max(number, 0) % 10 ** 10
+
+    def asked_digits(self, number=None):
+        """A number in ten digits; now and then with spaces before it, a byte that is no digit, or a digit too few or too many."""
+        digits, sort = b"%010d" % (self.asked_number() if number is None else number), self.random.random()
+        if sort < 0.05:
+            return b"%10d" % int(digits)
+        if sort < 0.1:
+            where = self.between(0, 9)
+            return digits[:where] + bytes([self.pick(NO_DIGITS) if self.chance(0.7) else self.between(1, 255)]) + digits[where + 1:]
+        if sort < 0.13:
+            return self.pick((digits[1:], digits[:-1], digits + b"0", b"0" + digits))
+        return digits
+
+    def fetch(self, s, number=None):
+        revision = self.any_revision() if self.chance(0.06) else self.pick(GOOD_REVISIONS)
+        self.send(s, message(64, revision, self.twelve(), self.rest(), self.asked_digits(number)))
+
     def keep_alive(self, s):
         """Any message of a started session will do."""
         sort = self.random.random()
-        if sort < 0.6:
+        if sort < 0.1:
+            self.fetch(s)
+        elif sort < 0.6:
             self.send(s, message(9999, self.pick(REVISIONS), self.twelve(), self.rest()))
         elif sort < 0.7:
             self.send(s, message(self.other_number(), self.any_revision(), self.twelve()))
@@ -277,9 +313,10 @@ class History:
         mid = self.pick(KNOWN) if self.chance(0.85) else self.other_number()
         revision = self.pick(GOOD_REVISIONS) if self.chance(0.6) else self.any_revision()
         usual = self.between(1, 25) if mid == 50 else 0
-        if self.chance(0.3):
-            usual = self.pick((0, 1, 2, 24, 25, 26, 27, 80))
-        data = self.data(usual)
+        odd = self.chance(0.3)
+        if odd:
+            usual = self.pick((0, 1, 2, 9, 10, 11, 24, 25, 26, 27, 80))
+        data = self.asked_digits() if mid == 64 and not odd else self.data(usual)
         self.send(s, message(mid, revision, self.twelve(), self.rest(), data))
         if mid == 1 and self.sessions[s].up and not usual:
             self.sessions[s].started = True
@@ -448,7 +485,7 @@ class History:
                 for _ in range(2 if self.chance(0.15) else 1):
                     self.acknowledge(s)
             elif sort < 0.9 and live:
-                self.keep_alive(self.pick(live))
+                self.pick((self.keep_alive, self.fetch))(self.pick(live))
             else:
                 self.tick()
 
@@ -514,10 +551,11 @@ class History:
             self.bring_up(s)
         elif not self.sessions[s].up:
             self.open(s)
-        mid = self.pick((1, 3, 50, 50, 51, 53, 54, 60, 62, 63, 9999))
+        mid = self.pick((1, 3, 50, 50, 51, 53, 54, 60, 62, 63, 64, 64, 9999))
         for _ in range(self.between(3, 9)):
             size = self.pick((0, 0, 1, 2, 24, 25, 26))
-            self.send(s, message(mid, self.pick(REVISIONS), self.twelve(), data=self.data(size)))
+            data = self.data(size) if mid != 64 or self.chance(0.2) else (self.asked_digits() * 2)[:self.pick((9, 10, 10, 11))]
+            self.send(s, message(mid, self.pick(REVISIONS), self.twelve(), data=data))
         self.flush(s)
         self.sessions[s].started = self.sessions[s].started and mid != 3
         self.event()
@@ -559,6 +597,8 @@ class History:
         if self.chance(0.2):
             self.open(s)
         self.bring_up(s)
+        if self.chance(0.4):  # what it missed
+            self.fetch(s)
         if self.chance(0.2):
             self.acknowledge(s)
         self.event()
@@ -623,9 +663,11 @@ class History:
                 self.hang_up(other)
         for _ in range(self.pick((12, 13, 14, 14, 14)) - min(self.sessions[s].silent, 12)):
             self.tick()
-        sort = self.between(0, 7)
+        sort = self.between(0, 8)
         if sort == 0:
             self.near_miss(s)
+        elif sort == 7:
+            self.fetch(s)
         elif sort == 1:  # a part of a run, ended only afterwards
             self.put(BYTES + s, message(9999)[:self.between(1, 20)])
         elif sort == 2:
@@ -724,10 +766,15 @@ class History:
         if self.chance(0.3):
             self.put(SETTINGS, self.bad_payload(SETTINGS))
             return
-        self.start()
-        if self.chance(0.5):
-            self.bring_up(self.between(0, 3))
+        before = self.last
+        self.start(last=before if self.chance(0.2) else None)
+        if self.chance(0.7):
+            s = self.between(0, 3)
+            self.bring_up(s)
+            for number in (0, self.pick((self.last, before, None))):  # none is kept
+                self.fetch(s, number)
             self.tightening()
+            self.fetch(s, before if self.chance(0.3) else None)
 
     def numbers_end(self):
         """The last number runs up to its end; bad records then too."""
@@ -745,8 +792,59 @@ class History:
                 self.event()
             else:
                 self.acknowledge(self.between(0, 3))
+        for s in self.started_sessions():
+            self.fetch(s)
         if self.chance(0.7):
             self.start()
+
+    def old_results(self):
+        """What is kept is asked for while more comes, the identifier in force changes, and links are lost and made again."""
+        self.manner = self.pick(("whole", "whole", "joined", "cut"))
+        s = self.between(0, 3)
+        self.bring_up(s, kinds=self.pick(((), (60,), (51, 60))))
+        for _ in range(self.between(6, 16)):
+            sort = self.random.random()
+            if sort < 0.2:
+                self.tightening()
+            elif sort < 0.3:
+                self.scan()
+            elif sort < 0.34:
+                self.put(TIGHTENING, self.bad_payload(TIGHTENING))
+            elif sort < 0.38:
+                self.tick()
+            elif sort < 0.42:
+                self.pick((self.hang_up, self.stop))(s)
+                self.bring_up(s, kinds=())
+            else:
+                self.fetch(s)
+
+    def stop(self, s):
+        self.flush(s)
+        self.send(s, message(3, self.pick(REVISIONS)))
+        self.flush(s)
+        self.sessions[s].started = False
+
+    def more_than_kept(self):
+        """As many tightenings as are kept and some more, to nobody or to sessions that don't acknowledge; then they are asked for."""
+        self.manner = "whole"
+        if self.chance(0.2):  # the last number comes to its end
+            self.start(last=GREATEST_NUMBER - self.between(KEPT - 3, KEPT + 5))
+        if self.chance(0.4):
+            for s in self.started_sessions():
+                self.hang_up(s)
+        chosen = self.bring_up_some(False) if self.chance(0.7) else []
+        for _ in range(max(KEPT - self.kept, 0) + self.between(-2, 9)):
+            self.tightening()
+            if self.chance(0.03):
+                self.scan()
+        s = self.between(0, 3)
+        self.bring_up(s)
+        for _ in range(self.between(5, 12)):
+            self.fetch(s)
+            if self.chance(0.25):
+                self.event()
+        for _ in range(self.between(0, 12) if chosen else 0):
+            self.acknowledge(self.pick(chosen), 62)
 
     def before_start(self):
         """Calls on a table of zeros."""
@@ -758,7 +856,7 @@ class History:
         (10, "long_watch"), (10, "steady"), (6, "flood"), (6, "identifiers"), (9, "chatter"),
         (6, "ladder"), (4, "bad_records"), (10, "lifecycle"), (7, "resubscribe"), (1.5, "long_run"),
         (7, "idle_edge"), (4, "time_out_in_step"), (4, "unstarted"), (1.5, "second_start"),
-        (1, "numbers_end"), (2, "fullest"),
+        (1, "numbers_end"), (2, "fullest"), (6, "old_results"), (3, "more_than_kept"),
     )
 
     def make(self):

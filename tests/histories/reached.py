@@ -3,8 +3,9 @@
 
     reached.py PROGRAM [--count N] [--first-seed N]
 
-What was sent is read off the records. What a tick gave up is read off the lines of a test
-program, which is given a hang-up of session 15 behind each record: 'R 4' ends its lines."""
+What was sent is read off the records. What a tick gave up, and how 0064 was answered, is read
+off the lines of a test program, which is given a hang-up of session 15 behind each record:
+'R 4' ends its lines."""
 
 import argparse
 import collections
@@ -12,11 +13,12 @@ import re
 import subprocess
 
 import generate  # which puts tools on the path
-from house_records import BYTES, HANG_UP, OPEN, PAYLOADS, TICK, record, split
+from house_records import BYTES, GREATEST_NUMBER, HANG_UP, OPEN, PAYLOADS, SCANNED, SETTINGS, TICK, TIGHTENING, fields_of, record, split
 
 MARKER = record(HANG_UP + 15)
 NO_DIGITS = b"/:;<=>?"
 GIVEN_UP_WHOLE = 7  # of eight held seven are sent when the one before them is given up, within 840 ticks
+KEPT = 64  # tightenings
 
 
 class Reached:
@@ -59,16 +61,16 @@ class Reached:
 
     def identifiers(self, groups):
         """0052 in each revision, and in both at once: a call's frames stand one behind the other, the shorter behind the longer too."""
-        for _, lines in groups:
+        for _, _, lines in groups:
             revisions = re.findall(r"^\d S \d{4}0052(\d{3})", "\n".join(lines), re.M)
             for revision in revisions:
                 self.times["0052 in revision %s" % revision] += 1
             self.times["a call that sends 0052 in both revisions"] += len(set(revisions)) == 2
 
     def given_up(self, groups):
-        """`groups`: a record's kind, and its lines. A notice that a tick sends for the first time comes behind one given up."""
+        """`groups`: a record, and its lines. A notice that a tick sends for the first time comes behind one given up."""
         newest, in_a_row, whole = {}, collections.Counter(), False
-        for record_kind, lines in groups:
+        for record_kind, _, lines in groups:
             for line in lines:
                 found = re.match(r"(\d) S \d{4}(0052|0061)", line)
                 if not found:
@@ -85,13 +87,104 @@ class Reached:
         self.times["a history in which a queue of eight is given up whole"] += whole
 
 
+class Memory:
+    """What a history's tightenings are, and what became of the 0064 that asked for them. `times` counts it."""
+
+    def __init__(self, times):
+        self.times, self.sent, self.when, self.came = times, collections.defaultdict(bytes), collections.Counter(), {}
+        self.begin(0)
+
+    def begin(self, last):
+        self.before = self.came  # the numbers of tightenings before the start
+        self.last, self.came, self.blank, self.step = last, {}, set(), 0
+        self.when.clear()
+        self.sent.clear()
+
+    def kept(self):
+        return min(len(self.came), KEPT)
+
+    def record(self, record_kind, payload, lines):
+        """A record that was given, and its lines. Steps tell what came before what."""
+        done = not any(line.startswith("R ") for line in lines)
+        self.step += 1
+        if record_kind == SETTINGS and done:
+            self.begin(fields_of(record_kind, payload)["last"])
+        elif record_kind == TIGHTENING and done:
+            self.tightened(payload)
+        elif record_kind == TIGHTENING and "R 8" in lines:
+            self.when["8"] = self.step
+        elif record_kind == SCANNED and done:
+            self.when["scan"] = self.step
+        elif HANG_UP <= record_kind < BYTES and done:
+            self.when["hang-up"] = self.step
+            self.sent.pop(record_kind - HANG_UP + BYTES, None)
+        elif record_kind == TICK and any(line.endswith(" C") for line in lines):
+            self.when["time-out"] = self.step
+        elif BYTES <= record_kind < BYTES + 4:
+            self.bytes(record_kind, payload, lines)
+        for line in lines:
+            if re.match(r"\d S 02310061", line) and int(line[-10:]) <= self.last - KEPT:
+                self.times["0061 of a tightening that is kept no more"] += 1
+
+    def tightened(self, payload):
+        self.last += 1
+        self.came[self.last] = self.step
+        if not payload[:25].strip():
+            self.blank.add(self.last)
+
+    def bytes(self, record_kind, payload, lines):
+        *runs, self.sent[record_kind] = (self.sent[record_kind] + payload).split(b"\0")
+        asked = [run for run in runs if len(run) >= 20 and run[4:8] == b"0064"]
+        replies = [line for line in lines if re.match(r"\d S (\d{4}0065|\d{4}0004.{12}0064)", line)]
+        for run, line in zip(asked, replies) if len(asked) == len(replies) else ():
+            self.answered(run, line)
+        if any(re.match(r"\d S 00240005.{12}0003", line) for line in lines):
+            self.when["0003"] = self.step
+
+    def answered(self, run, line):
+        error = None if line[8:12] == "0065" else int(line[-2:])
+        if error is None:
+            self.found(int(run[20:]), int(line[26:36]))
+        elif error == 15:
+            self.not_found(int(run[20:]))
+        elif error == 1:
+            self.count("0064 gets 01 for its %s" % ("length" if len(run) != 30 else "spaces" if b" " in run[20:] else "digits"))
+        else:
+            self.count("0064 gets %d" % error)
+
+    def count(self, what, how_often=True):
+        self.times[what] += how_often
+
+    def found(self, asked, number):
+        self.count("0065 sent")
+        self.count("0065 of the newest, asked for by 0", asked == 0)
+        self.count("0065 of the newest, asked for by its number", asked == self.last)
+        self.count("0065 of the oldest of 64", number == self.last - KEPT + 1)
+        self.count("0065 after more than 64 tightenings", len(self.came) > KEPT)
+        self.count("0065 behind a tightening refused with 8", self.when["8"] > 0)
+        for end in ("hang-up", "0003", "time-out"):
+            self.count("0065 of a tightening from before a %s" % end, self.came.get(number, self.step) < self.when[end])
+        self.count("0065 with an identifier that is in force no more",
+                   number in self.blank and self.came[number] < self.when["scan"])
+
+    def not_found(self, asked):
+        wrapped = asked % (GREATEST_NUMBER + 1)
+        self.count("0064 gets 15")
+        self.count("0064 gets 15 for 0, none being kept", asked == 0)
+        self.count("0064 gets 15 for one older than the oldest of 64", asked == self.last - KEPT and len(self.came) > KEPT)
+        self.count("0064 gets 15 for the number behind the newest", asked == self.last + 1)
+        self.count("0064 gets 15 for one from before the start", asked in self.before)
+        self.count("0064 gets 15 for one that wraps to one kept",
+                   asked > GREATEST_NUMBER and (wrapped == 0 or wrapped > self.last - self.kept()) and wrapped <= self.last)
+
+
 def groups_of(program, records):
-    """Each record's kind with its lines. Records to sessions that there are not are left out: they print what the marker does."""
+    """Each record with its lines. Records to sessions that there are not are left out: they print what the marker does."""
     records = [(record_kind, payload) for record_kind, payload in records if not (16 <= record_kind < 64 and record_kind % 16 > 3)]
     data = b"".join(record(record_kind, payload) + MARKER for record_kind, payload in records)
     done = subprocess.run([program], input=data, capture_output=True, timeout=60, check=True)
     texts = done.stdout.decode("latin-1").split("R 4\n")
-    return zip((record_kind for record_kind, _ in records), (text.split("\n") for text in texts))
+    return ((record_kind, payload, text.split("\n")) for (record_kind, payload), text in zip(records, texts))
 
 
 def main():
@@ -109,6 +202,9 @@ def main():
         groups = list(groups_of(options.program, records))
         reached.identifiers(groups)
         reached.given_up(groups)
+        memory = Memory(reached.times)
+        for group in groups:
+            memory.record(*group)
     for what, values in sorted(reached.seen.items()):
         print("%-60s %d" % (what, len(values)))
     for what, times in sorted(reached.times.items()):

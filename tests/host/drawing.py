@@ -25,7 +25,8 @@ def drawn(names):
             found.append((row.group(1), label))
         elif line.lstrip().startswith("|"):  # not what is folded
             found[-1] = (found[-1][0], found[-1][1] + " " + label)
-    return [(when, re.sub(r"notice \d+|, in \d+ parts from second \d+ on", "notice", label)) for when, label in found]
+    differs = r"notice \d+|, in \d+ parts from second \d+ on|(?<=; fetched) at \d+ s"
+    return [(when, re.sub(differs, "notice", label)) for when, label in found]
 
 
 @test

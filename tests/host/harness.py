@@ -139,6 +139,12 @@ def result_fields(fields, number):
     return {**CONTROLLER, **fields, "number": number}
 
 
+def old_fields(fields, number):
+    """What a 0065 has to say of it."""
+    told = result_fields(fields, number)
+    return {row.name: told[row.name] for row in openprotocol.LAYOUTS[openprotocol.OLD_RESULT, 1].rows}
+
+
 # ---- the programs of a test
 
 def ends_within(process, seconds):
@@ -333,6 +339,16 @@ class Server(Link):
 
     def expect_result(self, fields, number):
         equal(self.expect(openprotocol.RESULT), result_fields(fields, number), "result")
+
+    def fetch(self, number=openprotocol.NEWEST):
+        """The fields of the old result of that number; None where it is not kept."""
+        self.send(openprotocol.fetch(number))
+        run = self.next()
+        if run == openprotocol.write(openprotocol.REFUSED, {"mid": openprotocol.FETCH_RESULT, "error": openprotocol.NOT_KEPT}):
+            return None
+        frame = openprotocol.read(run)
+        equal((frame.mid, frame.byte_12), (openprotocol.OLD_RESULT, b" "), "message and byte 12 of what a 0064 is answered")
+        return frame.fields
 
     def tell(self, mid, **more):
         self.send(message(mid, **more))

@@ -60,8 +60,8 @@ class Play:
         return server.open
 
     def speak(self, server):
-        mid = self.source.choice([1, 50, 51, 51, 53, 53, 60, 60, 60, 62, 62, 62, 62, 54, 63, 9999, 9999, 1234])
-        data = b"NET" if mid == 50 else b""
+        mid = self.source.choice([1, 50, 51, 51, 53, 53, 60, 60, 60, 62, 62, 62, 62, 54, 63, 64, 64, 9999, 9999, 1234])
+        data = b"NET" if mid == 50 else b"%010d" % self.source.randrange(self.number + 3) if mid == 64 else b""
         with contextlib.suppress(ConnectionError):
             server.tell(mid, revision=b"00%c" % self.source.choice(b"1112"), byte_12=b"%c" % self.source.choice(b"  1"), data=data)
 

@@ -127,7 +127,7 @@ def killed_while_a_part_is_begun(place):
 # ---- disks that are full
 
 PAGE = os.sysconf("SC_PAGE_SIZE")
-DISK_PAGES = 16
+DISK_PAGES = 32
 
 
 def small_disk(place):

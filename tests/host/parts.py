@@ -7,13 +7,13 @@ import signal
 import subprocess
 
 import generate
-from harness import SECONDS, InTime, Skipped, Wrong, check, content, equal, in_memory, message, openprotocol, tell_and_acknowledge, test
+from harness import (BYTES, HANG_UP, OPEN, ROOT, SECONDS, InTime, Skipped, Wrong, check, content, equal, in_memory, lent_table, message,
+                     openprotocol, record, tell_and_acknowledge, test)
 from journal import Play
 from kept import PAGE, small_disk
 
 SIZE, KEEP = 20000, 3
 RECORD_GREATEST = 4 + 8192
-TABLE_SIZE = 16384
 
 
 def beside(place, end):
@@ -43,7 +43,7 @@ def replayed(place, data):
 def a_peer_that_fills_the_journal(place):
     """Whatever one that never starts sends, the journal has no more bytes than its parts may have, the others go on, and so does the
     next run of the host."""
-    bound = (KEEP + 1) * (SIZE + RECORD_GREATEST + TABLE_SIZE + 1000)
+    bound = (KEEP + 1) * (SIZE + RECORD_GREATEST + lent_table.SIZE + 1000)
     options = ["--journal-size", SIZE, "--journal-keep", KEEP]
     number = greatest = sent = 0
     for run in (1, 2):
@@ -108,6 +108,43 @@ def parts_replayed_alone(place):
     place.said.append("%d parts, %d lines" % (len(data), whole.count(b"\n")))
 
 
+def earlier(table):
+    """A table as it was kept before tightenings were: its sessions stood where those are now."""
+    return (table[:lent_table.MEMORY] + table[lent_table.SHARED:lent_table.USED]).ljust(lent_table.EARLIER_SIZE, b"\0")
+
+
+def without_old_results(printed):
+    """What replay prints, but for what it answers to a 0064."""
+    return re.sub(rb"(?m)^\d S (01180065|00260004001_________0064).*\n", b"", printed)
+
+
+@test
+@in_memory
+def tables_from_before(place):
+    """From a table that was kept before tightenings were, a part gives what it gives from today's, old results aside, of which none is kept
+    there; it is drawn, too; and a host finds the last number in such a part, which an older state is behind."""
+    play = Play(place, 5)
+    play.run(400, "--journal-size", 600, "--journal-keep", 1000)
+    parts, kept = place.journal_parts(), 0
+    asks_for_the_newest = record(HANG_UP) + record(OPEN) + record(BYTES, message(openprotocol.START) + openprotocol.fetch())
+    check(len(parts) > 10, "only %d parts: this shows too little", len(parts))
+    for part, path in enumerate(parts[1:], 2):
+        table = "%s.%d.table" % (place.journal, part)
+        today = place.own_replayed(content(path), table)
+        kept += len(lent_table.kept(content(table)))
+        before = earlier(content(table))
+        with open(table, "wb") as file:
+            file.write(before)
+        equal(without_old_results(place.own_replayed(content(path), table)), without_old_results(today), "what part %d gives" % part)
+        equal(place.own_replayed(asks_for_the_newest, table)[-31:], b"0 S 00260004001_________006415\n", "the newest of none")
+    check(kept > 100, "only %d tightenings were kept: this shows too little", kept)
+    drawn = subprocess.run([os.path.join(ROOT, "tools", "ladder"), place.journal], capture_output=True, timeout=SECONDS, check=False)
+    check(drawn.returncode == 0 and b", 0 tightenings kept" in drawn.stdout, "what is drawn: %r", drawn)
+    os.remove(place.state)
+    place.refused(place.start(), 1, place.state, place.journal, "--state-behind", "that %d was" % play.number)
+    place.said.append("%d tables" % (len(parts) - 1))
+
+
 @test
 def generated_histories_replayed(place):
     """serifladder-replay prints what the proved test program prints, of generated histories and of such that are cut or damaged."""
@@ -128,7 +165,7 @@ def bad_use_of_serifladder_replay(place):
     """A table that is none, a file that is not there and a wrong command line: a message that names it, and nothing printed."""
     bad = place.path("bad")
     with open(bad, "wb") as file:
-        file.write(bytes(TABLE_SIZE))
+        file.write(bytes(lent_table.SIZE))
     for arguments, status, word in ((["--table", bad], 1, bad), (["--table", place.path("none")], 1, "none"), (["--table"], 2, "--table"),
                                     ([place.path("none")], 1, "none"), (["--unknown"], 2, "--unknown"), ([bad, bad], 2, "second"),
                                     ([place.folder], 1, place.folder)):

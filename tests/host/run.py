@@ -29,6 +29,7 @@ import starts  # noqa: F401
 import usage  # noqa: F401
 import ends  # noqa: F401
 import watching  # noqa: F401
+import fetching  # noqa: F401
 import status  # noqa: F401
 import load  # noqa: F401
 

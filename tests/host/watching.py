@@ -30,6 +30,34 @@ class Watch:
         wait(lambda: sum(words in line for line in self.lines()) >= times, "watch says %r: %s" % (words, self.lines()))
 
 
+class Controller:
+    """Another controller, played by a test: a watch connects to it."""
+
+    STARTED = openprotocol.write(openprotocol.STARTED, harness.CONTROLLER) + b"\0"
+
+    def __init__(self, place, *arguments):
+        self.place = place
+        self.door = place.links.enter_context(socket.create_server(("127.0.0.1", 0)))
+        self.door.settimeout(harness.SECONDS)
+        self.address = "127.0.0.1:%d" % self.door.getsockname()[1]
+        self.watch = Watch(place, "--connect", self.address, *arguments)
+
+    def accept(self):
+        """The next link, on which watch starts."""
+        link = harness.Link(self.door.accept()[0])
+        link.link.setsockopt(socket.IPPROTO_TCP, socket.TCP_NODELAY, 1)
+        self.place.links.callback(link.close)
+        self.expect(link, openprotocol.message(openprotocol.START))
+        return link
+
+    def expect(self, link, *messages):
+        wanted = b"".join(messages)
+        got, in_time = b"", harness.InTime("what watch sends")
+        while in_time() and len(got) < len(wanted) and (more := link.receive()):
+            got += more
+        equal(got, wanted, "what watch sends")
+
+
 @test
 def watch_shows_results(place):
     """tools/watch --count 3 shows an identifier and three results, keeps the link alive between them, and ends in order."""
@@ -85,50 +113,35 @@ def watch_waits_and_comes_back(place):
 
 @test
 def watch_with_another_controller(place):
-    """Frames that come byte by byte are shown; a copy of a result is acknowledged and not shown again; after a refusal, or something
-    that is no frame, watch says so and connects again."""
-    started = openprotocol.write(openprotocol.STARTED, harness.CONTROLLER) + b"\0"
+    """Frames that come byte by byte are shown; a copy of a result is acknowledged and not shown again, and an old result that was not asked
+    for is neither; after a refusal, or something that is no frame, watch says so and connects again."""
     results = [openprotocol.write(openprotocol.RESULT, harness.result_fields(tightening_fields(number), number), byte_12=b"0") + b"\0"
                for number in (7, 7, 8)]
-    with socket.create_server(("127.0.0.1", 0)) as door:
-        door.settimeout(harness.SECONDS)
-        watch = Watch(place, "--connect", "127.0.0.1:%d" % door.getsockname()[1])
-
-        def accept():
-            link = harness.Link(door.accept()[0])
-            link.link.setsockopt(socket.IPPROTO_TCP, socket.TCP_NODELAY, 1)
-            place.links.callback(link.close)
-            expect(link, openprotocol.START)
-            return link
-
-        def expect(link, *mids):
-            wanted = b"".join(openprotocol.message(mid) for mid in mids)
-            got, in_time = b"", harness.InTime("what watch sends")
-            while in_time() and len(got) < len(wanted) and (more := link.receive()):
-                got += more
-            equal(got, wanted, "what watch sends")
-
-        link = accept()
-        for byte in started:
-            link.send(bytes([byte]))
-        expect(link, openprotocol.SUBSCRIBE_IDENTIFIERS, openprotocol.SUBSCRIBE_RESULTS)
-        for result in results:
-            link.send(result)
-            expect(link, openprotocol.ACKNOWLEDGE_RESULT)
-        watch.wait_for("result 8 ")
-        equal(sum("result 7 " in line for line in watch.lines()), 1, "how often result 7 is shown")
-        link.send(b"no frame\0")
-        watch.wait_for("link lost: not a frame of the controller")
-        link = accept()
-        link.send(openprotocol.message(openprotocol.REFUSED, data=b"000197"))
-        watch.wait_for("link lost: 0001 refused with error 97, revision not supported")
-        link = accept()
-        link.send(started)
-        expect(link, openprotocol.SUBSCRIBE_IDENTIFIERS, openprotocol.SUBSCRIBE_RESULTS)
-        link.close()
-        watch.wait_for("link lost: closed by the controller")
-        accept().close()
-        watch.wait_for("turned away by 127.0.0.1:%d: it closed the link before it answered." % door.getsockname()[1])
+    subscribes = [openprotocol.message(mid) for mid in (openprotocol.SUBSCRIBE_IDENTIFIERS, openprotocol.SUBSCRIBE_RESULTS)]
+    controller = Controller(place)
+    watch = controller.watch
+    link = controller.accept()
+    for byte in controller.STARTED:
+        link.send(bytes([byte]))
+    controller.expect(link, *subscribes)
+    link.send(openprotocol.write(openprotocol.OLD_RESULT, harness.old_fields(tightening_fields(6), 6)) + b"\0")
+    for result in results:
+        link.send(result)
+        controller.expect(link, openprotocol.message(openprotocol.ACKNOWLEDGE_RESULT))
+    watch.wait_for("result 8 ")
+    equal([line[:9] for line in watch.lines()[1:]], ["result 7 ", "result 8 "], "results that are shown")
+    link.send(b"no frame\0")
+    watch.wait_for("link lost: not a frame of the controller")
+    link = controller.accept()
+    link.send(openprotocol.message(openprotocol.REFUSED, data=b"000197"))
+    watch.wait_for("link lost: 0001 refused with error 97, revision not supported")
+    link = controller.accept()
+    link.send(controller.STARTED)
+    controller.expect(link, *subscribes)
+    link.close()
+    watch.wait_for("link lost: closed by the controller")
+    controller.accept().close()
+    watch.wait_for("turned away by %s: it closed the link before it answered." % controller.address)
 
 
 @test

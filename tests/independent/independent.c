@@ -8,6 +8,7 @@
 /* ---------------------------------------------------------------- limits */
 
 enum {
+    TABLE_LEAST = FAULT == TABLE_OF_16384 ? 16384 : INDEPENDENT_TABLE_BYTES,
     SESSIONS = 4,
     IDLE_LIMIT = FAULT == IDLE_CLOSES_AT_14 ? 14 : 15, /* ticks without a message until the close */
     REPEAT_TICKS = 20,                                 /* between the copies of an open notice */
@@ -15,6 +16,7 @@ enum {
     TIGHTENINGS_HELD =                                 /* a session, the open one included */
         FAULT == NINTH_TAKEN ? 9 : FAULT == SEVEN_NOT_EIGHT ? 7 : 8,
     IDENTIFIERS_HELD = 2,                              /* one open, one waiting */
+    TIGHTENINGS_KEPT = FAULT == KEEPS_65 ? 65 : 64,    /* by the controller, whoever took them */
 
     HEADER_BYTES = 20,
     TEXT_BYTES = 25,       /* identifiers and the controller's name */
@@ -22,6 +24,8 @@ enum {
     SETTINGS_BYTES = 33,   /* the payload of their record */
     TIGHTENING_BYTES = 106,
     RESULT_BYTES = 211,    /* the data field of 0061 revision 1 */
+    OLD_RESULT_BYTES = 98, /* that of 0065 revision 1 */
+    NUMBER_DIGITS = 10,    /* of a tightening number, in these and in 0064 */
     DOWNLOAD_GREATEST = FAULT == DOWNLOAD_OF_46 ? 46 : 45, /* length of an 0050 */
     RUN_KEPT = DOWNLOAD_GREATEST,                          /* bytes of a run that anyone reads */
     RUN_GREATEST = 9999,
@@ -56,6 +60,7 @@ enum {
     NOT_GRANTED = 8,
     TIGHTENING_SUBSCRIBED = 9,
     TIGHTENING_NOT_SUBSCRIBED = 10,
+    NUMBER_NOT_KEPT = 15,
     ALREADY_STARTED = 96,
     REVISION_UNSUPPORTED = 97,
     UNKNOWN_MESSAGE = 99
@@ -88,10 +93,20 @@ struct session {
     uint8_t result[TIGHTENINGS_HELD][RESULT_BYTES];
 };
 
+/* The last tightenings, as the data fields that 0065 tells them by. Their numbers follow on one
+   another up to the last number. The places are used in turn from the first; when all are used,
+   the next tightening takes the place of the oldest. */
+struct memory {
+    unsigned count;
+    unsigned oldest; /* its place, the first until all are used */
+    uint8_t place[TIGHTENINGS_KEPT][OLD_RESULT_BYTES];
+};
+
 struct state {
     uint8_t settings[SETTINGS_BYTES]; /* as in their record; the last tightening number counts on */
     uint8_t in_force[TEXT_BYTES];
     struct session session[SESSIONS];
+    struct memory memory;
 };
 
 /* ---------------------------------------------------------------- bytes and numbers */
@@ -143,9 +158,10 @@ static bool is_time(const uint8_t *bytes)
     return true;
 }
 
-static unsigned decimal(const uint8_t *digits, size_t count)
+/* Ten digits may say more than four bytes hold. */
+static uint64_t decimal(const uint8_t *digits, size_t count)
 {
-    unsigned value = 0;
+    uint64_t value = 0;
     for (size_t i = 0; i < count; i++)
         value = value * 10 + (unsigned)(digits[i] - '0');
     return value;
@@ -307,18 +323,21 @@ static bool fields_good(const uint8_t *payload, enum field_name first, enum fiel
 /* ---------------------------------------------------------------- the table */
 
 /* Layout: a mark, the settings as in their record, the identifier in force, then
-   the sessions one after the other, each with room for all that it can hold.
-   Of the notices only those held are written; the places behind them mean nothing. */
+   the sessions one after the other, each with room for all that it can hold, then the
+   memory: how many it keeps, the place of the oldest, and the places. Of the notices and
+   of the memory only those held are written; the places behind them mean nothing. */
 static const uint8_t MARK[8] = { 'o', 'p', '-', 'i', 'n', 'd', 'e', 'p' };
 
 enum {
     SUBSCRIPTION_TABLE_BYTES = 5,
     SESSION_TABLE_BYTES = 4 + RUN_KEPT + KINDS * SUBSCRIPTION_TABLE_BYTES
         + IDENTIFIERS_HELD * TEXT_BYTES + TIGHTENINGS_HELD * RESULT_BYTES,
-    SESSIONS_AT = sizeof MARK + SETTINGS_BYTES + TEXT_BYTES
+    SESSIONS_AT = sizeof MARK + SETTINGS_BYTES + TEXT_BYTES,
+    MEMORY_AT = SESSIONS_AT + SESSIONS * SESSION_TABLE_BYTES,
+    MEMORY_TABLE_BYTES = 2 + TIGHTENINGS_KEPT * OLD_RESULT_BYTES
 };
 
-static_assert(SESSIONS_AT + SESSIONS * SESSION_TABLE_BYTES <= INDEPENDENT_TABLE_BYTES,
+static_assert(MEMORY_AT + MEMORY_TABLE_BYTES <= INDEPENDENT_TABLE_BYTES,
               "the state fits the table");
 
 static unsigned held_at_most(enum kind kind)
@@ -416,6 +435,29 @@ static bool load_session(const uint8_t *bytes, struct session *session)
         && load_notices(&reader, session, TIGHTENING);
 }
 
+/* What the memory of a correct program keeps to: each kept tightening had a number of its own,
+   and until all places are used the oldest stands in the first. */
+static bool memory_consistent(const struct memory *memory, uint32_t last)
+{
+    if (FAULT != NO_FAULT)
+        return true;
+    return memory->count <= last && (memory->oldest == 0 || memory->count == TIGHTENINGS_KEPT);
+}
+
+/* Of the places only those used are read: they are the first ones. */
+static bool load_memory(const uint8_t *bytes, struct memory *memory, uint32_t last)
+{
+    struct reader reader = { bytes };
+    memory->count = take_number(&reader, 1);
+    memory->oldest = take_number(&reader, 1);
+    if (memory->count > TIGHTENINGS_KEPT || memory->oldest >= TIGHTENINGS_KEPT
+        || !memory_consistent(memory, last))
+        return false;
+    size_t used = memory->count * OLD_RESULT_BYTES;
+    memcpy(memory->place, reader.at, used);
+    return is_text(reader.at, used);
+}
+
 /* Reads the table; false where it is not well formed. */
 static bool load(const uint8_t *table, struct state *state)
 {
@@ -431,7 +473,7 @@ static bool load(const uint8_t *table, struct state *state)
     for (unsigned s = 0; s < SESSIONS; s++)
         if (!load_session(table + SESSIONS_AT + s * SESSION_TABLE_BYTES, &state->session[s]))
             return false;
-    return true;
+    return load_memory(table + MEMORY_AT, &state->memory, number_in(state->settings, LAST));
 }
 
 static void save_session(uint8_t *bytes, const struct session *session)
@@ -454,6 +496,14 @@ static void save_session(uint8_t *bytes, const struct session *session)
     memcpy(writer.at, session->result, session->subscription[TIGHTENING].count * RESULT_BYTES);
 }
 
+static void save_memory(uint8_t *bytes, const struct memory *memory)
+{
+    struct writer writer = { bytes };
+    put_number(&writer, 1, memory->count);
+    put_number(&writer, 1, memory->oldest);
+    memcpy(writer.at, memory->place, memory->count * OLD_RESULT_BYTES);
+}
+
 static void save(uint8_t *table, const struct state *state)
 {
     struct writer writer = { table };
@@ -462,6 +512,7 @@ static void save(uint8_t *table, const struct state *state)
     put_bytes(&writer, state->in_force, TEXT_BYTES);
     for (unsigned s = 0; s < SESSIONS; s++)
         save_session(table + SESSIONS_AT + s * SESSION_TABLE_BYTES, &state->session[s]);
+    save_memory(table + MEMORY_AT, &state->memory);
 }
 
 /* ---------------------------------------------------------------- output and frames */
@@ -582,6 +633,13 @@ static const struct row RESULT_ROWS[] = {
     { TIGHTENED_AT, 19 }, { SET_CHANGED_AT, 19 }, { BATCH_STATUS, 1 }, { RESULT_NUMBER, 10 }
 };
 
+static const struct row OLD_RESULT_ROWS[] = {
+    { RESULT_NUMBER, 10 }, { IDENTIFIER_TEXT, 25 }, { PARAMETER_SET, 3 },
+    { FAULT == BATCH_SIZE_FOR_COUNTER ? BATCH_SIZE : BATCH_COUNTER, 4 },
+    { TIGHTENING_STATUS, 1 }, { TORQUE_STATUS, 1 }, { ANGLE_STATUS, 1 },
+    { TORQUE, 6 }, { ANGLE, 5 }, { TIGHTENED_AT, 19 }, { BATCH_STATUS, 1 }
+};
+
 static const struct layout STARTED_1 = { true, RESULT_ROWS, 3 }; /* cell, channel, name */
 static const struct layout IDENTIFIER_1 = {
     FAULT == NUMBER_KEPT_IN_REVISION_1, IDENTIFIER_ROWS, 1
@@ -590,6 +648,7 @@ static const struct layout IDENTIFIER_2 = {
     FAULT != REVISION_2_WITHOUT_NUMBERS, IDENTIFIER_ROWS, 4
 };
 static const struct layout RESULT_1 = { true, RESULT_ROWS, 23 };
+static const struct layout OLD_RESULT_1 = { true, OLD_RESULT_ROWS, 11 };
 
 static void add_field(struct frame *frame, const struct row *row, const uint8_t *const *sources)
 {
@@ -628,6 +687,57 @@ static void send_mirrored(struct output *output, unsigned s, const uint8_t *mess
     add_bytes(&frame, message, HEADER_BYTES);
     add_filling(&frame, 0, 1);
     put_record(output, RECORD_KIND_FRAME + s, frame.bytes, frame.length);
+}
+
+/* ---------------------------------------------------------------- the memory */
+
+static void keep(struct memory *memory, const uint8_t *old_result)
+{
+    if (memory->count < TIGHTENINGS_KEPT) {
+        memcpy(memory->place[memory->count], old_result, OLD_RESULT_BYTES);
+        memory->count += 1;
+        return;
+    }
+    unsigned place = memory->oldest;
+    if (FAULT == NEWEST_OVERWRITTEN)
+        place = (memory->oldest + memory->count - 1) % TIGHTENINGS_KEPT;
+    memcpy(memory->place[place], old_result, OLD_RESULT_BYTES);
+    memory->oldest = (memory->oldest + 1) % TIGHTENINGS_KEPT;
+}
+
+/* The kept tightening that has this number, or where that is 0 the newest; NULL where none has it. */
+static const uint8_t *find_kept(const struct state *state, uint64_t number)
+{
+    const struct memory *memory = &state->memory;
+    uint64_t last = number_in(state->settings, LAST);
+    if (FAULT == NUMBER_CUT_TO_32_BITS)
+        number = (uint32_t)number;
+    if (number == 0)
+        number = FAULT == ZERO_IS_OLDEST ? last + 1 - memory->count : last;
+    if (number > last || last - number >= memory->count)
+        return NULL;
+    unsigned from_oldest = memory->count - 1 - (unsigned)(last - number);
+    return memory->place[(memory->oldest + from_oldest) % TIGHTENINGS_KEPT];
+}
+
+/* Planted: all that is kept goes, where only a start may empty the memory. */
+static void forget_kept(struct memory *memory, enum fault here)
+{
+    if (FAULT != NO_FAULT && FAULT == (int)here)
+        memset(memory, 0, sizeof *memory);
+}
+
+static void send_old_result(const struct state *state, unsigned s, const uint8_t *old_result,
+                            struct output *output)
+{
+    struct frame frame = begin_frame(65, 1, FAULT == ZERO_AT_BYTE_12_OF_0065 ? '0' : ' ');
+    add_bytes(&frame, old_result, OLD_RESULT_BYTES);
+    if (FAULT == STAMPED_WHEN_FETCHED) { /* only now, where it is blank */
+        uint8_t *identifier = frame.bytes + HEADER_BYTES + 14;
+        if (all_spaces(identifier, TEXT_BYTES))
+            memcpy(identifier, state->in_force, TEXT_BYTES);
+    }
+    send_frame(output, s, &frame);
 }
 
 /* ---------------------------------------------------------------- notices */
@@ -677,11 +787,22 @@ static void drop_open(struct session *session, enum kind kind)
             part->count * NOTICE_BYTES[kind]);
 }
 
+/* Planted: results that wait are looked for in the memory, so that those too old for it are lost. */
+static bool lost(const struct state *state, unsigned s)
+{
+    const struct session *session = &state->session[s];
+    const uint8_t *digits = session->result[0] + RESULT_BYTES - NUMBER_DIGITS;
+    return session->subscription[TIGHTENING].count > 0
+        && find_kept(state, decimal(digits, NUMBER_DIGITS)) == NULL;
+}
+
 /* Ends the open notice and sends the one behind it, if there is one. */
 static void next_notice(struct state *state, unsigned s, enum kind kind, struct output *output)
 {
     struct session *session = &state->session[s];
     drop_open(session, kind);
+    while (FAULT == WAITING_LOST_BEHIND_64 && kind == TIGHTENING && lost(state, s))
+        drop_open(session, kind);
     if (session->subscription[kind].count > 0)
         send_open(state, s, kind, output);
 }
@@ -760,23 +881,36 @@ static uint64_t identifier_event(struct state *state, const uint8_t *identifier,
     return offer_all(state, IDENTIFIER, identifier, left_out, output);
 }
 
-/* The data field of a result is made once, when the tightening comes: with the next number, and
-   the tool's own identifier or, where that is all spaces, the one in force. */
+/* A tightening that has come, told by the data field of a layout: with the next number, and the
+   tool's own identifier or, where that is all spaces, the one in force. `late` is the planted
+   fault that puts in the latter only when the field is sent. */
+static struct frame tell(const struct layout *layout, const struct state *state,
+                         const uint8_t *tightening, enum fault late)
+{
+    uint8_t told[TIGHTENING_BYTES + 4];
+    struct frame data = { .length = 0 };
+    memcpy(told, tightening, TIGHTENING_BYTES);
+    if (all_spaces(told, TEXT_BYTES) && FAULT != (int)late)
+        memcpy(told, state->in_force, TEXT_BYTES);
+    put_number_in(told, RESULT_NUMBER, number_in(state->settings, LAST) + 1);
+    add_fields(&data, layout, state->settings, told);
+    return data;
+}
+
+/* What is told of a tightening is made once, when it comes: for the notices, and for the memory,
+   which keeps it whether or not a session takes it. */
 static uint64_t tightening_event(struct state *state, const uint8_t *tightening,
                                  struct output *output)
 {
-    uint8_t told[TIGHTENING_BYTES + 4];
-    struct frame result = { .length = 0 };
+    struct frame result = tell(&RESULT_1, state, tightening, STAMPED_WHEN_SENT);
+    struct frame old_result = tell(&OLD_RESULT_1, state, tightening, STAMPED_WHEN_FETCHED);
     uint32_t number = number_in(state->settings, LAST) + 1;
-    memcpy(told, tightening, TIGHTENING_BYTES);
-    if (all_spaces(told, TEXT_BYTES) && FAULT != STAMPED_WHEN_SENT)
-        memcpy(told, state->in_force, TEXT_BYTES);
-    put_number_in(told, RESULT_NUMBER, number);
-    add_fields(&result, &RESULT_1, state->settings, told);
     assert(result.length == RESULT_BYTES);
     uint64_t taken = offer_all(state, TIGHTENING, result.bytes, SESSIONS, output);
     if (FAULT != NUMBER_ONLY_WHEN_TAKEN || taken != 0)
         put_number_in(state->settings, LAST, number);
+    if (FAULT != UNTAKEN_NOT_KEPT || taken != 0)
+        keep(&state->memory, old_result.bytes);
     return taken;
 }
 
@@ -844,6 +978,7 @@ static void tick_session(struct state *state, unsigned s, struct output *output)
     if (over) {
         put_record(output, RECORD_KIND_CLOSE + s, NULL, 0);
         clear_session(session, CLOSED, KEPT_THROUGH_TIME_OUT);
+        forget_kept(&state->memory, MEMORY_GONE_AT_TIME_OUT);
     }
 }
 
@@ -859,6 +994,7 @@ enum {
     MID_SUBSCRIBE_TIGHTENING = 60,
     MID_ACKNOWLEDGE_TIGHTENING = 62,
     MID_UNSUBSCRIBE_TIGHTENING = 63,
+    MID_FETCH = 64,
     MID_KEEP_ALIVE = 9999
 };
 
@@ -882,6 +1018,8 @@ static const struct rule RULES[] = {
     { MID_SUBSCRIBE_TIGHTENING, 20, 20, 1 },
     { MID_ACKNOWLEDGE_TIGHTENING, 20, 20, REVISION_NOT_READ },
     { MID_UNSUBSCRIBE_TIGHTENING, 20, 20, REVISION_NOT_READ },
+    { MID_FETCH, HEADER_BYTES + NUMBER_DIGITS, HEADER_BYTES + NUMBER_DIGITS,
+      FAULT == FETCH_REVISION_NOT_READ ? REVISION_NOT_READ : 1 },
     { MID_KEEP_ALIVE, 20, 20, REVISION_NOT_READ },
 };
 
@@ -1051,9 +1189,33 @@ static void unsubscribe(struct session *session, unsigned s, enum kind kind,
     send_accepted(output, s, message->mid);
 }
 
+/* An old result by its number, in ten digits; 0 asks for the newest. */
+static void fetch(const struct state *state, unsigned s, const struct message *message,
+                  struct output *output)
+{
+    uint8_t digits[NUMBER_DIGITS];
+    memcpy(digits, message->bytes + HEADER_BYTES, sizeof digits);
+    if (FAULT == SPACE_FOR_DIGIT)
+        for (unsigned i = 0; i < NUMBER_DIGITS; i++)
+            digits[i] = digits[i] == ' ' ? '0' : digits[i];
+    const uint8_t *kept = find_kept(state, decimal(digits, NUMBER_DIGITS));
+    unsigned error = !all_digits(digits, NUMBER_DIGITS) ? INVALID_DATA
+        : kept == NULL ? NUMBER_NOT_KEPT
+        : NO_ERROR;
+    if (FAULT == NOT_KEPT_BEFORE_DATA && kept == NULL)
+        error = NUMBER_NOT_KEPT;
+    if (FAULT == FETCH_NEEDS_SUBSCRIPTION && !state->session[s].subscription[TIGHTENING].subscribed)
+        error = TIGHTENING_NOT_SUBSCRIBED;
+    if (error != NO_ERROR)
+        send_error(output, s, MID_FETCH, error);
+    else
+        send_old_result(state, s, kept, output);
+}
+
 static void stop(struct state *state, unsigned s, struct output *output)
 {
     clear_session(&state->session[s], OPENED, KEPT_THROUGH_STOP);
+    forget_kept(&state->memory, MEMORY_GONE_AT_STOP);
     if (FAULT == STOP_FORGETS_IDENTIFIER)
         memset(state->in_force, ' ', TEXT_BYTES);
     send_accepted(output, s, MID_STOP);
@@ -1083,6 +1245,9 @@ static void perform(struct state *state, unsigned s, const struct message *messa
     case MID_UNSUBSCRIBE_TIGHTENING:
         unsubscribe(session, s, TIGHTENING, message, output);
         break;
+    case MID_FETCH:
+        fetch(state, s, message, output);
+        break;
     case MID_KEEP_ALIVE:
         send_mirrored(output, s, message->bytes);
         break;
@@ -1106,10 +1271,12 @@ static bool is_acknowledge(unsigned mid)
     return mid == MID_ACKNOWLEDGE_IDENTIFIER || mid == MID_ACKNOWLEDGE_TIGHTENING;
 }
 
-/* Planted: an acknowledge that finds nothing open is taken for no sign of life. */
+/* Planted: an acknowledge that finds nothing open, or an 0064, is taken for no sign of life. */
 static bool overlooked(const struct session *session, unsigned mid)
 {
     enum kind kind = mid == MID_ACKNOWLEDGE_IDENTIFIER ? IDENTIFIER : TIGHTENING;
+    if (FAULT == FETCH_KEEPS_IDLE && mid == MID_FETCH)
+        return true;
     return FAULT == EMPTY_ACKNOWLEDGE_KEEPS_IDLE && is_acknowledge(mid)
         && session->subscription[kind].count == 0;
 }
@@ -1255,7 +1422,7 @@ static uint64_t finish(uint8_t *table, const struct state *state,
 static uint64_t enter(const uint8_t *table, size_t table_len, size_t output_len,
                       struct state *state)
 {
-    if (table_len < INDEPENDENT_TABLE_BYTES)
+    if (table_len < TABLE_LEAST)
         return TABLE_SHORT;
     if (FAULT == OUTPUT_BEFORE_TABLE && output_len < INDEPENDENT_OUTPUT_BYTES)
         return OUTPUT_SHORT;
@@ -1287,7 +1454,7 @@ uint64_t independent_start(uint8_t *table, size_t table_len,
     struct state state = { 0 };
     if (answer_len < INDEPENDENT_ANSWER_BYTES)
         return ANSWER_SHORT;
-    if (table_len < INDEPENDENT_TABLE_BYTES)
+    if (table_len < TABLE_LEAST)
         return refuse(answer, TABLE_SHORT);
     if (!is_record(settings, settings_len, RECORD_KIND_SETTINGS, SETTINGS_BYTES)
         || !fields_good(settings + RECORD_HEADER_BYTES, CELL, LAST))
@@ -1300,6 +1467,11 @@ uint64_t independent_start(uint8_t *table, size_t table_len,
         static struct state before;
         if (load(table, &before))
             memcpy(state.in_force, before.in_force, TEXT_BYTES);
+    }
+    if (FAULT == MEMORY_KEPT_THROUGH_START) {
+        static struct state before;
+        if (load(table, &before))
+            state.memory = before.memory;
     }
     save(table, &state);
     return reply(answer, DONE, 0, 0, 0);
@@ -1344,6 +1516,7 @@ uint64_t independent_hang_up(uint8_t *table, size_t table_len,
     if (state.session[s].phase == CLOSED)
         return refuse(answer, SESSION_CLOSED);
     clear_session(&state.session[s], CLOSED, KEPT_THROUGH_HANG_UP);
+    forget_kept(&state.memory, MEMORY_GONE_AT_HANG_UP);
     return finish(table, &state, output, &gathered, answer, 0, 0);
 }
 
@@ -1424,6 +1597,12 @@ uint64_t independent_record(uint8_t *table, size_t table_len,
         taken = identifier_event(&state, record + RECORD_HEADER_BYTES, SESSIONS, &gathered);
     } else {
         number = judge_tightening(&state, record, record_len);
+        if (FAULT == REFUSED_8_KEPT && number == NUMBERS_USED_UP) {
+            struct frame told = tell(&OLD_RESULT_1, &state, record + RECORD_HEADER_BYTES,
+                                     STAMPED_WHEN_FETCHED);
+            keep(&state.memory, told.bytes);
+            save(table, &state);
+        }
         if (number != DONE)
             return refuse(answer, number);
         taken = tightening_event(&state, record + RECORD_HEADER_BYTES, &gathered);

@@ -1,5 +1,5 @@
-/* The rules of document 01, written a second time so that the product can be
-   compared with them. Six calls over a table and an output that the caller lends.
+/* The rules of document 01, and of the change requests that were landed, written a
+   second time so that the product can be compared with them. Six calls over a table and an output that the caller lends.
 
    Every slice is a pointer and then its length. `answer` takes four 8-byte
    little-endian numbers (32 bytes): the number, the bytes consumed, the bytes
@@ -13,7 +13,7 @@
 #include <stdint.h>
 
 enum {
-    INDEPENDENT_TABLE_BYTES = 16384,
+    INDEPENDENT_TABLE_BYTES = 32768,
     INDEPENDENT_OUTPUT_BYTES = 2048,
     INDEPENDENT_ANSWER_BYTES = 32
 };

@@ -292,8 +292,8 @@ class Story:
                 self.printed[number] = lines
 
     def lost(self, number, session):
-        """What is said to be lost to a session at a record."""
-        return [row.text() for row in self.rows[number] if row.lost and row.session() == session]
+        """What is said to be lost to a session at a record; not whether it was fetched later."""
+        return [row.lost.words for row in self.rows[number] if row.lost and row.session() == session]
 
     def go_on(self, number, more):
         """What replay prints for other records behind that one."""
@@ -408,6 +408,48 @@ def test_acknowledges():
         expect(wrong, closes(SUBSCRIBED + "tightening\nbytes 0 %s\n" % wrong + well), ["nothing", "notice 1"])
     expect("not started", closes(START + "open 0\n" + well), ["nothing"])
     expect("no acknowledge asked", closes(SUBSCRIBED.replace("60001" + "0", "60001" + "1") + "tightening\n" + well), ["nothing"])
+
+
+# ---- what was fetched
+
+
+def fetch(session, number):
+    return 'bytes %d "00300064001         %010d\\0"\n' % (session, number)
+
+
+def fetched_in(text):
+    """Of what is said to be lost: the number of each tightening, and the second in which it was fetched, or None."""
+    found = [re.search(r"^lost: .*?tightening (\d+):.*?(?:; fetched at (\d+) s)?$", label) for label in labels(text)]
+    return [(int(match[1]), match[2] and int(match[2])) for match in found if match]
+
+
+def test_asked_for():
+    """What is asked for and what comes of it: an old one, none that is kept, no number."""
+    asked = [(1, "old tightening 1"), (0, "the newest tightening"), (2, "old tightening 2"), (9999999999, "old tightening 9999999999")]
+    data = made(SUBSCRIBED + "tightening torque=4210\n" + "".join(fetch(0, number) for number, _ in asked)
+                + 'bytes 0 "00300064001         000000001a\\0" "00200064001         \\0" "00310064001         00000000001\\0"\n')
+    kept, not_kept = 'old tightening 1, "", 42.10 Nm, OK', "not accepted: 0064, error 15: no such result is kept"
+    wrong, bad = "asks for an old tightening", "not accepted: 0064, error 01: invalid data"
+    wanted = [label for (_, words), said in zip(asked, (kept, kept, not_kept, not_kept)) for label in ("asks for " + words, said)]
+    expect("labels", labels(draw(data))[-14:], wanted + [wrong + ' "000000001a"', bad, wrong, bad, wrong + ' "00000000001"', bad])
+
+
+def test_fetched():
+    """A lost tightening says when its own server fetched it first, and is lost all the same; neither another server's fetching counts, nor
+    one before a start."""
+    lost = made(SUBSCRIBED + "tightening\n" * 3 + "tick\nhangup 0\ntick\n")
+    again = made(SUBSCRIBE)
+    for more, wanted in (("", (None, None, None)), (fetch(0, 2) + "tick\n" + fetch(0, 2), (None, 2, None)), (fetch(0, 0), (None, None, 2)),
+                         (re.sub("(open|bytes) 0", r"\1 1", SUBSCRIBE) + fetch(1, 1) + fetch(0, 3), (None, None, 2)),
+                         (START + SUBSCRIBE + "tightening\n" * 3 + fetch(0, 1), (None, None, None))):
+        text = draw(lost + again + made(more))
+        expect("fetched by %r" % more, fetched_in(text), list(zip((1, 2, 3), wanted)))
+        many = sum(second is not None for second in wanted)
+        expect("heading", re.search("; (.*) lost(.*); ", text.splitlines()[0]).groups(), ("3", ", 1 of them fetched later" if many else ""))
+    ninth = made(SUBSCRIBED + "tightening\n" * 9 + fetch(0, 9))
+    expect("the ninth, which was not taken", fetched_in(draw(ninth)), [(9, 0)])
+    given_up = made(SUBSCRIBED + "tightening\n" + TWENTY_TICKS * 6 + fetch(0, 1))
+    expect("one that was given up", fetched_in(draw(given_up)), [(1, 120)])
 
 
 # ---- refusals, the start, the end
@@ -539,7 +581,8 @@ def test_places():
     picture = xml.etree.ElementTree.fromstring(draw(four_servers(), "--svg"))
     rails = sorted(int(text.get("x")) for text in picture.iter(SVG + "text") if text.get("class") == "name")
     expect("rails", len(rails), 6)
-    for data in (four_servers(), made(read(STORY))):
+    for story in os.listdir(STORIES):
+        data = made(read(os.path.join(STORIES, story)))
         drawn = xml.etree.ElementTree.fromstring(draw(data, "--svg"))
         for text in drawn.iter(SVG + "text"):
             words, wide = "".join(text.itertext()), 0 if text.get("class") == "title" else 5.8

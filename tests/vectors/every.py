@@ -1,11 +1,11 @@
 """Vectors by rule: every value of a byte or a number, where a file of lines would be too long.
 
-Each case is house records and the lines that document 01 asks for, reckoned here from its
-rules for one session that talks alone, and from its arithmetic of ticks for several."""
+Each case is house records and the lines that documents 01 and 02 ask for, reckoned here from
+their rules for one session that talks alone, and from 01's arithmetic of ticks for several."""
 
 import openprotocol
-from house_records import BYTES, NUMBER, OPEN, PAYLOADS, SCANNED, SETTINGS, TEXT, TICK, TIGHTENING, filled, record
-from openprotocol import ACCEPTED, IDENTIFIER, REFUSED, RESULT, STARTED, write
+from house_records import BYTES, GREATEST_NUMBER, NUMBER, OPEN, PAYLOADS, SCANNED, SETTINGS, TEXT, TICK, TIGHTENING, filled, record
+from openprotocol import ACCEPTED, IDENTIFIER, OLD_RESULT, REFUSED, RESULT, STARTED, write
 
 GOOD_SETTINGS = {"cell": 12, "channel": 3, "granted": 1, "name": filled("LINE4"), "last": 41}
 LAST = GOOD_SETTINGS["last"]
@@ -14,7 +14,8 @@ SPACES = filled("")
 
 # Of each message: least and greatest length, greatest revision (none: not read).
 RULES = {1: (20, 20, 1), 3: (20, 20, None), 50: (21, 45, 1), 51: (20, 20, 2), 53: (20, 20, None), 54: (20, 20, None),
-         60: (20, 20, 1), 62: (20, 20, None), 63: (20, 20, None), 9999: (20, 20, None)}
+         60: (20, 20, 1), 62: (20, 20, None), 63: (20, 20, None), 64: (30, 30, 1), 9999: (20, 20, None)}
+KEPT = 64  # tightenings
 SUBSCRIBED, NOT_SUBSCRIBED = {51: 6, 60: 9}, {54: 7, 63: 10}
 SUBSCRIPTION = {51: 51, 54: 51, 60: 60, 63: 60}
 
@@ -64,6 +65,10 @@ def result_frame(subscription, fields, identifier, number):
     return notice(RESULT, subscription, {**GOOD_SETTINGS, **fields, "identifier": identifier, "number": number})
 
 
+def old_result_frame(fields, identifier, number):
+    return write(OLD_RESULT, {**fields, "identifier": identifier, "number": number})
+
+
 def tightening_fields(**named):
     fields = PAYLOADS[TIGHTENING].usual(**named)
     return {**fields, "identifier": filled(fields["identifier"])}
@@ -72,9 +77,9 @@ def tightening_fields(**named):
 class Case:
     """Records and the lines expected of them."""
 
-    def __init__(self, granted=1):
-        self.records, self.lines, self.last, self.in_force, self.granted = [], [], LAST, SPACES, granted
-        self.give(SETTINGS, {**GOOD_SETTINGS, "granted": granted})
+    def __init__(self, granted=1, last=LAST):
+        self.records, self.lines, self.last, self.in_force, self.granted = [], [], last, SPACES, granted
+        self.give(SETTINGS, {**GOOD_SETTINGS, "granted": granted, "last": last})
 
     def put(self, record_kind, payload=b""):
         self.records.append(record(record_kind, payload))
@@ -96,9 +101,10 @@ class Case:
 class Alone(Case):
     """Session 0, which talks alone, and what it hears."""
 
-    def __init__(self, granted=1):
-        super().__init__(granted)
+    def __init__(self, granted=1, last=LAST):
+        super().__init__(granted, last)
         self.started, self.subscribed, self.waiting = False, {}, b""
+        self.kept = {}  # the frames of the last tightenings, by their numbers
         self.put(OPEN)
 
     # ---- sent
@@ -133,10 +139,15 @@ class Alone(Case):
         if not is_good(TIGHTENING, fields):
             self.refused(7)
             return
+        if self.last == GREATEST_NUMBER:
+            self.refused(8)
+            return
         self.last += 1
+        identifier = self.in_force if fields["identifier"] == SPACES else fields["identifier"]
+        self.kept[self.last] = old_result_frame(fields, identifier, self.last)
+        self.kept.pop(self.last - KEPT, None)
         if 60 in self.subscribed:
-            own = fields["identifier"]
-            self.expect(result_frame(self.subscribed[60], fields, self.in_force if own == SPACES else own, self.last))
+            self.expect(result_frame(self.subscribed[60], fields, identifier, self.last))
 
     # ---- heard
 
@@ -184,6 +195,8 @@ class Alone(Case):
             self.expect(run)
         elif mid == 50:
             self.hear_download(run[20:])
+        elif mid == 64:
+            self.hear_fetch(run[20:])
         elif (SUBSCRIPTION[mid] in self.subscribed) == (mid in SUBSCRIBED):
             self.turn_down(mid, (SUBSCRIBED if mid in SUBSCRIBED else NOT_SUBSCRIBED)[mid])
         else:
@@ -201,6 +214,14 @@ class Alone(Case):
             self.accept(50)
             self.identified(filled(data))
 
+    def hear_fetch(self, data):
+        if not data.isdigit():
+            self.turn_down(64, 1)
+        elif (number := int(data) or self.last) in self.kept:
+            self.expect(self.kept[number])
+        else:
+            self.turn_down(64, 15)
+
     def identified(self, identifier):
         self.in_force = identifier
         if 51 in self.subscribed:
@@ -214,6 +235,7 @@ class Alone(Case):
 # ---- cases of one session
 
 FREE = (message(51, byte_12=b"1"), message(60, byte_12=b"1"))
+NEWEST = b"0000000000"  # asked for by its number
 
 
 def altered(text, values=range(256)):
@@ -244,6 +266,8 @@ def header_bytes():
             case.send(run)
             if undo and SUBSCRIPTION[undo] in case.subscribed:
                 case.send(message(undo))
+    case.tighten(tightening_fields())
+    case.send(*(header + NEWEST for header in altered(message(64, data=NEWEST)[:20])))
     return case.named("every byte value in a header")
 
 
@@ -259,7 +283,7 @@ def revisions():
             if revision == b"002":  # a 0050 of that revision makes nothing known
                 case.scan(filled("SCANNED"))
             case.tighten(tightening_fields())
-            case.send(message(3, revision, twelve))
+            case.send(message(64, revision, twelve, data=NEWEST), message(3, revision, twelve))
     return case.named("every revision")
 
 
@@ -277,6 +301,59 @@ def downloads(granted=1):
 
 def downloads_not_granted():
     return downloads(0)
+
+
+def fetches():
+    """Every byte value at every place of 0064's number, and every length, with one kept, and of a session that subscribed to nothing."""
+    case = Alone()
+    case.begin(message(64, data=NEWEST))
+    case.tighten(tightening_fields(identifier=b"THE ONE THAT IS KEPT", torque=739, batch_counter=12, batch_size=34))
+    number = b"%010d" % case.last
+    for size in range(0, 90):
+        case.send(message(64, data=(number + NEWEST * 8)[:size]))
+    for data in (number, NEWEST):
+        case.send(*(message(64, data=one) for one in altered(data)))
+    return case.named("every byte value in 0064's data")
+
+
+def about_the_kept(last):
+    """Numbers at the edges of what may be kept when this is the last one: the newest, the oldest, and those that wrap to them."""
+    near = {last + 1, last, last - 1, *range(last - KEPT - 1, last - KEPT + 3), 0, 1, LAST, LAST + 1}
+    wrapped = {number + times * (GREATEST_NUMBER + 1) for number in (0, last, last - KEPT + 1) for times in (1, 2)}
+    return sorted(number for number in near | wrapped | {GREATEST_NUMBER, 10 ** 10 - 1} if 0 <= number < 10 ** 10)
+
+
+def numbers_asked(last=LAST, times=140):
+    """What is kept after each of so many tightenings, the identifier in force being another after every second."""
+    case = Alone(last=last)
+    case.begin()
+    for time in range(times):
+        case.send(*(message(64, data=b"%010d" % number) for number in about_the_kept(case.last)))
+        if time % 2:
+            case.scan(filled("SCANNED %d" % time))
+        case.tighten(tightening_fields(identifier=b"" if time % 3 else b"TOOL %d" % time, torque=time, angle=99999 - time))
+    case.send(*(message(64, data=b"%010d" % number) for number in range(case.last - KEPT, min(case.last + 2, 10 ** 10))))
+    return case.named("numbers about those that are kept, from %d on" % last)
+
+
+def numbers_asked_from_0():
+    return numbers_asked(0, 70)
+
+
+def numbers_asked_at_the_end():
+    """The last number comes to its end; what is refused then is not kept."""
+    return numbers_asked(GREATEST_NUMBER - 70, 75)
+
+
+def kept_values():
+    """Every field of 0065 at its limits."""
+    case = Alone()
+    case.begin()
+    for name, item in PAYLOADS[TIGHTENING].items.items():
+        for number in near(item) if item.sort == NUMBER else ():
+            case.tighten(tightening_fields(**{name: number}))
+            case.send(message(64, data=NEWEST))
+    return case.named("numbers of the tool at their limits, fetched")
 
 
 def tool_texts():
@@ -428,8 +505,9 @@ def nothing_acknowledged():
     return case.named("960 ticks with nothing acknowledged")
 
 
-BY_RULE = [message_numbers, header_bytes, revisions, downloads, downloads_not_granted, tool_texts, tool_numbers, settings, record_lengths,
-           record_kinds, fullest_output, nothing_acknowledged]
+BY_RULE = [message_numbers, header_bytes, revisions, downloads, downloads_not_granted, fetches, numbers_asked, numbers_asked_from_0,
+           numbers_asked_at_the_end, kept_values, tool_texts, tool_numbers, settings, record_lengths, record_kinds, fullest_output,
+           nothing_acknowledged]
 
 
 def cases():

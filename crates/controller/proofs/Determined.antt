@@ -32,6 +32,6 @@ determined {r = r} {r₂ = r₂} a b =
       kept = λ n. a .kept n ∙ sym (b .kept (λ z. n (ap (λ (x : Answer). x .number) e ∙ z)));
     }
 
--- no byte past 16,384 is altered
+-- no byte past 32,768 is altered
 pub past-least : {c : Call} {t o : List ℕ} {r : Answer} {t′ o′ : List ℕ} → Outcome c t o r t′ o′ → drop table-least t′ ≡ drop table-least t
 past-least {t = t} {t′ = t′} out = past-of t t′ (out .past)

@@ -12,7 +12,7 @@ use Rattle.model.specs.Limits.{identifier-length, number-length, number-greates
 use Rattle.model.specs.Bytes.{is-space, all, little, in-bytes}
 use Rattle.model.specs.Records.{Item, item-length, payload-length, parts-from, Value, value-of, values-of}
 use Rattle.model.specs.Records.{tightening-items, tightening-length, identifier-in, tightening-of, tightening}
-use Rattle.model.specs.Events.{tightened, identifier-of}
+use Rattle.model.specs.Events.{result-as, tightened, identifier-of}
 use Rattle.model.specs.Sharing.{Shared, reported}
 use Rattle.text.specs.Put.{Put}
 use Rattle.text.proofs.Lists.{drop-sets, take-sets, take-sets-before, drop-sets-after, drop-take}
@@ -91,7 +91,7 @@ module _ (z p x : List ℕ) (n : ℕ) (lz : length z ≡ result-length) (lp : le
   -- the event that is reported now
   pub result-kept : (g : Shared) → x ≡ identifier-of (identifier-in p) (g .in-force) → n ≡ g .last + 1
       → tightened (result-of kept) ≡ reported g (tightening (identifier-in p) (tightening-of p))
-  unfolding result-of
+  unfolding result-of result-as
   result-kept g ex en = λ i. tightened (record {
     number = (kept-number ∙ en) i;
     identifier = (kept-identifier ∙ ex) i;

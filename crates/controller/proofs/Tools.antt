@@ -1,6 +1,7 @@
 -- A tool record by its kind: how long its payload is, and which event it is.
 use mathlib.Core.Path.{_≡_, refl, sym, ap, _∙_}
 use Prim.Native.Nat.{ℕ, _+_, _≤_}
+use native.Mathlib.Numerals.{add-one}
 use native.Mathlib.Omega.{arith}
 use mathlib.Core.Bool.{Bool, true, false, cond}
 use mathlib.Core.List.{List, [], _∷_}
@@ -11,19 +12,28 @@ use Rattle.model.specs.Records.{payload, good-record, identifier-in, tightening
 use Rattle.model.specs.Records.{tightening-record-kind, tightening-length, scanned-record-kind, read-tool}
 use Rattle.model.specs.Kinds.{identifiers, tightenings, event-most, call-most}
 use Rattle.model.proofs.Bounds.{event-within}
-use Rattle.model.specs.Events.{Event, identified, tightened}
+use Rattle.model.specs.Events.{Result, Event, identified, tightened, identifier-of}
 use Rattle.model.specs.World.{Moment, happens}
 use Rattle.model.specs.Calls.{happening, takers, taken-by}
 use Rattle.model.specs.Sharing.{reported}
-use Rattle.frame.specs.Places.{result-of}
-use Rattle.frame.specs.Places.{event-in}
+use Rattle.frame.specs.Places.{result-of, place-size, event-in}
 use Rattle.record.specs.declared.RecordKind.{RecordKind}
 use Rattle.record.specs.declared.RecordKind.the-variants.{Bad, Tightening, Scanned}
 use Rattle.record.specs.Tools.{tool-in}
 use Rattle.table.specs.Table.{decode, Table, Went}
+use Rattle.table.specs.Passes.{EventTo}
 use Rattle.refusal.proofs.Numbers.{good-length}
 use Rattle.controller.specs.Tool.{Reports}
 use Rattle.controller.proofs.Calls.{nothing-passed}
+
+-- a tightening that is reported now has the next number
+pub tightening-to : {t r : List ℕ} (p : List ℕ) → Table t → length r ≡ place-size tightenings
+    → tightened (result-of r) ≡ reported (decode t .shared) (tightening (identifier-in p) (tightening-of p)) → EventTo t tightenings r
+tightening-to {t} {r} p h l e =
+    let g = decode t .shared in
+    let meant = identifier-of (identifier-in p) (g .in-force) in
+    let same : result-of r ≡ record { number = g .last + 1; identifier = meant; tightening = tightening-of p } = cc in
+    record { table = h; known = omega arith; place = l; number = λ q. ap (λ (y : Result). y .number) same ∙ add-one (g .last) }
 
 module _ (record-kind : RecordKind) (slice : List ℕ) (e : tool-in record-kind slice ≡ read-tool slice) where
   -- the tool record that is read

@@ -39,7 +39,7 @@ pub record Outcome (c : Call) (t o : List ℕ) (r : Answer) (t′ o′ : List �
   pub output : o′ ≡ sets o 0 (output ((said c t o) .2))
   pub fits : r .written ≤ output-least
   pub size : length t′ ≡ length t
-  -- past the bytes that are used, and so past 16,384
+  -- past the bytes that are used, and so past 32,768
   pub past : drop table-used t′ ≡ drop table-used t
   -- done
   pub formed : r .number ≡ 0 → table-formed t′ ≡ true

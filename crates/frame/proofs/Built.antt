@@ -13,13 +13,14 @@ use Rattle.model.specs.Bytes.{NUL, all, in-bytes}
 use Rattle.model.specs.Records.{record-head, house-record, said, settings-length, settings-items, values, settings-of, tightening-of}
 use Rattle.model.specs.Layouts.{Layout, data-from, data-of, characters, data-length, layout-at, layouts-0052, layouts-0061}
 use Rattle.model.specs.Kinds.{Kind, kinds, kind-at}
-use Rattle.model.specs.Frames.{frame, frame-0002, frame-0004, frame-0005, event-frame, frame-record}
+use Rattle.model.specs.Events.{result-as}
+use Rattle.model.specs.Frames.{frame, frame-0002, frame-0004, frame-0005, frame-0065, event-frame, frame-record}
 use Rattle.model.proofs.Framed.{at-every}
 use Rattle.model.proofs.KindLaws.{every-layout}
 use Rattle.text.specs.Put.{Put, Written}
 use Rattle.text.proofs.Puts.{put-then, put-before, put-over, put-as}
 use Rattle.frame.specs.declared.Content.{Content}
-use Rattle.frame.specs.declared.Content.the-variants.{Started, Refused, Accepted, Notice}
+use Rattle.frame.specs.declared.Content.the-variants.{Started, Refused, Accepted, Kept, Notice}
 use Rattle.frame.specs.declared.Asked.{Asked}
 use Rattle.frame.specs.declared.Heading.{Heading}
 use Rattle.frame.specs.declared.To.{To}
@@ -116,13 +117,17 @@ pub is-0005 : (b : Payloads) (mid : ℕ) → frame-of (Accepted mid) b ≡ frame
 unfolding frame-0005 data-in data-from characters
 is-0005 b mid = refl
 
+pub is-0065 : (b : Payloads) (n : ℕ) → frame-of (Kept n) b ≡ frame-0065 (result-as n (b .told))
+unfolding frame-0065 data-in data-from characters result-as tightening-of
+is-0065 b n = refl
+
 -- a copy of what is in a place
 copy-of : (st p : List ℕ) (kind revision : ℕ) (no-acknowledge : Bool) → kind < length kinds → length p ≡ place-size kind
     → frame ((kind-at kind) .notice) revision (notice-byte-12 no-acknowledge)
     (data-of (layout-at ((kind-at kind) .layouts) revision)
     (record { settings = values settings-items st; told = values (place-items kind) p }))
     ≡ event-frame (settings-of st) revision no-acknowledge (event-in kind p)
-unfolding event-frame settings-of tightening-of result-of
+unfolding event-frame settings-of tightening-of result-of result-as
 copy-of st p zero revision no-acknowledge h l =
     ap (λ (x : List ℕ). frame 52 revision (notice-byte-12 no-acknowledge)
     (data-of (layout-at layouts-0052 revision) (record { settings = values settings-items st; told = said x ∷ [] })))

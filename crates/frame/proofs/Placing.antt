@@ -15,7 +15,7 @@ use Rattle.model.specs.Layouts.{Sources, settings, source, Row, number as numbe
 use Rattle.model.specs.Layouts.{layout-at, layouts-0052, layouts-0061}
 use Rattle.model.specs.Kinds.{kinds, kind-at}
 use Rattle.frame.specs.declared.Content.{Content}
-use Rattle.frame.specs.declared.Content.the-variants.{Started, Refused, Accepted, Notice}
+use Rattle.frame.specs.declared.Content.the-variants.{Started, Refused, Accepted, Kept, Notice}
 use Rattle.frame.specs.Layout.{layout-of, items-told, items-of, item-at, place-of, placed, placed-width, Payloads}
 use Rattle.frame.specs.Layout.{bytes-of, field-characters}
 use Rattle.frame.specs.Output.{Real}
@@ -117,4 +117,5 @@ pub all-suit : (content : Content) → Real content → all (suits (items-told c
 all-suit Started h = refl
 all-suit (Refused mid error) h = refl
 all-suit (Accepted mid) h = refl
+all-suit (Kept n) h = refl
 all-suit (Notice asked) h = notice-suits (asked .kind) (asked .revision) h

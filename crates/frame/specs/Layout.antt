@@ -5,15 +5,15 @@ use mathlib.Core.List.{List, [], map}
 use lib.Dec.{leb, eqb}
 use lib.ListN.{length, getD, take, drop}
 use Rattle.model.specs.Bytes.{all, spaces, digits, little}
-use Rattle.model.specs.Records.{Item, time, item-length, payload-length, values, settings-items}
+use Rattle.model.specs.Records.{Item, time, item-length, payload-length, values, settings-items, tightening-items}
 use Rattle.model.specs.Layouts.{Sources, settings, Row, number, text, blank, known, Layout, data-of, layout-at}
-use Rattle.model.specs.Layouts.{layout-0002, layout-0004, layout-0005}
+use Rattle.model.specs.Layouts.{layout-0002, layout-0004, layout-0005, layout-0065}
 use Rattle.model.specs.Kinds.{kind-at}
 use Rattle.frame.specs.Places.{place-items}
 use Rattle.frame.specs.declared.Placed.{Placed}
 use Rattle.frame.specs.declared.Placed.the-variants.{Number, Text, Blank, Known}
 use Rattle.frame.specs.declared.Content.{Content}
-use Rattle.frame.specs.declared.Content.the-variants.{Started, Refused, Accepted, Notice}
+use Rattle.frame.specs.declared.Content.the-variants.{Started, Refused, Accepted, Kept, Notice}
 use Rattle.frame.specs.declared.Extent.{Extent}
 
 -- ==== what frames say: the layout of each, and of which items what it tells is the payload
@@ -22,12 +22,14 @@ abbrev pub layout-of : Content → Layout
 layout-of Started = layout-0002
 layout-of (Refused mid error) = layout-0004 mid error
 layout-of (Accepted mid) = layout-0005 mid
+layout-of (Kept n) = layout-0065 n
 layout-of (Notice asked) = layout-at ((kind-at (asked .kind)) .layouts) (asked .revision)
 
 abbrev pub items-told : Content → List Item
 items-told Started = []
 items-told (Refused mid error) = []
 items-told (Accepted mid) = []
+items-told (Kept n) = tightening-items
 items-told (Notice asked) = place-items (asked .kind)
 
 abbrev pub extent : Layout → Extent

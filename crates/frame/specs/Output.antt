@@ -17,7 +17,7 @@ use Rattle.frame.specs.Layout.{layout-of, Payloads, bytes-of, placed-wid
 use Rattle.frame.specs.declared.Part.{Part}
 use Rattle.frame.specs.declared.Placed.{Placed}
 use Rattle.frame.specs.declared.Content.{Content}
-use Rattle.frame.specs.declared.Content.the-variants.{Started, Refused, Accepted, Notice}
+use Rattle.frame.specs.declared.Content.the-variants.{Started, Refused, Accepted, Kept, Notice}
 use Rattle.frame.specs.declared.Heading.{Heading}
 use Rattle.frame.specs.declared.To.{To}
 use Rattle.frame.specs.declared.Asked.{Asked}
@@ -43,6 +43,7 @@ abbrev pub Real : Content → Type 0
 Real Started = Unit {0}
 Real (Refused mid error) = Unit {0}
 Real (Accepted mid) = Unit {0}
+Real (Kept n) = Unit {0}
 Real (Notice asked) = asked .kind < length kinds
 
 -- the rows of a frame can be written: a field's number has two digits
@@ -63,12 +64,14 @@ abbrev pub mid-of : Content → ℕ
 mid-of Started = 2
 mid-of (Refused mid error) = 4
 mid-of (Accepted mid) = 5
+mid-of (Kept n) = 65
 mid-of (Notice asked) = (kind-at (asked .kind)) .notice
 
 abbrev pub revision-of : Content → ℕ
 revision-of Started = 1
 revision-of (Refused mid error) = 1
 revision-of (Accepted mid) = 1
+revision-of (Kept n) = 1
 revision-of (Notice asked) = asked .revision
 
 abbrev pub notice-byte-12 : Bool → ℕ
@@ -78,6 +81,7 @@ abbrev pub byte-12-of : Content → ℕ
 byte-12-of Started = space
 byte-12-of (Refused mid error) = space
 byte-12-of (Accepted mid) = space
+byte-12-of (Kept n) = space
 byte-12-of (Notice asked) = notice-byte-12 (asked .«no_acknowledge»)
 
 abbrev pub heading-of : Content → Heading
@@ -106,6 +110,10 @@ length-0005 = frame-length (Accepted 0)
 
 abbrev pub length-0004 : ℕ
 length-0004 = frame-length (Refused 0 0)
+
+-- 0002 tells which controller it is
+abbrev pub length-0002 : ℕ
+length-0002 = frame-length Started
 
 -- ==== output records
 

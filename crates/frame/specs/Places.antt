@@ -3,17 +3,13 @@ use Prim.Native.Nat.{ℕ}
 use mathlib.Core.Bool.{cond}
 use mathlib.Core.List.{List}
 use lib.Dec.{eqb}
-use Rattle.model.specs.Records.{Item, payload-length, number-at, values, identifier-in, tightening-of, scanned-items, result-items}
+use Rattle.model.specs.Records.{Item, payload-length, number-at, values, scanned-items, result-items}
 use Rattle.model.specs.Kinds.{identifiers}
-use Rattle.model.specs.Events.{Result, Event, identified, tightened, Notice}
+use Rattle.model.specs.Events.{Result, result-as, Event, identified, tightened, Notice}
 
 -- a result is kept as the tool record's payload with the identifier that was meant, and its number behind it
 unfoldable pub result-of : List ℕ → Result
-result-of bs = record {
-  number = number-at (values result-items bs) 19;
-  identifier = identifier-in bs;
-  tightening = tightening-of bs;
-}
+result-of bs = result-as (number-at (values result-items bs) 19) bs
 
 -- what is kept of a kind
 abbrev pub place-items : ℕ → List Item

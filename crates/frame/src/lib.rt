@@ -7,10 +7,12 @@ ghost use lib.ListN.{length, take, drop};
 ghost use Rattle.model.specs.Limits.{header-length};
 ghost use Rattle.model.specs.Bytes.{space, is-digit, is-space, all, digits, little};
 ghost use Rattle.model.specs.Runs.{is-flag as is-flag-byte, revision-of, is-message as is-message-run};
-ghost use Rattle.model.specs.Records.{record-head, settings-of, settings-length, scanned-items, result-items};
-ghost use Rattle.model.specs.Layouts.{controller-rows, identifier-rows, result-rows, data-length, label-length, label};
+ghost use Rattle.model.specs.Records.{record-head, settings-of, settings-length, scanned-items, tightening-items, tightening-length};
+ghost use Rattle.model.specs.Records.{result-items};
+ghost use Rattle.model.specs.Layouts.{controller-rows, kept-rows, identifier-rows, result-rows, data-length, label-length, label};
 ghost use Rattle.model.specs.Kinds.{kinds, kind-at, copy-most, reply-most};
-ghost use Rattle.model.specs.Frames.{frame-0002, frame-0004, frame-0005, event-frame, frame-record, close-record};
+ghost use Rattle.model.specs.Events.{result-as};
+ghost use Rattle.model.specs.Frames.{frame-0002, frame-0004, frame-0005, frame-0065, event-frame, frame-record, close-record};
 ghost use Rattle.text.specs.Put.{Written, WrittenUpTo};
 ghost use Rattle.frame.specs.Header.{header-of, RunReads};
 ghost use Rattle.frame.specs.Places.{event-in};
@@ -42,6 +44,7 @@ ghost use Rattle.frame.specs.Output.{
   frame-of,
   Recordable,
   RecordMade,
+  length-0002,
   length-0004,
   length-0005,
   record-length,
@@ -222,6 +225,8 @@ pub enum Content {
     Refused(u64, u64),
     // 0005: the message that is answered
     Accepted(u64),
+    // 0065: the number of the tightening, which is what is told
+    Kept(u64),
     // a notice, as it was subscribed to
     Notice(Asked),
 }
@@ -243,6 +248,30 @@ fn controller_row(k: usize) -> Placed
         0 => Placed::Number(4, SETTINGS, 2, 0),
         1 => Placed::Number(2, SETTINGS, 1, 2),
         _ => Placed::Text(IDENTIFIER_LENGTH, SETTINGS, 4),
+    }
+}
+
+// 0065, behind the tightening's number.
+const KEPT_COUNT: usize = 10;
+
+fn kept_row(k: usize) -> Placed
+    requires { ⌜ k < length kept-rows ⌝ }
+    ensures { λ r. ⌜ r ≡ placed tightening-items (row-at kept-rows k) ⌝ }
+{
+    match k {
+        // identifier, parameter set, batch counter
+        0 => Placed::Text(IDENTIFIER_LENGTH, TOLD, 0),
+        1 => Placed::Number(3, TOLD, 2, 26),
+        2 => Placed::Number(4, TOLD, 2, 30),
+        // statuses: tightening, torque, angle
+        3 => Placed::Number(1, TOLD, 1, 32),
+        4 => Placed::Number(1, TOLD, 1, 33),
+        5 => Placed::Number(1, TOLD, 1, 34),
+        // torque, angle, time, batch status
+        6 => Placed::Number(6, TOLD, 4, 47),
+        7 => Placed::Number(5, TOLD, 4, 63),
+        8 => Placed::Text(TIME_LENGTH, TOLD, 67),
+        _ => Placed::Number(1, TOLD, 1, 105),
     }
 }
 
@@ -375,6 +404,10 @@ fn measure(content: Content) -> Extent
             numbered: false,
             count: 1,
         },
+        Content::Kept(number) => Extent {
+            numbered: true,
+            count: 1 + KEPT_COUNT,
+        },
         Content::Notice(asked) => notice_extent(asked),
     }
 }
@@ -393,6 +426,12 @@ fn row(content: Content, k: usize) -> Placed
             Placed::Known(2, error)
         }
         Content::Accepted(mid) => Placed::Known(NUMBER_DIGITS, mid),
+        Content::Kept(number) => {
+            if k == 0 {
+                return Placed::Known(model::NUMBER_DIGITS, number);
+            }
+            kept_row(k - 1)
+        }
         Content::Notice(asked) => notice_row(asked, k),
     }
 }
@@ -575,6 +614,7 @@ fn put_header(out: &mut [u8], at: usize, content: Content, size: usize) -> usize
         Content::Started => put_heading(out, at, reply_heading(57, 2)),
         Content::Refused(mid, error) => put_heading(out, at, reply_heading(26, 4)),
         Content::Accepted(mid) => put_heading(out, at, reply_heading(24, 5)),
+        Content::Kept(number) => put_heading(out, at, reply_heading(118, 65)),
         Content::Notice(asked) => {
             if asked.kind == model::IDENTIFIERS {
                 return put_heading(out, at, notice_heading(size, 52, asked));
@@ -641,8 +681,8 @@ fn put_frame(out: &mut [u8], to: To, content: Content, settings: &[u8], told: &[
 
 // 0002: the session is started. The settings are a settings record's payload.
 pub fn put_0002(out: &mut [u8], to: To, settings: &[u8]) -> usize
-    requires { ⌜ Writable (now out) to reply-most × (length (now settings) ≡ settings-length) ⌝ }
-    ensures { λ r. ⌜ Written (now (out .entry)) (to .at) reply-most
+    requires { ⌜ Writable (now out) to (record-length length-0002) × (length (now settings) ≡ settings-length) ⌝ }
+    ensures { λ r. ⌜ Written (now (out .entry)) (to .at) (record-length length-0002)
         (frame-record (to .session) (frame-0002 (settings-of (now (settings .entry))))) r (now (out .exit)) ⌝ }
 {
     put_frame(out, to, Content::Started, settings, &[])
@@ -664,6 +704,15 @@ pub fn put_0005(out: &mut [u8], to: To, mid: u64) -> usize
         (frame-record (to .session) (frame-0005 mid)) r (now (out .exit)) ⌝ }
 {
     put_frame(out, to, Content::Accepted(mid), &[], &[])
+}
+
+// 0065: a tightening that is kept, by its number. What is told is its payload.
+pub fn put_0065(out: &mut [u8], to: To, number: u64, told: &[u8]) -> usize
+    requires { ⌜ Writable (now out) to reply-most × (length (now told) ≡ tightening-length) ⌝ }
+    ensures { λ r. ⌜ WrittenUpTo (now (out .entry)) (to .at) reply-most
+        (frame-record (to .session) (frame-0065 (result-as number (now (told .entry))))) r (now (out .exit)) ⌝ }
+{
+    put_frame(out, to, Content::Kept(number), &[], told)
 }
 
 // 9999: the header as it came.

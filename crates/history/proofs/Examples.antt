@@ -1,21 +1,27 @@
--- The words in which demand 3 is read off calls, on small histories, computed. Each is session 0, started and subscribed to tightenings
--- with acknowledge, and a tightening that goes out to it; then what a row says.
+-- The words in which demand 3, and what is said of old results, are read off calls, on small histories, computed. Each is session 0,
+-- started and subscribed to tightenings with acknowledge, and a tightening that goes out to it; then what a row says.
 use Prim.Native.Nat.{ℕ, zero, suc, _-_, _/_, _%_}
+use Prim.Native.String.{String}
 use mathlib.Core.Path.{_≡_, refl}
 use mathlib.Core.Bool.{Bool, true, false}
 use mathlib.Core.List.{List, [], _∷_, _++_, map}
-use mathlib.Core.Option.{none, some}
+use mathlib.Core.Option.{Option, none, some, Option·map as option-map}
 use lib.ListN.{length, drop, replicate}
 use Rattle.model.specs.Limits.{table-least, output-least, longest-wait}
+use Rattle.model.specs.Bytes.{padded}
+use Rattle.model.specs.Runs.{empty-run, longer, read-run}
 use Rattle.model.specs.Records.{Settings, payload, settings-of}
 use Rattle.model.specs.Kinds.{tightenings}
+use Rattle.model.specs.Events.{Result}
 use Rattle.model.specs.World.{begun}
 use Rattle.model.specs.Calls.{Call, start, open-session, hang-up-session, bytes, one-tick, tool, Lent}
-use Rattle.model.proofs.Histories.{a-tightening, scan, opened, hung-up, message, sends, tick, ticks, line4, told, outcome}
+use Rattle.model.proofs.Text.{ascii, frame-text}
+use Rattle.model.proofs.Histories.{result-of-guide, a-tightening, scan, opened, hung-up, message, sends, tick, ticks, line4, told, outcome}
 use Rattle.watch.specs.Marks.{Mark, copies, T}
-use Rattle.history.specs.Turns.{turns}
-use Rattle.history.specs.Demand.{marks}
+use Rattle.history.specs.Turns.{Turn, turns}
+use Rattle.history.specs.Demand.{marks, past-after}
 use Rattle.history.specs.Output.{read-output}
+use Rattle.history.specs.Memory.{tightenings-in, asks-well}
 use Rattle.history.proofs.Cases.{call-in, long-enough}
 
 -- ==== the calls that records stand for
@@ -173,6 +179,39 @@ pub done : map said-of (later (tick ∷ a-tightening ∷ sends 0 "00200062001___
     ∷ []
 unfolding outcome
 done = refl
+
+-- ==== 02, P2: the tightenings of a history, by number and identifier, the newest first. One goes out, one is refused for the output that
+-- it is lent, one comes with nobody there, with the identifier in force then, which is another now
+
+abbrev past-of : List (Lent × Call) → List Turn
+past-of cs = past-after [] (turns (begun of-line4 0) cs)
+
+abbrev named : Result → ℕ × List ℕ
+named r = (r .number, r .identifier)
+
+pub the-tightenings :
+    map named
+    (tightenings-in of-line4
+    (past-of (beginning ++ (too-short, call-in a-tightening) ∷ map made (hung-up 0 ∷ scan "A" ∷ result-of-guide "" ∷ scan "B" ∷ []))))
+    ≡ (2, padded 25 (ascii "A")) ∷ (1, padded 25 (ascii "KP0L3456JKL0897")) ∷ []
+unfolding outcome
+the-tightenings = refl
+
+-- a message that asks well, and four that do not: a space among the digits, a digit too few, another revision, another number
+abbrev well : String → Option Bool
+well text = option-map asks-well (read-run (longer empty-run (frame-text text)))
+
+pub the-askers :
+    map well
+    ("00300064001_________0000000001"
+    ∷ "00300064001_________000000001_"
+    ∷ "00290064001_________000000001"
+    ∷ "00300064002_________0000000001"
+    ∷ "00300065001_________0000000001"
+    ∷ [])
+    ≡ some true ∷ some false ∷ some false ∷ some false ∷ some false ∷ []
+unfolding outcome
+the-askers = refl
 
 -- ==== an output's records: one frame's, an order to close; and bytes that are cut, or one too many
 

@@ -157,7 +157,7 @@ begun-by d (not-called a z u v e) = absurd (omega arith)
 begun-by d (refused a b z u v e) = absurd (omega arith)
 begun-by d (called y a b out z u) = (y, out, sym z ∙ d)
 
-once-made : (ps : List Export) (ms : List Made) → CallsOf ps ms → OnceTold ps → Once ms
+pub once-made : (ps : List Export) (ms : List Made) → CallsOf ps ms → OnceTold ps → Once ms
 once-made [] [] no-more o = tt
 once-made (p ∷ ps) (m ∷ ms) (made x r) o = (
   ap₂ (λ (n : ℕ) (c : Call). eqb n 0 && starts c) (sym (x .told)) (x .call) ∙ o .0,

@@ -9,6 +9,7 @@ pub mod Frames
 pub mod Replies
 pub mod Product
 pub mod Exports
+pub mod Memory
 pub mod Cases
 pub mod Examples
 pub mod Wire

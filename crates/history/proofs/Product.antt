@@ -52,7 +52,7 @@ told {t = t} w all-there h e (and {t₁ = t₁} {m = m} {ms = ms} out rest) =
     )
 
 -- no second start
-no-start : (ms : List Made) (xs : List Turn) → Tells ms xs → Once ms → NoStart xs
+pub no-start : (ms : List Made) (xs : List Turn) → Tells ms xs → Once ms → NoStart xs
 no-start [] [] h o = tt
 no-start [] (x ∷ xs) h o = absurd h
 no-start (m ∷ ms) [] h o = absurd h

@@ -9,7 +9,8 @@ use lib.ListN.{length}
 use Rattle.model.specs.Bytes.{digits}
 use Rattle.model.specs.Records.{Settings}
 use Rattle.model.specs.Kinds.{kinds}
-use Rattle.model.specs.Frames.{header, frame, frame-0002, frame-0004, frame-0005}
+use Rattle.model.specs.Events.{Result}
+use Rattle.model.specs.Frames.{header, frame, frame-0002, frame-0004, frame-0005, frame-0065}
 use Rattle.model.specs.Notices.{Subscription, Deed}
 use Rattle.model.specs.Row.{Tagged, said}
 use Rattle.model.specs.Session.{Copy, Emission, reply, copy, close, deal}
@@ -58,3 +59,7 @@ own-0004 mid error = refl
 pub own-0005 : (mid : ℕ) → is-notice (frame-0005 mid) ≡ false
 unfolding frame-0005 frame header digits
 own-0005 mid = refl
+
+pub own-0065 : (r : Result) → is-notice (frame-0065 r) ≡ false
+unfolding frame-0065 frame header digits
+own-0065 r = refl

@@ -13,22 +13,24 @@ use lib.Seq.{take-take}
 use borrow.Author.Tests.{eqb-true, leb-true, not-true}
 use Rattle.model.specs.Limits.{header-length, run-kept, idle-limit}
 use Rattle.model.specs.Records.{Settings}
-use Rattle.model.specs.Bytes.{places, decimal, is-text, all}
+use Rattle.model.specs.Bytes.{places, decimal}
 use Rattle.model.specs.Tests.{_gives_, first}
 use Rattle.model.specs.Kinds.{kinds, room-of}
 use Rattle.model.specs.Runs.{Run, empty-run, longer, Piece, Message, is-message, message-of, read-run}
-use Rattle.model.specs.Messages.{Effect, starts, stops, identifies, subscribes, unsubscribes, acknowledges as acknowledging, mirrors}
+use Rattle.model.specs.Messages.{Effect, starts, stops, identifies, subscribes, unsubscribes, acknowledges as acknowledging, fetches}
+use Rattle.model.specs.Messages.{mirrors}
 use Rattle.model.specs.Messages.{Revisions, not-read, revisions, Entry, entry-of, bearing, entry-bearing, gets-reply, Error}
 use Rattle.model.specs.Messages.{unknown-message, already-started, wrong-length, wrong-revision, wrong-data, own, code, good-length}
-use Rattle.model.specs.Messages.{good-among, Standing, tested, error-of}
-use Rattle.model.specs.Events.{Event, identified, kind-of, Notice}
+use Rattle.model.specs.Messages.{good-among, good-data, Standing, number-asked, tested, error-of}
+use Rattle.model.specs.Events.{Result, Event, identified, kind-of, Notice}
+use Rattle.model.specs.Memory.{asked-for}
 use Rattle.model.specs.Sharing.{Shared, notice-of, shared-with}
-use Rattle.model.specs.Frames.{frame-0002, frame-0004, frame-0005}
+use Rattle.model.specs.Frames.{frame-0002, frame-0004, frame-0005, frame-0065}
 use Rattle.model.specs.Notices.{Subscription, unsubscribed, is-subscribed, Deed, nothing as no-deed, beats, news, asks, drops, acks, act}
 use Rattle.model.specs.Row.{Tagged, row, said}
 use Rattle.model.specs.Session.{Session, closed, opened, started, is-closed, fresh, no-subscriptions, Copy, Emission, reply, copy, close}
 use Rattle.model.specs.Session.{copies-to, deal, dealt, only}
-use Rattle.model.specs.Hearing.{started-standing, opened-standing, message-error, error-reply, carry-out, judged, hear, begin}
+use Rattle.model.specs.Hearing.{started-standing, opened-standing, message-error, error-reply, fetched, carry-out, judged, hear, begin}
 use Rattle.model.specs.Hearing.{identifier-told, identifier-judged, identifier-heard}
 use Rattle.model.specs.Local.{end-run, end-run-opened, Local, opening, hang-up, receives, tick, elsewhere, step, takes}
 use Rattle.model.specs.Local.{identifier-run, announces}
@@ -50,8 +52,8 @@ use Rattle.history.specs.Demand.{copies-in, seen, seen-in}
 use Rattle.history.proofs.Subscriptions.{wish-in, as-seen, view, is-newest, Done, unchanged, wiped, beats-does, news-does, asks-does}
 use Rattle.history.proofs.Subscriptions.{drops-does, acks-does, asks-wish}
 use Rattle.history.proofs.Signals.{Signals, signals, silence, copies-silent, reply-first, silent-0004, welcome-0002, silent-other}
-use Rattle.history.proofs.Signals.{accepting, accepting-0005}
-use Rattle.history.proofs.Sendings.{Sent, sent-dealt, own-0002, own-0004, own-0005}
+use Rattle.history.proofs.Signals.{silent-0065, accepting, accepting-0005}
+use Rattle.history.proofs.Sendings.{Sent, sent-dealt, own-0002, own-0004, own-0005, own-0065}
 
 -- ==== what is read of a session
 
@@ -286,6 +288,7 @@ module _ (g : Shared) (R : SessionRead) (i : ℕ) (run : Run) (subs : List Subsc
   unmade real e known (identifies n) q x h kind = acks-if real e known (identifies n) q kind
   unmade real e known (subscribes j n) q x h kind = acks-if real e known (subscribes j n) q kind
   unmade real e known (unsubscribes j n) q x h kind = acks-if real e known (unsubscribes j n) q kind
+  unmade real e known (fetches n) q x h kind = acks-if real e known (fetches n) q kind
   unmade real e known mirrors q x h kind = acks-if real e known mirrors q kind
   unmade real e known (acknowledging j) q x h kind =
       acks-if real e known (acknowledging j) q kind ∙ ap (eqb kind j &&_) (go (good-length e (m .size)) refl) ∙ and-false (eqb kind j)
@@ -331,7 +334,7 @@ module _ (g : Shared) (R : SessionRead) (i : ℕ) (run : Run) (subs : List Subsc
       lone : is-subscribed (sub j) ≡ false
       lone =
           free (true && eqb (e .mid) 0001) (not (good-length e (m .size))) (not (good-among (e .revision) (m .revision)))
-          (not (all is-text (m .data-field))) (is-subscribed (sub j)) n (rw q at h)
+          (not (good-data (subscribes j n) (m .data-field))) (is-subscribed (sub j)) n (rw q at h)
 
       wished : (b : Bool) (kind : ℕ) → eqb kind j ≡ b → kind < length kinds
           → cond b (wish-of (some m)) (R .wish kind)
@@ -363,6 +366,13 @@ module _ (g : Shared) (R : SessionRead) (i : ℕ) (run : Run) (subs : List Subsc
       rw (acks-if real e known (acknowledging j) q kind, good, and-true (eqb kind j))
       (acks-does (newest kind) (g .settings) (g .events) (room-of kind) (eqb kind j) (sub kind) .0)) refl
       (sent-dealt (g .settings) true (only j acks) subs (like .3))
+  carry-steps real e known h (fetches n) q = go (asked-for (number-asked (m .data-field)) (g .kept))
+    where
+      go : (o : Option Result) → Goal false (started 0 empty-run subs, fetched o)
+      go none = idle [] refl (λ kind. refl) (acks-if real e known (fetches n) q) tt
+      go (some r) =
+          idle (reply (frame-0065 r) ∷ []) (reply-first (frame-0065 r) [] refl ∙ silent-0065 r) (λ kind. refl)
+          (acks-if real e known (fetches n) q) (refl, own-0065 r, tt)
   carry-steps real e known h mirrors q =
       let c = mirrored real e known mirrors q in
       idle (reply (m .header) ∷ []) (c .0) (λ kind. refl) (acks-if real e known mirrors q) (refl, c .1, tt)
@@ -549,6 +559,7 @@ module _ (g : Shared) (R : SessionRead) where
       go (subscribes kind n) = refl
       go (unsubscribes kind n) = refl
       go (acknowledging kind) = refl
+      go (fetches n) = refl
       go mirrors = refl
 
   told-run : (subs : List Subscription) (o : Option Message)

@@ -9,9 +9,9 @@ use borrow.Author.Tests.{ne-eqb}
 use Rattle.model.specs.Bytes.{places, decimal, digits}
 use Rattle.model.specs.Records.{Settings}
 use Rattle.model.specs.Messages.{Bearing, entry-bearing, entry-of}
-use Rattle.model.specs.Events.{Event, identified, tightened, Notice}
+use Rattle.model.specs.Events.{Result, Event, identified, tightened, Notice}
 use Rattle.model.specs.Layouts.{characters, data-from}
-use Rattle.model.specs.Frames.{header, frame, frame-0002, frame-0004, frame-0005, event-frame}
+use Rattle.model.specs.Frames.{header, frame, frame-0002, frame-0004, frame-0005, frame-0065, event-frame}
 use Rattle.model.specs.Kinds.{room-of}
 use Rattle.model.specs.Notices.{Subscription, unsubscribed, plain, acked, Deed, nothing, beats, news, asks, drops, acks, act}
 use Rattle.model.specs.Row.{Tagged, tag, said}
@@ -116,6 +116,10 @@ silent-after (close ∷ xs) ys h = ap (λ (x : Signals). signals-of true (x .wel
 pub silent-0004 : (mid error : ℕ) → signals-by (frame-0004 mid error) ≡ silence
 unfolding frame-0004 frame header digits
 silent-0004 mid error = refl
+
+pub silent-0065 : (r : Result) → signals-by (frame-0065 r) ≡ silence
+unfolding frame-0065 frame header digits
+silent-0065 r = refl
 
 pub welcome-0002 : (st : Settings) → signals-by (frame-0002 st) ≡ record { closes = false; welcomes = true; accepts = λ so. false }
 unfolding frame-0002 frame header digits

@@ -51,7 +51,7 @@ module _ (g : Shared) (bs : List ℕ) (x : Session) where
   unseen : {z : Sight} → Sees z elsewhere → (z .ticks ≡ false) × ((kind : ℕ) → Mild kind z (session-step g elsewhere x))
   unseen nothing = (refl, λ kind. (refl, refl, refl))
 
-heard : {z : Sight} {p : Piece} → Sees z (receives p) → (z .given ≡ some p) × (z .ticks ≡ false)
+pub heard : {z : Sight} {p : Piece} → Sees z (receives p) → (z .given ≡ some p) × (z .ticks ≡ false)
 heard its-bytes = (refl, refl)
 
 -- a session takes what its subscription takes, and of identifiers all

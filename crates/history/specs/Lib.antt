@@ -3,5 +3,6 @@ pub mod Past
 pub mod Output
 pub mod Demand
 pub mod Product
+pub mod Memory
 pub mod Exports
 pub mod Wire

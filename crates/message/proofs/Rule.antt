@@ -54,13 +54,13 @@ entry-at k = getD table k beyond
 abbrev row-at : ℕ → List ℕ
 row-at k = getD messages k []
 
-rule : (k : ℕ) → k < 10 → Says (row-at k) (entry-at k)
+rule : (k : ℕ) → k < 11 → Says (row-at k) (entry-at k)
 rule k h = says-tells (row-at k) (entry-at k) (at-each says messages table [] beyond refl k h)
 
 -- ==== a number and its row
 
 -- the entry of the number that a row has
-pub found : (mid k : ℕ) → k < 10 → entry-of mid ≡ some (entry-at k) → getD (row-at k) 0 0 ≡ mid
+pub found : (mid k : ℕ) → k < 11 → entry-of mid ≡ some (entry-at k) → getD (row-at k) 0 0 ≡ mid
     → Lists mid (read (row-at k)) (entry-of mid)
 found mid k h z e = let s = rule k h in rw z (sym e ∙ s .0, s .1, s .2, s .3)
 

@@ -1,13 +1,16 @@
 -- What this crate's inner functions leave, from which the contracts of the public ones are proved.
 use Prim.Native.Nat.{ℕ}
 use mathlib.Core.Path.{_≡_}
-use mathlib.Core.Bool.{Bool, true, false}
+use mathlib.Core.Bool.{Bool, true, false, cond}
 use mathlib.Core.List.{List, [], _∷_}
 use mathlib.Core.Option.{Option, none, some}
 use lib.ListN.{getD}
+use Rattle.model.specs.Bytes.{is-digit, is-text, all}
 use Rattle.model.specs.Tests.{first}
-use Rattle.model.specs.Messages.{Entry, Revisions, not-read, revisions, Effect, Error, unknown-message, Standing, own-test}
-use Rattle.message.specs.Meaning.{effect-in, effect-listed}
+use Rattle.model.specs.Messages.{Entry, Revisions, not-read, revisions, Effect, Error, unknown-message, in-digits, Standing}
+use Rattle.model.specs.Messages.{own-test}
+use Rattle.message.specs.Meaning.{effect-in, effect-listed, standing-with}
+use Rattle.message.specs.declared.Standing as by-value
 use Rattle.message.specs.declared.Row.{Row}
 use Rattle.message.specs.declared.Listed.{Listed}
 
@@ -32,6 +35,7 @@ messages =
     ∷ row 60 20 20 1 1
     ∷ row 62 20 20 0 any
     ∷ row 63 20 20 0 any
+    ∷ row 64 30 30 1 1
     ∷ row 9999 20 20 0 any
     ∷ []
 
@@ -57,8 +61,19 @@ Lists mid r (some e) = (mid ≡ e .mid) × (r .least ≡ e .least) × (r .greate
 abbrev pub ListsAll : ℕ → Listed → Option Entry → Type 0
 ListsAll mid l o = (effect-in (l .effect) ≡ effect-listed o) × (is-listed o ≡ true → Lists mid (l .row) o)
 
--- ==== 01, "What a message does", the last of the tests: the message's own
+-- ==== 01, "What a message does", the last two of the tests: the data, and the message's own
 
-abbrev pub own-error : Standing → Option Effect → Option Error
-own-error x none = some unknown-message
-own-error x (some e) = first none (own-test x e ∷ [])
+abbrev pub wants-digits : Option Effect → Bool
+wants-digits none = false
+wants-digits (some e) = in-digits e
+
+abbrev pub wanted : Option Effect → List ℕ → Bool
+wanted e bs = cond (wants-digits e) (all is-digit bs) (all is-text bs)
+
+abbrev pub own-error : Standing → Option Effect → List ℕ → Option Error
+own-error x none bs = some unknown-message
+own-error x (some e) bs = first none (own-test x e bs ∷ [])
+
+-- the same, whatever the data are, where the tightening that they mean has that number
+abbrev pub OwnError : by-value.Standing → Option Effect → ℕ → Option Error → Type 0
+OwnError x e number o = (bs : List ℕ) → o ≡ own-error (standing-with x number) e bs

@@ -1,14 +1,20 @@
 -- 01, "What a message does": what each case of this crate's enums, and its record, is among the model's definitions. The contracts of
 -- the public functions speak through these.
-use Prim.Native.Nat.{ℕ}
-use mathlib.Core.Bool.{Bool, true, false}
+use Prim.Native.Nat.{ℕ, _-_}
+use mathlib.Core.Path.{_≡_}
+use mathlib.Core.Bool.{Bool, true, false, cond, _&&_}
+use mathlib.Core.List.{List}
 use mathlib.Core.Option.{Option, none, some}
+use lib.Dec.{leb, ltb, eqb}
 use lib.ListN.{getD}
+use Rattle.model.specs.Events.{Result}
+use Rattle.model.specs.Memory.{numbered, asked-for, is-there}
 use Rattle.model.specs.Messages as model
-use Rattle.model.specs.Messages.{Entry, starts, stops, identifies, subscribes, unsubscribes, acknowledges, mirrors, gets-reply, Error}
-use Rattle.model.specs.Messages.{unknown-message, already-started, wrong-length, wrong-revision, wrong-data, own, code}
+use Rattle.model.specs.Messages.{Entry, starts, stops, identifies, subscribes, unsubscribes, acknowledges, fetches, mirrors}
+use Rattle.model.specs.Messages.{gets-reply, Error, unknown-message, already-started, wrong-length, wrong-revision, wrong-data, own, code}
 use Rattle.message.specs.declared.Effect.{Effect}
 use Rattle.message.specs.declared.Effect.the-variants as effect
+use Rattle.message.specs.declared.Common.{Common}
 use Rattle.message.specs.declared.Standing.{Standing}
 use Rattle.message.specs.declared.Verdict.{Verdict}
 use Rattle.message.specs.declared.Verdict.the-variants as verdict
@@ -24,6 +30,7 @@ effect-in (effect.Identifies error) = some (identifies error)
 effect-in (effect.Subscribes kind error) = some (subscribes kind error)
 effect-in (effect.Unsubscribes kind error) = some (unsubscribes kind error)
 effect-in (effect.Acknowledges kind) = some (acknowledges kind)
+effect-in (effect.Fetches error) = some (fetches error)
 effect-in effect.Mirrors = some mirrors
 
 -- the effect that an entry has, where there is one
@@ -38,10 +45,39 @@ answered (some e) = gets-reply e
 
 -- ==== the tests
 
+-- 02, P2: the number of the tightening that is meant by the one that is asked for; and whether it is among those that are kept, of which
+-- the newest has the greatest and the others those before it
+abbrev pub meant : Common → ℕ → ℕ
+meant x asked = cond (eqb asked 0) (x .newest) asked
+
+abbrev pub is-among : Common → ℕ → Bool
+is-among x n = leb n (x .newest) && ltb (x .newest - n) (x .kept)
+
+abbrev pub holds : Common → ℕ → Bool
+holds x asked = is-among x (meant x asked)
+
+-- what is kept, by value: whether there is one that has a number, and which is asked for
+pub record Remembers (x : Common) (rs : List Result) : Type 0 where
+  pub kept : (n : ℕ) → is-there (numbered n rs) ≡ is-among x n
+  pub asked-for : (asked : ℕ) → asked-for asked rs ≡ numbered (meant x asked) rs
+
 -- the kinds of notice stand in the model's order; there is none past the last to be subscribed to
 abbrev pub standing-of : Standing → model.Standing
-standing-of x =
-    record { started = x .started; granted = x .granted; subscribed = λ kind. getD (x .subscribed) kind false }
+standing-of x = record {
+  started = x .started;
+  granted = x .common .granted;
+  subscribed = λ kind. getD (x .subscribed) kind false;
+  kept = holds (x .common);
+}
+
+-- the same, where the tightening that a message means has that number
+abbrev pub standing-with : Standing → ℕ → model.Standing
+standing-with x number = record {
+  started = x .started;
+  granted = x .common .granted;
+  subscribed = λ kind. getD (x .subscribed) kind false;
+  kept = λ asked. is-among (x .common) number;
+}
 
 -- the model's error; none where every test is met
 abbrev pub error-in : Verdict → Option Error

@@ -1,14 +1,16 @@
-// What a message does, and the error that it has (01, "What a message does"): decided by value, whatever the numbers are.
+// What a message does, and the error that it has (01, "What a message does"; 02, P2): decided by value, whatever the numbers are.
 ghost use mathlib.Core.Path.{_≡_};
 ghost use mathlib.Core.Bool.{true, cond, _&&_};
 ghost use mathlib.Core.Option.{none, some};
 ghost use lib.Dec.{eqb};
 ghost use Rattle.model.specs.Bytes.{within as is-within};
-ghost use Rattle.model.specs.Messages.{entry-of, own, error-of};
-ghost use Rattle.message.specs.Meaning.{effect-in, effect-listed, answered, standing-of, error-in, error-number};
-ghost use Rattle.message.specs.Inner.{read, ListsAll, own-error};
+ghost use Rattle.model.specs.Messages.{entry-of, number-asked as number-asked-in, own, error-of};
+ghost use Rattle.message.specs.Meaning.{effect-in, effect-listed, answered, meant as meant-by, is-among, standing-of};
+ghost use Rattle.message.specs.Meaning.{standing-with, error-in, error-number};
+ghost use Rattle.message.specs.Inner.{read, ListsAll, wants-digits, wanted, OwnError};
 use model::IDENTIFIERS;
 use model::KIND_COUNT;
+use model::NUMBER_DIGITS;
 use model::TIGHTENINGS;
 
 // ---- what a message does
@@ -22,6 +24,7 @@ pub enum Effect {
     Subscribes { kind: usize, error: u64 },
     Unsubscribes { kind: usize, error: u64 },
     Acknowledges { kind: usize },
+    Fetches { error: u64 },
     Mirrors,
 }
 
@@ -37,6 +40,7 @@ pub fn gets_reply(e: Effect) -> bool
         Effect::Subscribes { kind: _, error: _ } => true,
         Effect::Unsubscribes { kind: _, error: _ } => true,
         Effect::Acknowledges { kind: _ } => false,
+        Effect::Fetches { error: _ } => true,
         Effect::Mirrors => true,
     }
 }
@@ -47,7 +51,7 @@ pub fn gets_reply(e: Effect) -> bool
 const ANY: u64 = 0xFFFF_FFFF_FFFF_FFFF;
 
 // A message's number, its least and greatest length, its least and greatest revision.
-const MESSAGES: [[u64; 5]; 10] = [
+const MESSAGES: [[u64; 5]; 11] = [
     [1, 20, 20, 1, 1],
     [3, 20, 20, 0, ANY],
     [50, 21, 45, 1, 1],
@@ -57,6 +61,7 @@ const MESSAGES: [[u64; 5]; 10] = [
     [60, 20, 20, 1, 1],
     [62, 20, 20, 0, ANY],
     [63, 20, 20, 0, ANY],
+    [64, 30, 30, 1, 1],
     [9999, 20, 20, 0, ANY],
 ];
 
@@ -130,7 +135,8 @@ fn listed_of(mid: u64) -> Listed
             },
             MESSAGES[8],
         ),
-        9999 => with_row(Effect::Mirrors, MESSAGES[9]),
+        64 => with_row(Effect::Fetches { error: 15 }, MESSAGES[9]),
+        9999 => with_row(Effect::Mirrors, MESSAGES[10]),
         _ => with_row(Effect::Unknown, [0; 5]),
     }
 }
@@ -145,10 +151,18 @@ pub fn effect_of(mid: u64) -> Effect
 
 // ---- the tests
 
+// What the tests look at of what all sessions share: whether identifiers are taken over the net; the number of the newest tightening, and
+// how many are kept, of which the others have the numbers before it.
+pub struct Common {
+    pub granted: bool,
+    pub newest: u64,
+    pub kept: u64,
+}
+
 // What the tests look at besides the message; by kind of notice, whether the session is subscribed to it.
 pub struct Standing {
     pub started: bool,
-    pub granted: bool,
+    pub common: Common,
     pub subscribed: [bool; KIND_COUNT],
 }
 
@@ -201,6 +215,70 @@ fn subscribed(x: Standing, kind: usize) -> bool
     x.subscribed[kind]
 }
 
+// The number that a data field asks for.
+fn number_asked(data_field: &[u8]) -> u64
+    ensures { λ r. ⌜ r ≡ number-asked-in (now (data_field .entry)) ⌝ }
+{
+    if data_field.len() > NUMBER_DIGITS {
+        return text::number(&data_field[0..NUMBER_DIGITS]);
+    }
+    text::number(data_field)
+}
+
+// The number of the tightening that is meant by the one that is asked for: 0 asks for the newest.
+fn meant(x: Common, asked: u64) -> u64
+    ensures { λ r. ⌜ r ≡ meant-by x asked ⌝ }
+{
+    if asked == 0 {
+        return x.newest;
+    }
+    asked
+}
+
+// That of a message with that data field.
+pub fn number_meant(x: Standing, data_field: &[u8]) -> u64
+    ensures { λ r. ⌜ r ≡ meant-by (x .common) (number-asked-in (now (data_field .entry))) ⌝ }
+{
+    meant(x.common, number_asked(data_field))
+}
+
+// Whether the tightening with that number is kept.
+fn is_kept(x: Common, n: u64) -> bool
+    ensures { λ r. ⌜ r ≡ is-among x n ⌝ }
+{
+    if n > x.newest {
+        return false;
+    }
+    x.newest - n < x.kept
+}
+
+// Whether the data of a message have to be digits.
+fn in_digits(e: Effect) -> bool
+    ensures { λ r. ⌜ r ≡ wants-digits (effect-in e) ⌝ }
+{
+    match e {
+        Effect::Unknown => false,
+        Effect::Starts => false,
+        Effect::Stops => false,
+        Effect::Identifies { error: _ } => false,
+        Effect::Subscribes { kind: _, error: _ } => false,
+        Effect::Unsubscribes { kind: _, error: _ } => false,
+        Effect::Acknowledges { kind: _ } => false,
+        Effect::Fetches { error: _ } => true,
+        Effect::Mirrors => false,
+    }
+}
+
+// Whether the data are what they have to be.
+fn is_good(e: Effect, data_field: &[u8]) -> bool
+    ensures { λ r. ⌜ r ≡ wanted (effect-in e) (now (data_field .entry)) ⌝ }
+{
+    if in_digits(e) {
+        return text::is_digits(data_field);
+    }
+    text::is_text(data_field)
+}
+
 // An own error, where its test applies.
 fn own_if(applies: bool, error: u64) -> Verdict
     ensures { λ r. ⌜ error-in r ≡ cond applies (some (own error)) none ⌝ }
@@ -212,44 +290,51 @@ fn own_if(applies: bool, error: u64) -> Verdict
     }
 }
 
-// The message's own test.
-fn own_error(x: Standing, e: Effect) -> Verdict
-    ensures { λ r. ⌜ error-in r ≡ own-error (standing-of x) (effect-in e) ⌝ }
+// The message's own test; whatever its data are, the number is that of the tightening that they mean.
+fn own_error(x: Standing, e: Effect, number: u64) -> Verdict
+    ensures { λ r. ⌜ OwnError x (effect-in e) number (error-in r) ⌝ }
 {
     match e {
         Effect::Unknown => Verdict::Unknown,
         Effect::Starts => Verdict::Fine,
         Effect::Stops => Verdict::Fine,
-        Effect::Identifies { error } => own_if(!x.granted, error),
+        Effect::Identifies { error } => own_if(!x.common.granted, error),
         Effect::Subscribes { kind, error } => own_if(subscribed(x, kind), error),
         Effect::Unsubscribes { kind, error } => own_if(!subscribed(x, kind), error),
         Effect::Acknowledges { kind: _ } => Verdict::Fine,
+        Effect::Fetches { error } => own_if(!is_kept(x.common, number), error),
         Effect::Mirrors => Verdict::Fine,
     }
 }
 
-// The error of a message of that number, length, revision and data: the tests in order. The first is the decision over message
-// numbers: what comes to its closing arm is unknown.
-pub fn judge(x: Standing, mid: u64, size: usize, revision: u64, data_field: &[u8]) -> Verdict
-    ensures { λ r. ⌜ error-in r ≡ error-of (standing-of x) mid size revision (now (data_field .entry)) ⌝ }
+// A message by its number and its length.
+pub struct Outline {
+    pub mid: u64,
+    pub size: usize,
+}
+
+// The error of a message of that revision and data: the tests in order. The first is the decision over message numbers: what comes to its
+// closing arm is unknown. The number is that of the tightening that the data mean.
+pub fn judge(x: Standing, m: Outline, revision: u64, number: u64, data_field: &[u8]) -> Verdict
+    ensures { λ r. ⌜ error-in r ≡ error-of (standing-with x number) (m .mid) (m .size) revision (now (data_field .entry)) ⌝ }
 {
-    let l = listed_of(mid);
+    let l = listed_of(m.mid);
     let e = l.effect;
     if let Effect::Unknown = e {
         return Verdict::Unknown;
     }
     let row = l.row;
-    if starts_again(x.started, mid) {
+    if starts_again(x.started, m.mid) {
         return Verdict::AlreadyStarted;
     }
-    if !within(row.least, row.greatest, size as u64) {
+    if !within(row.least, row.greatest, m.size as u64) {
         return Verdict::Length;
     }
     if !within(row.oldest, row.newest, revision) {
         return Verdict::Revision;
     }
-    if !text::is_text(data_field) {
+    if !is_good(e, data_field) {
         return Verdict::Data;
     }
-    own_error(x, e)
+    own_error(x, e, number)
 }

@@ -9,17 +9,17 @@ use native.Mathlib.Omega.{arith}
 use Rattle.model.specs.Limits.{header-length, identifier-length, copy-every, given-up-at, output-least}
 use Rattle.model.specs.Bytes.{spaces, digits}
 use Rattle.model.specs.Records.{Settings, settings-length, settings-of, tightening-length, tightening-of}
-use Rattle.model.specs.Events.{Event, identified, tightened, Notice}
+use Rattle.model.specs.Events.{Result, identified, tightened, Notice}
 use Rattle.model.specs.Layouts.{characters, data-from, data-length, Layouts, revision-count, layouts-0052, layouts-0061}
-use Rattle.model.specs.Frames.{header, frame, frame-0002, event-frame}
+use Rattle.model.specs.Frames.{header, frame, frame-0002, frame-0065, event-frame}
 use Rattle.model.specs.Kinds.{Room, Kind, kinds, kind-at, identifiers, tightenings, copy-most, copies-most, longest-reply, event-most}
 use Rattle.model.specs.Kinds.{receive-most, tick-most, call-most}
 use Rattle.model.specs.Notices.{empty, busy, Subscription, unsubscribed, plain, acked, Deed, nothing, beats, news, asks, drops, acks}
 use Rattle.model.specs.Notices.{next-one, act}
-use Rattle.model.specs.Messages.{not-read, revisions, starts, stops, identifies, subscribes, unsubscribes, acknowledges, mirrors}
-use Rattle.model.specs.Messages.{entry, table}
+use Rattle.model.specs.Messages.{not-read, revisions, starts, stops, identifies, subscribes, unsubscribes, acknowledges, fetches}
+use Rattle.model.specs.Messages.{mirrors, entry, table}
 
--- 01, "What a message does"
+-- 01, "What a message does"; 02, P2
 pub the-table : table
     ≡ entry 0001 20 20 (revisions 1 1) starts
     ∷ entry 0003 20 20 not-read stops
@@ -30,28 +30,31 @@ pub the-table : table
     ∷ entry 0060 20 20 (revisions 1 1) (subscribes tightenings 09)
     ∷ entry 0062 20 20 not-read (acknowledges tightenings)
     ∷ entry 0063 20 20 not-read (unsubscribes tightenings 10)
+    ∷ entry 0064 30 30 (revisions 1 1) (fetches 15)
     ∷ entry 9999 20 20 not-read mirrors
     ∷ []
 the-table = refl
 
--- 01, "Frames we write": how long 0002 is, and the longest frame of each kind, which is that of its newest revision
+-- 01, "Frames we write", and 02, P2: how long 0002 is, and 0065, the longest reply; and the longest frame of each kind, that of its newest
+-- revision
 abbrev sample : Settings
 sample = settings-of (spaces settings-length)
 
-abbrev result : Event
+abbrev result : Result
 result =
-    tightened (record { number = 1; identifier = spaces identifier-length; tightening = tightening-of (spaces tightening-length) })
+    record { number = 1; identifier = spaces identifier-length; tightening = tightening-of (spaces tightening-length) }
 
 abbrev frames : List (List ℕ)
 frames =
     frame-0002 sample
+    ∷ frame-0065 result
     ∷ event-frame sample (revision-count layouts-0052) false (identified (spaces identifier-length))
-    ∷ event-frame sample (revision-count layouts-0061) false result
+    ∷ event-frame sample (revision-count layouts-0061) false (tightened result)
     ∷ []
 
 pub the-lengths : map length frames
-    ≡ longest-reply ∷ map (λ k. k .longest) kinds
-unfolding frame-0002 event-frame frame header data-from characters digits settings-of tightening-of
+    ≡ 57 ∷ longest-reply ∷ map (λ k. k .longest) kinds
+unfolding frame-0002 frame-0065 event-frame frame header data-from characters digits settings-of tightening-of
 the-lengths = refl
 
 -- and how long a frame of each kind is, by the revision, from 1 on

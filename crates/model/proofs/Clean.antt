@@ -11,16 +11,17 @@ use lib.ListN.{length, take, drop, length-take, length-drop}
 use lib.Seq.{take-all, take-take, length-take-le}
 use borrow.Author.Tests.{leb-true, eqb-true, eqb-false, eq-eqb, not-false}
 use Rattle.model.specs.Limits.{header-length, identifier-length, number-greatest, run-kept}
-use Rattle.model.specs.Bytes.{NUL, dash, colon, is-digit, is-text, all, places, decimal}
+use Rattle.model.specs.Bytes.{NUL, dash, colon, is-digit, all, places, decimal}
 use Rattle.model.specs.Records.{is-record, payload, Item, number, text, time, item-length, payload-length, parts-from, good-in-time}
 use Rattle.model.specs.Records.{is-time-from, good-item, good-parts, good-payload, good-record, value-of, values-of, values}
 use Rattle.model.specs.Records.{settings-record-kind, tightening-record-kind, scanned-record-kind, settings-items, settings-of}
 use Rattle.model.specs.Records.{read-settings, tightening-items, tightening-of, identifier-in, scanned-items, Tool, scanned}
 use Rattle.model.specs.Records.{tightening, read-tool}
 use Rattle.model.specs.Runs.{Run, longer, cut, Message, is-message, message-of, read-run}
-use Rattle.model.specs.Messages.{Effect, starts, stops, identifies, subscribes, unsubscribes, acknowledges, mirrors, Entry, table}
-use Rattle.model.specs.Messages.{listed, entry-of, Error, already-started, wrong-length, wrong-revision, wrong-data, own, code}
-use Rattle.model.specs.Messages.{Standing, good-length, good-among, own-test, tested}
+use Rattle.model.specs.Messages.{Effect, starts, stops, identifies, subscribes, unsubscribes, acknowledges, fetches, mirrors}
+use Rattle.model.specs.Messages.{Entry, table, listed, entry-of, Error, already-started, wrong-length, wrong-revision, wrong-data}
+use Rattle.model.specs.Messages.{own, code, Standing, good-length, good-among, good-data, own-test, tested}
+use Rattle.model.specs.Tests.{first}
 use Rattle.model.specs.Wire.{Every, NoNUL, Framed}
 use Rattle.model.specs.FieldsRead.{is-within, all-within}
 use Rattle.model.proofs.Framed.{both, left, right, either, every-take, every-of, IfAny, Shown, nul-append, nul-text, Fit, Text}
@@ -202,19 +203,20 @@ pub entry-at : (test : Entry → Bool) → all test table ≡ true → (mid : �
 unfolding entry-of
 entry-at test h mid e q = listed-at test table h mid e q
 
--- what is mirrored is a 9999 of 20 bytes
-abbrev pub mirrors-only : Effect → ℕ → ℕ → ℕ → Bool
-mirrors-only starts mid least greatest = true
-mirrors-only stops mid least greatest = true
-mirrors-only (identifies n) mid least greatest = true
-mirrors-only (subscribes kind n) mid least greatest = true
-mirrors-only (unsubscribes kind n) mid least greatest = true
-mirrors-only (acknowledges kind) mid least greatest = true
-mirrors-only mirrors mid least greatest = eqb mid 9999 && eqb least header-length && eqb greatest header-length
+-- what mirrors is a 9999 of 20 bytes, and what fetches is a 0064
+abbrev pub as-listed : Effect → ℕ → ℕ → ℕ → Bool
+as-listed starts mid least greatest = true
+as-listed stops mid least greatest = true
+as-listed (identifies n) mid least greatest = true
+as-listed (subscribes kind n) mid least greatest = true
+as-listed (unsubscribes kind n) mid least greatest = true
+as-listed (acknowledges kind) mid least greatest = true
+as-listed (fetches n) mid least greatest = eqb mid 0064
+as-listed mirrors mid least greatest = eqb mid 9999 && eqb least header-length && eqb greatest header-length
 
-pub mirrored : (mid : ℕ) (e : Entry) → entry-of mid ≡ some e → mirrors-only (e .effect) mid (e .least) (e .greatest) ≡ true
-mirrored mid e q =
-    let s = entry-at (λ f. mirrors-only (f .effect) (f .mid) (f .least) (f .greatest)) refl mid e q in
+pub listed-so : (mid : ℕ) (e : Entry) → entry-of mid ≡ some e → as-listed (e .effect) mid (e .least) (e .greatest) ≡ true
+listed-so mid e q =
+    let s = entry-at (λ f. as-listed (f .effect) (f .mid) (f .least) (f .greatest)) refl mid e q in
     rw (← (s .0)) (s .1)
 
 -- ==== the number of an error has two digits
@@ -227,25 +229,25 @@ pub code-short : (x : Standing) (mid : ℕ) (o : Option Entry) → entry-of mid 
     → short-code (tested x o size revision bs) ≡ true
 code-short x mid none q size revision bs = refl
 code-short x mid (some e) q size revision bs =
-    let own-short = entry-at (λ f. short-code ((own-test x (f .effect)) .answer)) refl mid e q .1 in
+    let own-short = entry-at (λ f. short-code ((own-test x (f .effect) bs) .answer)) refl mid e q .1 in
     by-test (x .started && eqb (e .mid) 0001) _ _ refl
     (by-test (not (good-length e size)) _ _ refl
     (by-test (not (good-among (e .revision) revision)) _ _ refl
-    (by-test (not (all is-text bs)) _ _ refl
-    (by-test ((own-test x (e .effect)) .applies) _ none own-short refl))))
+    (by-test (not (good-data (e .effect) bs)) _ _ refl
+    (by-test ((own-test x (e .effect) bs) .applies) _ none own-short refl))))
   where
     by-test : (b : Bool) (o p : Option Error) → short-code o ≡ true → short-code p ≡ true → short-code (cond b o p) ≡ true
     by-test = either (λ (o : Option Error). short-code o ≡ true)
 
--- a message that has no error has a good length, and its data are text
+-- a message that has no error has a good length, good data, and none of its own
 pub passed : (x : Standing) (e : Entry) (size revision : ℕ) (bs : List ℕ) → tested x (some e) size revision bs ≡ none
-    → (good-length e size ≡ true) × (all is-text bs ≡ true)
+    → (good-length e size ≡ true) × (good-data (e .effect) bs ≡ true) × (first none (own-test x (e .effect) bs ∷ []) ≡ none)
 passed x e size revision bs h =
     let a = past (x .started && eqb (e .mid) 0001) already-started _ h in
     let b = past (not (good-length e size)) wrong-length _ (a .1) in
     let c = past (not (good-among (e .revision) revision)) wrong-revision _ (b .1) in
-    let d = past (not (all is-text bs)) wrong-data _ (c .1) in
-    (not-false (good-length e size) (b .0), not-false (all is-text bs) (d .0))
+    let d = past (not (good-data (e .effect) bs)) wrong-data _ (c .1) in
+    (not-false (good-length e size) (b .0), not-false (good-data (e .effect) bs) (d .0), d .1)
   where
     past : (b : Bool) (x : Error) (o : Option Error) → cond b (some x) o ≡ none → (b ≡ false) × (o ≡ none)
     past true x o e = absurd (there e)

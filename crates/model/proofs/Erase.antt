@@ -12,9 +12,10 @@ use Rattle.model.specs.Limits.{given-up-at, copy-every, idle-limit}
 use Rattle.model.specs.Records.{Settings, Tool, scanned, tightening, read-settings, read-tool}
 use Rattle.model.specs.Kinds.{Room, the-newest, up-to, room-of}
 use Rattle.model.specs.Runs.{Run, empty-run, longer, Piece, cut, Message, read-run}
-use Rattle.model.specs.Messages.{Effect, starts, stops, identifies, subscribes, unsubscribes, acknowledges, mirrors, Entry, entry-of}
-use Rattle.model.specs.Messages.{gets-reply, Error, code}
-use Rattle.model.specs.Events.{Event, identified, Notice, kind-of}
+use Rattle.model.specs.Messages.{Effect, starts, stops, identifies, subscribes, unsubscribes, acknowledges, fetches, mirrors}
+use Rattle.model.specs.Messages.{Entry, entry-of, gets-reply, number-asked, Error, code}
+use Rattle.model.specs.Events.{Result, Event, identified, Notice, kind-of}
+use Rattle.model.specs.Memory.{asked-for}
 use Rattle.model.specs.Sharing.{Shared, unnumbered, notice-of, reported}
 use Rattle.model.specs.Frames.{frame-0004}
 use Rattle.model.specs.Notices.{empty, busy, Subscription, unsubscribed, plain, acked, is-subscribed, has-room, takes as takes-event}
@@ -22,7 +23,7 @@ use Rattle.model.specs.Notices.{Deed, nothing, beats, news, asks, drops,
 use Rattle.model.specs.Row.{Tagged, said}
 use Rattle.model.specs.Session.{Session, closed, opened, started, is-closed, Copy, Emission, reply, copy, close}
 use Rattle.model.specs.Session.{frame-to, copies-to, deal, dealt, only}
-use Rattle.model.specs.Hearing.{message-error, started-standing, opened-standing, accepted, carry-out, judged, begin}
+use Rattle.model.specs.Hearing.{message-error, started-standing, opened-standing, accepted, fetched, carry-out, judged, begin}
 use Rattle.model.specs.Local.{end-run, end-run-opened, Local, opening, hang-up, receives, tick, event, elsewhere, tick-at, receive}
 use Rattle.model.specs.Local.{receive-opened, step as session-step, takes, identifier-run, announces}
 use Rattle.model.specs.World.{World, uncounted, session-at, Change, no-change, by-event, by-start, Moment, to, opens, hangs-up, hears}
@@ -137,6 +138,10 @@ module _ (g : Shared) where
   standing-erased subs =
       rw (fun-ext λ kind. ap is-subscribed (List·getD-map erase-sub subs kind unsubscribed) ∙ kept (getD subs kind unsubscribed) .0)
 
+  fetched-erased : (o : Option Result) → map erase-emission (fetched o) ≡ fetched o
+  fetched-erased none = refl
+  fetched-erased (some r) = refl
+
   carry-out-erased : (subs : List Subscription) (m : Message) (e : Effect)
       → carry-out (unnumbered g) (map erase-sub subs) m e ≡ both (carry-out g subs m e)
   carry-out-erased subs m starts = refl
@@ -146,6 +151,7 @@ module _ (g : Shared) where
       ap (accepted m) (only-dealt (g .settings) 0 empty-run kind (asks (m .revision) (m .no-acknowledge)) subs)
   carry-out-erased subs m (unsubscribes kind error) = ap (accepted m) (only-dealt (g .settings) 0 empty-run kind drops subs)
   carry-out-erased subs m (acknowledges kind) = only-dealt (g .settings) 0 empty-run kind acks subs
+  carry-out-erased subs m (fetches error) = rw (fetched-erased (asked-for (number-asked (m .data-field)) (g .kept)))
   carry-out-erased subs m mirrors = refl
 
   judged-erased : (subs : List Subscription) (m : Message) (o : Option Entry) (error : Option Error)

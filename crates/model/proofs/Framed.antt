@@ -11,15 +11,16 @@ use lib.ListN.{length, getD, take, length-append, length-replicate}
 use borrow.Author.Tests.{le-leb, leb-true}
 use Rattle.model.specs.Limits.{identifier-length, number-greatest}
 use Rattle.model.specs.Bytes.{NUL, space, digit-0, digit-1, is-digit, is-text, all, spaces, decimal, digits}
-use Rattle.model.specs.Records.{Value, counted, said, text-in, value-at, number-at, text-at, Settings}
+use Rattle.model.specs.Records.{Value, counted, said, text-in, value-at, number-at, text-at, Settings, tightening-items}
 use Rattle.model.specs.Layouts.{Sources, settings, source, Row, number, text, blank, known, width-of, characters, label-length}
-use Rattle.model.specs.Layouts.{Layout, data-from, data-of, layout-0002, layout-0004, layout-0005}
+use Rattle.model.specs.Layouts.{Layout, data-from, data-of, layout-0002, layout-0004, layout-0005, layout-0065}
 use Rattle.model.specs.Layouts.{Layouts, layout-at, layouts-0052, layouts-0061}
 use Rattle.model.specs.Kinds.{kind-at}
-use Rattle.model.specs.Events.{Event, identified, tightened, kind-of, told-of}
-use Rattle.model.specs.Sharing.{last-after, in-force-after}
-use Rattle.model.specs.Frames.{header, frame, sources, nothing, frame-0002, frame-0004, frame-0005, event-frame}
-use Rattle.model.specs.FieldsRead.{settings-within, told-within}
+use Rattle.model.specs.Events.{Result, Event, identified, tightened, kind-of, result-values, told-of}
+use Rattle.model.specs.Sharing.{last-after, in-force-after, kept-after}
+use Rattle.model.specs.Frames.{header, frame, sources, nothing, frame-0002, frame-0004, frame-0005, kept-sources, frame-0065}
+use Rattle.model.specs.Frames.{event-frame}
+use Rattle.model.specs.FieldsRead.{all-within, settings-within, told-within}
 use Rattle.model.specs.Wire.{Every, NoNUL, Framed, is-notice}
 
 pub both : (a b : Bool) → (a && b) ≡ true → (a ≡ true) × (b ≡ true)
@@ -210,18 +211,24 @@ pub record Identifier (x : List ℕ) : Type 0 where
 pub identifier-spaces : Identifier (spaces identifier-length)
 identifier-spaces = record { clean = record { no-NUL = nul-spaces identifier-length; short = omega arith }; whole = refl }
 
--- settings, and events, whose texts can stand in fields, and whose values are within their items; the last number that they leave is one
--- that there is, and what an event leaves in force is an identifier
+-- settings, results and events, whose texts can stand in fields, and whose values are within their items; the last number that they leave
+-- is one that there is, what an event leaves in force is an identifier, and what it leaves in the memory are such results
 pub record CleanSettings (st : Settings) : Type 0 where
   pub texts : Every Fit (st .values)
   pub within : settings-within st ≡ true
   pub last : st .last ≤ number-greatest
+
+pub record CleanResult (r : Result) : Type 0 where
+  pub texts : Every Fit (result-values r)
+  pub within : all-within tightening-items (result-values r) ≡ true
+  pub number : r .number ≤ number-greatest
 
 pub record CleanEvent (e : Event) : Type 0 where
   pub texts : Every Fit (told-of e)
   pub within : told-within e ≡ true
   pub last : (n : ℕ) → n ≤ number-greatest → last-after n e ≤ number-greatest
   pub in-force : (x : List ℕ) → Identifier x → Identifier (in-force-after x e)
+  pub kept : (rs : List Result) → Every CleanResult rs → Every CleanResult (kept-after rs e)
 
 pub framed-0002 : (st : Settings) → CleanSettings st → Framed (frame-0002 st)
 unfolding frame-0002
@@ -236,6 +243,11 @@ framed-0004 mid error =
 pub framed-0005 : (mid : ℕ) → Framed (frame-0005 mid)
 unfolding frame-0005
 framed-0005 mid = framed-layout nothing (record { settings = tt; told = tt }) 5 1 space (layout-0005 mid) (λ e. omega arith) refl
+
+pub framed-0065 : (r : Result) → CleanResult r → Framed (frame-0065 r)
+unfolding frame-0065
+framed-0065 r h =
+    framed-layout (kept-sources r) (record { settings = tt; told = h .texts }) 65 1 space (layout-0065 (r .number)) (λ e. omega arith) refl
 
 slim-notice : (e : Event) (revision : ℕ) → slim (layout-at ((kind-at (kind-of e)) .layouts) revision) ≡ true
 slim-notice (identified x) revision = at-every slim layouts-0052 refl revision

@@ -8,19 +8,20 @@ use native.Mathlib.Omega.{arith}
 use lib.Dec.{leb, eqb}
 use lib.ListN.{length, drop}
 use borrow.Author.Tests.{leb-true, ltb-true, eqb-true, le-leb, lt-ltb, eq-eqb}
-use Rattle.model.specs.Limits.{identifier-length, number-length, number-greatest}
+use Rattle.model.specs.Limits.{identifier-length, number-length, number-greatest, results-kept}
 use Rattle.model.specs.Bytes.{space, digit-0, digit-1, all, digits}
 use Rattle.model.specs.Records.{Item, number as number-item, text as text-item, time, Value, counted, said, number-at, text-at}
 use Rattle.model.specs.Records.{Settings, settings-items, tightening-items, result-items, scanned-items}
 use Rattle.model.specs.Layouts.{Sources, settings, source, Row, number, text, blank, known, characters, Layout, data-from, data-of}
-use Rattle.model.specs.Layouts.{layout-0002, layout-0004, layout-0005, layouts-0052, layouts-0061}
+use Rattle.model.specs.Layouts.{layout-0002, layout-0004, layout-0005, layout-0065, layouts-0052, layouts-0061}
 use Rattle.model.specs.Kinds.{kind-at}
 use Rattle.model.specs.Events.{Result, Event, identified, tightened, kind-of, told-of}
-use Rattle.model.specs.Frames.{header, frame, sources, nothing, frame-0002, frame-0004, frame-0005, event-frame}
+use Rattle.model.specs.Frames.{header, frame, sources, nothing, frame-0002, frame-0004, frame-0005, kept-sources, frame-0065}
+use Rattle.model.specs.Frames.{event-frame}
 use Rattle.model.specs.FieldsRead.{legible, read-fields, read-frame, values-in, number-below, text-of, passes-at, row-fits}
 use Rattle.model.specs.FieldsRead.{layout-for, ReadsBack, is-within, all-within, items-of, settings-within, told-within}
 use Rattle.model.specs.Wire.{Every}
-use Rattle.model.proofs.Framed.{both, every-append, at-every, Fit, Identifier, CleanSettings, CleanEvent}
+use Rattle.model.proofs.Framed.{both, every-append, every-take, at-every, Fit, Identifier, CleanSettings, CleanResult, CleanEvent}
 use Rattle.model.proofs.ReadBack.{read-back}
 
 -- ==== rows that fit the items are legible, whatever values within them the sources have
@@ -100,6 +101,14 @@ pub back-0005 : (mid : ℕ) → mid < 10_000 → read-frame (layout-0005 mid) (f
 unfolding frame-0005
 back-0005 mid h = frame-back [] [] nothing refl refl 5 1 space (layout-0005 mid) (rw (lt-ltb mid 10_000 h))
 
+pub back-0065 : (r : Result) → CleanResult r
+    → read-frame (layout-0065 (r .number)) (frame-0065 r) ≡ values-in (kept-sources r) (layout-0065 (r .number))
+unfolding frame-0065
+back-0065 r h =
+    let n = h .number in
+    frame-back [] tightening-items (kept-sources r) refl (h .within) 65 1 space (layout-0065 (r .number))
+    (rw (lt-ltb (r .number) 10_000_000_000 (omega arith)))
+
 -- ==== notices, whatever the kind and the revision: by the layout of these
 
 notice-fits : (e : Event) (revision : ℕ) → all (row-fits settings-items (items-of e)) ((layout-for e revision) .rows) ≡ true
@@ -138,6 +147,7 @@ identified-clean x h = record {
   within = rw (eq-eqb (length x) identifier-length (h .whole));
   last = λ n k. k;
   in-force = λ y k. h;
+  kept = λ rs k. k;
 }
 
 all-within-append : (es : List Item) (vs : List Value) (fs : List Item) (ws : List Value) → all-within es vs ≡ true
@@ -154,6 +164,11 @@ pub tightened-clean : (r : Result) → Identifier (r .identifier) → Every Fit 
 tightened-clean r h k w n =
     let number-items = number-item number-length number-greatest ∷ [] in
     let numbers = counted (r .number) ∷ [] in
+    let own : CleanResult r = record {
+      texts = (h .clean, k);
+      within = rw (eq-eqb (length (r .identifier)) identifier-length (h .whole)) w;
+      number = n;
+    } in
     record {
       texts = (h .clean, every-append Fit (r .tightening) numbers k (tt, tt));
       within =
@@ -161,4 +176,5 @@ tightened-clean r h k w n =
           (all-within-append reported-items (r .tightening) number-items numbers w (rw (le-leb (r .number) number-greatest n)));
       last = λ m l. n;
       in-force = λ y l. l;
+      kept = λ rs l. every-take CleanResult results-kept (r ∷ rs) (own, l);
     }

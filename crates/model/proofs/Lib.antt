@@ -9,7 +9,6 @@ pub mod InTurn
 pub mod Bounds
 pub mod Refusals
 pub mod Sights
-pub mod BySettings
 pub mod Takers
 pub mod Apart
 pub mod Lived

@@ -11,12 +11,13 @@ use lib.Dec.{eqb}
 use lib.ListN.{length, length-append, length-take, length-replicate}
 use borrow.Author.Tests.{leb-true, ltb-true, eqb-true}
 use Rattle.model.specs.Limits.{header-length, identifier-length, run-kept, idle-limit, copy-every, given-up-at}
-use Rattle.model.specs.Bytes.{space, within, is-text, all, spaces}
+use Rattle.model.specs.Bytes.{space, within, spaces}
 use Rattle.model.specs.Records.{Settings}
 use Rattle.model.specs.Runs.{Run, empty-run, longer, Piece, Message, read-run}
-use Rattle.model.specs.Messages.{Effect, starts, stops, identifies, subscribes, unsubscribes, acknowledges, mirrors, Entry}
-use Rattle.model.specs.Messages.{entry-of, gets-reply, Error, code, tested, error-of}
-use Rattle.model.specs.Events.{Notice, kind-of}
+use Rattle.model.specs.Messages.{Effect, starts, stops, identifies, subscribes, unsubscribes, acknowledges, fetches, mirrors}
+use Rattle.model.specs.Messages.{Entry, entry-of, gets-reply, number-asked, good-data, Error, code, tested, error-of}
+use Rattle.model.specs.Events.{Result, Notice, kind-of}
+use Rattle.model.specs.Memory.{numbered, newest, asked-for}
 use Rattle.model.specs.Sharing.{Shared, notice-of}
 use Rattle.model.specs.Frames.{frame-0004, event-frame}
 use Rattle.model.specs.Kinds.{Room, the-newest, up-to, room-of}
@@ -25,17 +26,18 @@ use Rattle.model.specs.Notices.{has-room, Deed, nothing, beats, news, as
 use Rattle.model.specs.Row.{Tagged, tag, row, said}
 use Rattle.model.specs.Session.{Session, closed, opened, started, fresh, Copy, Emission, reply, copy, close}
 use Rattle.model.specs.Session.{copies-to, deal, dealt, only}
-use Rattle.model.specs.Hearing.{message-error, started-standing, opened-standing, error-reply, accepted, carry-out, judged, hear}
-use Rattle.model.specs.Hearing.{begin, hear-opened, identifier-told, identifier-judged, identifier-heard}
+use Rattle.model.specs.Hearing.{message-error, started-standing, opened-standing, error-reply, accepted, fetched, carry-out, judged}
+use Rattle.model.specs.Hearing.{hear, begin, hear-opened, identifier-told, identifier-judged, identifier-heard}
 use Rattle.model.specs.Local.{end-run, end-run-opened, Local, opening, hang-up, receives, tick, event, elsewhere, tick-at}
 use Rattle.model.specs.Local.{receive-opened, receive, step, identifier-run, announces}
-use Rattle.model.specs.Wire.{Every, NoNUL, Framed, Answers, welcomes, refuses, accepts, mirrors as mirror, is-notice}
-use Rattle.model.specs.FieldsRead.{ReadsBack, ReplyReads, reads-0002, reads-0004, reads-0005, reads-9999}
+use Rattle.model.specs.Wire.{Every, NoNUL, Framed, Answers, welcomes, refuses, accepts, tells, mirrors as mirror, is-notice}
+use Rattle.model.specs.FieldsRead.{ReadsBack, ReplyReads, reads-0002, reads-0004, reads-0005, reads-0065, reads-9999}
 use Rattle.model.proofs.Framed.{left, right, every-append, either, IfAny, nul-append, nul-spaces, nul-text, Identifier}
-use Rattle.model.proofs.Framed.{CleanSettings, CleanEvent, framed-0002, framed-0004, framed-0005, framed-event, notice-event}
-use Rattle.model.proofs.Legible.{back-0002, back-0004, back-0005, copy-back}
+use Rattle.model.proofs.Framed.{CleanSettings, CleanResult, CleanEvent, framed-0002, framed-0004, framed-0005, framed-0065}
+use Rattle.model.proofs.Framed.{framed-event, notice-event}
+use Rattle.model.proofs.Legible.{back-0002, back-0004, back-0005, back-0065, copy-back}
 use Rattle.model.proofs.Clean.{CleanRun, clean-longer, CleanMessage, clean-end}
-use Rattle.model.proofs.Clean.{mirrors-only, mirrored, short-code, code-short, passed}
+use Rattle.model.proofs.Clean.{as-listed, listed-so, short-code, code-short, passed}
 
 -- ==== a subscription
 
@@ -193,16 +195,36 @@ module _ (st : Settings) (clean : CleanSettings st) where
       → Still st (dealt st idle run (only kind d) subs)
   only-dealt idle run kind d subs h = dealt-clean (only kind d) (λ other. either CleanDeed (eqb other kind) d nothing h tt) idle run subs
 
+-- ==== the memory
+
+numbered-clean : (n : ℕ) (rs : List Result) → Every CleanResult rs → IfAny CleanResult (numbered n rs)
+numbered-clean n [] h = tt
+numbered-clean n (r ∷ rs) h =
+    either (IfAny CleanResult) (eqb (r .number) n) (some r) (numbered n rs) (h .0) (numbered-clean n rs (h .1))
+
+newest-clean : (rs : List Result) → Every CleanResult rs → IfAny CleanResult (newest rs)
+newest-clean [] h = tt
+newest-clean (r ∷ rs) h = h .0
+
+asked-clean : (n : ℕ) (rs : List Result) → Every CleanResult rs → IfAny CleanResult (asked-for n rs)
+unfolding asked-for
+asked-clean n rs h = either (IfAny CleanResult) (eqb n 0) (newest rs) (numbered n rs) (newest-clean rs h) (numbered-clean n rs h)
+
 -- a step, by what all share
-module _ (g : Shared) (clean : CleanSettings (g .settings)) where
+module _ (g : Shared) (clean : CleanSettings (g .settings)) (old : Every CleanResult (g .kept)) where
   -- a message that is heard
   accepted-clean : (m : Message) → m .mid < 10_000 → (r : Session × List Emission) → Still (g .settings) r
       → Goes (g .settings) (some m) (accepted m r)
   accepted-clean m n r h = (h .0, answers refl accepts (framed-0005 (m .mid)) (reads-0005 (back-0005 (m .mid) n)) (h .1))
 
+  fetched-clean : (m : Message) → m .mid ≡ 0064 → (o : Option Result) → IfAny CleanResult o
+      → Says (g .settings) (some m) (fetched o)
+  fetched-clean m e none h = quiet tt
+  fetched-clean m e (some r) h = answers refl (tells r e) (framed-0065 r h) (reads-0065 r (back-0065 r h)) tt
+
   -- what a message does, and the identifier that it makes known
   carry-out-clean : (subs : List Subscription) (m : Message) (f : Effect) → CleanMessage m → Every CleanSub subs → (least greatest : ℕ)
-      → mirrors-only f (m .mid) least greatest ≡ true → within least greatest (m .size) ≡ true → all is-text (m .data-field) ≡ true
+      → as-listed f (m .mid) least greatest ≡ true → within least greatest (m .size) ≡ true → good-data f (m .data-field) ≡ true
       → Goes (g .settings) (some m) (carry-out g subs m f) × IfAny Identifier (identifier-told m f)
   carry-out-clean subs m starts c h least greatest u v w = (((tt, h), quiet tt), tt)
   carry-out-clean subs m stops c h least greatest u v w = (accepted-clean m (c .mid) (fresh, []) (tt, tt), tt)
@@ -229,6 +251,11 @@ module _ (g : Shared) (clean : CleanSettings (g .settings)) where
       (accepted-clean m (c .mid) r (only-dealt (g .settings) clean 0 empty-run kind drops subs tt tt h), tt)
   carry-out-clean subs m (acknowledges kind) c h least greatest u v w =
       let r = only-dealt (g .settings) clean 0 empty-run kind acks subs tt tt h in ((r .0, quiet (r .1)), tt)
+  carry-out-clean subs m (fetches n) c h least greatest u v w =
+      let asked = number-asked (m .data-field) in (
+        ((tt, h), fetched-clean m (eqb-true (m .mid) 0064 u) (asked-for asked (g .kept)) (asked-clean asked (g .kept) old)),
+        tt,
+      )
   carry-out-clean subs m mirrors c h least greatest u v w =
       let mid = eqb-true (m .mid) 9999 (search (left, right)) in
       let from = eqb-true least header-length (search (left, right)) in
@@ -263,7 +290,7 @@ module _ (g : Shared) (clean : CleanSettings (g .settings)) where
       go none q none e = (((tt, h), quiet tt), tt)
       go (some f) q none e =
           let p = passed (started-standing g subs) f (m .size) (m .revision) (m .data-field) e in
-          carry-out-clean subs m (f .effect) c h (f .least) (f .greatest) (mirrored (m .mid) f q) (p .0) (p .1)
+          carry-out-clean subs m (f .effect) c h (f .least) (f .greatest) (listed-so (m .mid) f q) (p .0) (p .1)
 
   hear-opened-clean : (idle : ℕ) (m : Message) → Goes (g .settings) (some m) (hear-opened g idle m)
   unfolding error-of

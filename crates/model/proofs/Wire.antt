@@ -25,7 +25,8 @@ use Rattle.model.specs.Calls.{is-none, is-tightening, at-most-one, happe
 use Rattle.model.specs.Sights.{sight}
 use Rattle.model.specs.Wire.{Every, Framed, Answers}
 use Rattle.model.specs.FieldsRead.{ReplyReads}
-use Rattle.model.proofs.Framed.{every-append, every-at, IfAny, either, Identifier, identifier-spaces, CleanSettings, CleanEvent}
+use Rattle.model.proofs.Framed.{every-append, every-at, IfAny, either, Identifier, identifier-spaces, CleanSettings, CleanResult}
+use Rattle.model.proofs.Framed.{CleanEvent}
 use Rattle.model.proofs.Legible.{identified-clean, tightened-clean}
 use Rattle.model.proofs.Clean.{clean-start, CleanTool, clean-tool, nul-cut, there}
 use Rattle.model.proofs.Sent.{Follows, Says, quiet, answers, row-every, said-every, CleanSession, CleanLocal, completes, heard}
@@ -39,6 +40,7 @@ pub record CleanWorld (w : World) : Type 0 where
   pub settings : CleanSettings (w .shared .settings)
   pub in-force : Identifier (w .shared .in-force)
   pub last : w .shared .last ≤ number-greatest
+  pub kept : Every CleanResult (w .shared .kept)
   pub sessions : Every CleanSession (w .sessions)
 
 abbrev CleanChange : Change → Type 0
@@ -60,25 +62,27 @@ closed-clean (suc n) = (tt, closed-clean n)
 
 pub begun-clean : (st : Settings) (events : ℕ) → CleanSettings st → CleanWorld (begun st events)
 begun-clean st events h =
-    record { settings = h; in-force = identifier-spaces; last = h .last; sessions = closed-clean session-count }
+    record { settings = h; in-force = identifier-spaces; last = h .last; kept = tt; sessions = closed-clean session-count }
 
 next-clean : (w : World) → CleanWorld w → (m : Moment) → CleanMoment m → CleanWorld (next w m)
 next-clean w h m c = go (m .leaves) (c .leaves)
   where
     sessions : Every CleanSession (sessions-after w m)
     sessions =
-        row-every (each w m) CleanSession (λ s x k. step-clean (w .shared) (h .settings) (m .sees s) x (c .sees s) k .0)
+        row-every (each w m) CleanSession (λ s x k. step-clean (w .shared) (h .settings) (h .kept) (m .sees s) x (c .sees s) k .0)
         0 (w .sessions) (h .sessions)
 
     go : (l : Change) → CleanChange l → CleanWorld (record { shared = changed (w .shared) l; sessions = sessions-after w m })
-    go no-change k = record { settings = h .settings; in-force = h .in-force; last = h .last; sessions = sessions }
+    go no-change k =
+        record { settings = h .settings; in-force = h .in-force; last = h .last; kept = h .kept; sessions = sessions }
     go (by-event e) k = record {
       settings = h .settings;
       in-force = k .in-force (w .shared .in-force) (h .in-force);
       last = k .last (w .shared .last) (h .last);
+      kept = k .kept (w .shared .kept) (h .kept);
       sessions = sessions;
     }
-    go (by-start st) k = record { settings = k; in-force = identifier-spaces; last = k .last; sessions = sessions }
+    go (by-start st) k = record { settings = k; in-force = identifier-spaces; last = k .last; kept = tt; sessions = sessions }
 
 -- ==== what goes out, by session
 
@@ -112,7 +116,8 @@ one-silent w h m c u =
       (c, tt),
       every-append (λ t. Follows st (t .what)) (emits w m) []
           (said-every (each w m) CleanSession (Follows st)
-          (λ s x k. unheard (u s x) (step-clean (w .shared) (h .settings) (m .sees s) x (c .sees s) k .1)) 0 (w .sessions) (h .sessions))
+          (λ s x k. unheard (u s x) (step-clean (w .shared) (h .settings) (h .kept) (m .sees s) x (c .sees s) k .1)) 0 (w .sessions)
+          (h .sessions))
           tt,
     )
 
@@ -182,7 +187,7 @@ module _ (w : World) (h : CleanWorld w) where
       let more = emitted (next w m) (happening o) in
       let news = happening-silent (next w m) (next-clean w h m clean) o k in
       let x = session-at w s in
-      let said = step-clean (w .shared) (h .settings) (receives (cut bs)) x (nul-cut bs)
+      let said = step-clean (w .shared) (h .settings) (h .kept) (receives (cut bs)) x (nul-cut bs)
       (every-at CleanSession (w .sessions) s closed tt (h .sessions)) .1 in (
         (clean, news .0),
         either-emits w s (receives (cut bs)) (λ es. Sends w c (es ++ more)) (none-replies (news .1))
@@ -205,7 +210,8 @@ module _ (w : World) (h : CleanWorld w) where
       let x = session-at w s in
       hears-sends s bs (option-map identified (announces (w .shared) (cut bs) x))
       (told-clean (announces (w .shared) (cut bs) x)
-      (announces-clean (w .shared) (h .settings) (cut bs) x (nul-cut bs) (every-at CleanSession (w .sessions) s closed tt (h .sessions))))
+      (announces-clean (w .shared) (h .settings) (h .kept) (cut bs) x (nul-cut bs)
+      (every-at CleanSession (w .sessions) s closed tt (h .sessions))))
   done-sends l one-tick e = one-sends one-tick ticks (record { sees = λ s. tt; leaves = tt }) (λ s x. refl)
   done-sends l (tool slice) e =
       let o = option-map (reported (w .shared)) (read-tool slice) in

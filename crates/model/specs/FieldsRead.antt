@@ -10,11 +10,11 @@ use Rattle.model.specs.Bytes.{spaces, decimal}
 use Rattle.model.specs.Records.{Item, number as number-item, text as text-item, time, Value, counted, said, number-at, text-at}
 use Rattle.model.specs.Records.{Settings, settings-items, scanned-items, result-items}
 use Rattle.model.specs.Layouts.{Sources, settings, source, Row, number, text, blank, known, width-of, label-length, Layout}
-use Rattle.model.specs.Layouts.{layout-0002, layout-0004, layout-0005, layout-at}
+use Rattle.model.specs.Layouts.{layout-0002, layout-0004, layout-0005, layout-0065, layout-at}
 use Rattle.model.specs.Runs.{Message}
 use Rattle.model.specs.Kinds.{kind-at}
-use Rattle.model.specs.Events.{Event, identified, tightened, kind-of, told-of}
-use Rattle.model.specs.Frames.{sources, frame-0002, frame-0004, frame-0005, event-frame}
+use Rattle.model.specs.Events.{Result, Event, identified, tightened, kind-of, told-of}
+use Rattle.model.specs.Frames.{sources, frame-0002, frame-0004, frame-0005, kept-sources, frame-0065, event-frame}
 use Rattle.model.specs.Session.{Copy}
 
 -- the value that a field's characters say
@@ -66,8 +66,8 @@ pub record ReadsBack (st : Settings) (c : Copy) : Type 0 where
   pub back : read-frame (layout-for (c .notice .event) revision) (c .frame)
       ≡ values-in (sources st (told-of (c .notice .event))) (layout-for (c .notice .event) revision)
 
--- a reply to a message reads back: 0002 as these settings, 0004 as the message's number and an error, 0005 as the number; a 9999 has no
--- data
+-- a reply to a message reads back: 0002 as these settings, 0004 as the message's number and an error, 0005 as the number, 0065 as a
+-- tightening with its number; a 9999 has no data
 pub data ReplyReads (st : Settings) (m : Message) : List ℕ → Type 0 where
   reads-0002 : read-frame layout-0002 (frame-0002 st) ≡ values-in (sources st []) layout-0002 → ReplyReads st m (frame-0002 st)
   reads-0004 : (error : ℕ)
@@ -75,6 +75,9 @@ pub data ReplyReads (st : Settings) (m : Message) : List ℕ → Type 0 where
       → ReplyReads st m (frame-0004 (m .mid) error)
   reads-0005 : read-frame (layout-0005 (m .mid)) (frame-0005 (m .mid)) ≡ counted (m .mid) ∷ []
       → ReplyReads st m (frame-0005 (m .mid))
+  reads-0065 : (r : Result)
+      → read-frame (layout-0065 (r .number)) (frame-0065 r) ≡ values-in (kept-sources r) (layout-0065 (r .number))
+      → ReplyReads st m (frame-0065 r)
   reads-9999 : ReplyReads st m (m .header)
 
 -- ==== which rows have room for whatever their items say: a test of rows against items, with no value in it

@@ -73,9 +73,9 @@ abbrev pub copies-most : List Kind → ℕ
 copies-most [] = 0
 copies-most (k ∷ ks) = copy-most k + copies-most ks
 
--- the longest reply, 0002; and as an output record with its NUL
+-- the longest reply, 0065; and as an output record with its NUL
 abbrev pub longest-reply : ℕ
-longest-reply = 57
+longest-reply = 118
 
 abbrev pub reply-most : ℕ
 reply-most = record-head + suc longest-reply

@@ -4,7 +4,7 @@ use mathlib.Core.Bool.{Bool, true, false, cond}
 use mathlib.Core.List.{List, [], _∷_, _++_}
 use lib.Dec.{eqb}
 use lib.ListN.{length, getD, take}
-use Rattle.model.specs.Limits.{identifier-length, time-length}
+use Rattle.model.specs.Limits.{identifier-length, time-length, number-digits}
 use Rattle.model.specs.Bytes.{spaces, digits}
 use Rattle.model.specs.Records.{Value, number-at, text-at}
 
@@ -91,6 +91,25 @@ layout-0004 mid error = record { numbered = false; rows = known 4 mid ∷ known 
 
 abbrev pub layout-0005 : ℕ → Layout
 layout-0005 mid = record { numbered = false; rows = known 4 mid ∷ [] }
+
+-- 02, P2: a tightening by its number; behind that, of its items: identifier, parameter set, batch counter, the three statuses, torque,
+-- angle, time, batch status (000, Table 29)
+abbrev pub kept-rows : List Row
+kept-rows =
+    text identifier-length told 0
+    ∷ number 3 told 2
+    ∷ number 4 told 4
+    ∷ number 1 told 5
+    ∷ number 1 told 6
+    ∷ number 1 told 7
+    ∷ number 6 told 11
+    ∷ number 5 told 15
+    ∷ text time-length told 16
+    ∷ number 1 told 18
+    ∷ []
+
+abbrev pub layout-0065 : ℕ → Layout
+layout-0065 n = record { numbered = true; rows = known number-digits n ∷ kept-rows }
 
 -- ==== the layouts of the notices, by the revision that is subscribed to: of the older ones, from 1 on, and of the newest
 

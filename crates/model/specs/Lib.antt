@@ -6,6 +6,7 @@ pub mod Layouts
 pub mod Runs
 pub mod Kinds
 pub mod Events
+pub mod Memory
 pub mod Sharing
 pub mod Messages
 pub mod Frames

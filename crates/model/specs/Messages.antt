@@ -1,10 +1,12 @@
--- 01, "What a message does": the table of messages, and the tests that a message meets.
+-- 01, "What a message does": the table of messages, and the tests that a message meets. 02, P2: 0064.
 use Prim.Native.Nat.{ℕ, suc}
 use mathlib.Core.Bool.{Bool, true, false, not, cond, _&&_}
 use mathlib.Core.List.{List, [], _∷_, _++_}
 use mathlib.Core.Option.{Option, none, some}
 use lib.Dec.{eqb}
-use Rattle.model.specs.Bytes.{within, is-text, all}
+use lib.ListN.{take}
+use Rattle.model.specs.Limits.{number-digits}
+use Rattle.model.specs.Bytes.{within, is-digit, is-text, all, decimal}
 use Rattle.model.specs.Tests.{Test, _gives_, first}
 use Rattle.model.specs.Layouts.{revision-count}
 use Rattle.model.specs.Kinds.{Kind, kinds}
@@ -23,6 +25,8 @@ pub data Effect : Type 0 where
   subscribes : ℕ → ℕ → Effect
   unsubscribes : ℕ → ℕ → Effect
   acknowledges : ℕ → Effect
+  -- (here the number is the own error alone, as of `identifies`)
+  fetches : ℕ → Effect
   mirrors : Effect
 
 pub record Entry : Type 0 where
@@ -52,7 +56,8 @@ table =
     ∷ entry 0003 20 20 not-read stops
     ∷ entry 0050 21 45 (revisions 1 1) (identifies 08)
     ∷ kind-rows 0 kinds
-    ++ entry 9999 20 20 not-read mirrors
+    ++ entry 0064 30 30 (revisions 1 1) (fetches 15)
+    ∷ entry 9999 20 20 not-read mirrors
     ∷ []
 
 abbrev pub listed : List Entry → ℕ → Option Entry
@@ -96,6 +101,7 @@ bearing (identifies n) = bears false true no-kind no-kind no-kind
 bearing (subscribes kind n) = bears false false (the-kind kind) no-kind no-kind
 bearing (unsubscribes kind n) = bears false false no-kind (the-kind kind) no-kind
 bearing (acknowledges kind) = bears false false no-kind no-kind (the-kind kind)
+bearing (fetches n) = bears false false no-kind no-kind no-kind
 bearing mirrors = bears false false no-kind no-kind no-kind
 
 -- of the message with that entry; one that is not known is none of these
@@ -111,6 +117,7 @@ gets-reply (identifies n) = true
 gets-reply (subscribes kind n) = true
 gets-reply (unsubscribes kind n) = true
 gets-reply (acknowledges kind) = false
+gets-reply (fetches n) = true
 gets-reply mirrors = true
 
 -- ==== errors, and the number that a reply gives for each
@@ -133,12 +140,13 @@ code (own n) = n
 
 -- ==== the tests
 
--- what they look at besides the message: whether the session is started, whether identifiers are granted over the net, and to
--- which kinds of notice the session is subscribed
+-- what they look at besides the message: whether the session is started, whether identifiers are granted over the net, to which kinds
+-- of notice the session is subscribed, and which tightenings are kept, by the number that asks for them
 pub record Standing : Type 0 where
   pub started : Bool
   pub granted : Bool
   pub subscribed : ℕ → Bool
+  pub kept : ℕ → Bool
 
 abbrev pub good-length : Entry → ℕ → Bool
 good-length e size = within (e .least) (e .greatest) size
@@ -147,19 +155,36 @@ abbrev pub good-among : Revisions → ℕ → Bool
 good-among not-read revision = true
 good-among (revisions least greatest) revision = within least greatest revision
 
--- (only 0050 has data when its length is good)
-abbrev pub good-data : List ℕ → Bool
-good-data bs = all is-text bs
+-- whether the data have to be digits, as those of 0064, or else text
+abbrev pub in-digits : Effect → Bool
+in-digits starts = false
+in-digits stops = false
+in-digits (identifies n) = false
+in-digits (subscribes kind n) = false
+in-digits (unsubscribes kind n) = false
+in-digits (acknowledges kind) = false
+in-digits (fetches n) = true
+in-digits mirrors = false
 
--- the message's own: 0050 wants the grant; who is subscribed cannot subscribe again, who is not cannot unsubscribe
-abbrev pub own-test : Standing → Effect → Test (Option Error)
-own-test x starts = false gives none
-own-test x stops = false gives none
-own-test x (identifies n) = not (x .granted) gives some (own n)
-own-test x (subscribes kind n) = x .subscribed kind gives some (own n)
-own-test x (unsubscribes kind n) = not (x .subscribed kind) gives some (own n)
-own-test x (acknowledges kind) = false gives none
-own-test x mirrors = false gives none
+-- (only 0050 and 0064 have data when their length is good)
+abbrev pub good-data : Effect → List ℕ → Bool
+good-data e bs = cond (in-digits e) (all is-digit bs) (all is-text bs)
+
+-- 02, P2: the number that 0064 asks for, in its ten digits
+abbrev pub number-asked : List ℕ → ℕ
+number-asked bs = decimal (take number-digits bs)
+
+-- the message's own: 0050 wants the grant; who is subscribed cannot subscribe again, who is not cannot unsubscribe; what 0064 asks for
+-- has to be kept
+abbrev pub own-test : Standing → Effect → List ℕ → Test (Option Error)
+own-test x starts bs = false gives none
+own-test x stops bs = false gives none
+own-test x (identifies n) bs = not (x .granted) gives some (own n)
+own-test x (subscribes kind n) bs = x .subscribed kind gives some (own n)
+own-test x (unsubscribes kind n) bs = not (x .subscribed kind) gives some (own n)
+own-test x (acknowledges kind) bs = false gives none
+own-test x (fetches n) bs = not (x .kept (number-asked bs)) gives some (own n)
+own-test x mirrors bs = false gives none
 
 -- in the paper's order, by the entry of the message's number in the table
 abbrev pub tested : Standing → Option Entry → ℕ → ℕ → List ℕ → Option Error
@@ -169,8 +194,8 @@ tested x (some e) size revision bs =
     ((x .started && eqb (e .mid) 0001) gives some already-started
     ∷ not (good-length e size) gives some wrong-length
     ∷ not (good-among (e .revision) revision) gives some wrong-revision
-    ∷ not (good-data bs) gives some wrong-data
-    ∷ own-test x (e .effect)
+    ∷ not (good-data (e .effect) bs) gives some wrong-data
+    ∷ own-test x (e .effect) bs
     ∷ [])
 
 -- the error, if there is one, of a message of that number, length and revision, with that data

@@ -1,12 +1,13 @@
 -- What all sessions share, and what is left of it by an event or a start. 01, "What the product holds", "House records" and "Frames
--- we write".
+-- we write"; 02, P2.
 use Prim.Native.Nat.{ℕ, suc, _+_}
-use mathlib.Core.List.{List}
+use mathlib.Core.List.{List, []}
 use mathlib.Core.Option.{Option, none, some}
 use Rattle.model.specs.Limits.{identifier-length}
 use Rattle.model.specs.Bytes.{spaces}
 use Rattle.model.specs.Records.{Settings, Tool, scanned, tightening}
-use Rattle.model.specs.Events.{Event, identified, tightened, identifier-of, Notice}
+use Rattle.model.specs.Events.{Result, Event, identified, tightened, identifier-of, Notice}
+use Rattle.model.specs.Memory.{kept-with}
 
 pub record Shared : Type 0 where
   pub settings : Settings
@@ -14,13 +15,15 @@ pub record Shared : Type 0 where
   pub in-force : List ℕ
   -- the last tightening number
   pub last : ℕ
+  -- 02, P2: the tightenings that are kept, the newest first
+  pub kept : List Result
   -- how many events there were: no answer and no byte shows it
   pub events : ℕ
 
--- a start: no identifier is in force, and the last number is the settings'
+-- a start: no identifier is in force, the last number is the settings', and no tightening is kept
 abbrev pub shared-begun : Settings → ℕ → Shared
 shared-begun st events =
-    record { settings = st; in-force = spaces identifier-length; last = st .last; events = events }
+    record { settings = st; in-force = spaces identifier-length; last = st .last; kept = []; events = events }
 
 -- an event of an identifier puts it in force, whether it was scanned or came over the net
 abbrev pub in-force-after : List ℕ → Event → List ℕ
@@ -32,11 +35,17 @@ abbrev pub last-after : ℕ → Event → ℕ
 last-after n (identified y) = n
 last-after n (tightened r) = r .number
 
+-- and it is kept, whether a session takes it or not
+abbrev pub kept-after : List Result → Event → List Result
+kept-after rs (identified y) = rs
+kept-after rs (tightened r) = kept-with r rs
+
 abbrev pub shared-after : Shared → Event → Shared
 shared-after g e = record {
   settings = g .settings;
   in-force = in-force-after (g .in-force) e;
   last = last-after (g .last) e;
+  kept = kept-after (g .kept) e;
   events = suc (g .events);
 }
 
@@ -47,7 +56,7 @@ shared-with g (some e) = shared-after g e
 
 -- the count of events forgotten: the table keeps none
 abbrev pub unnumbered : Shared → Shared
-unnumbered g = record { settings = g .settings; in-force = g .in-force; last = g .last; events = 0 }
+unnumbered g = record { settings = g .settings; in-force = g .in-force; last = g .last; kept = g .kept; events = 0 }
 
 -- ==== events, by what is shared when they come
 

@@ -10,7 +10,8 @@ use Rattle.model.specs.Bytes.{NUL, is-digit, all, places, decimal}
 use Rattle.model.specs.Records.{Settings}
 use Rattle.model.specs.Runs.{Message}
 use Rattle.model.specs.Kinds.{Kind, kinds}
-use Rattle.model.specs.Frames.{frame-0002, frame-0004, frame-0005}
+use Rattle.model.specs.Events.{Result}
+use Rattle.model.specs.Frames.{frame-0002, frame-0004, frame-0005, frame-0065}
 
 -- each element of a list is so (`watch`, which knows nothing of the model, has the same word)
 abbrev pub Every : {A : Type 0} → (A → Type 0) → List A → Type 0
@@ -31,11 +32,12 @@ pub record Framed (frame : List ℕ) : Type 0 where
 
 -- ==== 01, "What a message does" and "Frames we write": what a reply answers
 
--- 0002 answers 0001; 0004 and 0005 carry the message's number; 9999 is its own bytes, of which there are 20
+-- 0002 answers 0001; 0004 and 0005 carry the message's number; 0065 answers 0064; 9999 is its own bytes, of which there are 20
 pub data Answers (m : Message) : List ℕ → Type 0 where
   welcomes : (st : Settings) → m .mid ≡ 0001 → Answers m (frame-0002 st)
   refuses : (error : ℕ) → Answers m (frame-0004 (m .mid) error)
   accepts : Answers m (frame-0005 (m .mid))
+  tells : (r : Result) → m .mid ≡ 0064 → Answers m (frame-0065 r)
   mirrors : m .mid ≡ 9999 → m .size ≡ header-length → Answers m (m .header)
 
 -- 01, "Notices and the clock": the frame of a notice has the message number of one of their kinds

@@ -1,5 +1,5 @@
 -- The end of a run, to a session in its region.
-use mathlib.Core.Path.{_≡_, refl, sym, ap, ap₂, _∙_}
+use mathlib.Core.Path.{_≡_, refl, sym, ap, ap₂, _∙_, fun-ext}
 use mathlib.Core.Bool.{Bool, true, false, cond}
 use mathlib.Core.List.{List, [], _++_, append-nil}
 use Prim.Native.Nat.{ℕ, _≤_, _<_, min}
@@ -9,22 +9,24 @@ use lib.ListN.{length, take, drop, length-take, length-drop}
 use lib.Seq.{set-getD, take-take, take-all}
 use Rattle.model.specs.Limits.{header-length, run-kept, idle-limit}
 use Rattle.model.specs.Bytes.{little}
-use Rattle.model.specs.Records.{Settings}
 use Rattle.model.specs.Runs.{Run, empty-run, longer}
 use Rattle.model.specs.Kinds.{kinds, room-of}
 use Rattle.model.specs.Notices.{Subscription, unsubscribed}
 use Rattle.model.specs.Notices as notices
-use Rattle.model.specs.Session.{no-subscriptions, Emission}
+use Rattle.model.specs.Session.{no-subscriptions, subscribed-to, Emission}
 use Rattle.model.specs.Session as model
 use Rattle.model.specs.Local.{step, receives, announces}
-use Rattle.model.specs.Sharing.{shared-begun}
+use Rattle.model.specs.Memory.{is-there}
+use Rattle.model.specs.Sharing.{Shared}
 use Rattle.model.proofs.Cuts.{longer-longer}
 use borrow.Rule.Slice.PartMut.{putMid}
 use Rattle.text.proofs.Cells.{area-same, area-before}
-use Rattle.message.specs.Meaning.{standing-of}
+use Rattle.message.specs.Meaning.{meant, is-among, Remembers, standing-of}
+use Rattle.message.specs.declared.Common.{Common}
 use Rattle.message.specs.declared.Standing.{Standing}
 use Rattle.session.specs.Meaning.{deed-of, session-as}
 use Rattle.session.specs.Control.{cleared}
+use Rattle.session.specs.Decisions.{is-started}
 use Rattle.session.specs.Effects.{standing-in, replies, announced}
 use Rattle.session.specs.declared.Phase.{Phase}
 use Rattle.session.specs.declared.Phase.the-variants.{Closed, Opened, Started}
@@ -33,7 +35,7 @@ use Rattle.session.specs.declared.Decision.{Decision}
 use Rattle.session.specs.declared.Reply.{Reply}
 use Rattle.session.specs.declared.Reply.the-variants as reply
 use Rattle.session.proofs.Hearing.{decide-right, identify-right}
-use Rattle.session.proofs.Decided.{Fair, decided-fair, mirrored-whole}
+use Rattle.session.proofs.Decided.{Fair, decided-fair, mirrored-whole, told-kept}
 use Rattle.run.specs.Area.{run-size, run-of, run-formed, bytes-of}
 use Rattle.run.specs.Area as run
 use Rattle.run.proofs.Areas.{counted}
@@ -42,7 +44,7 @@ use Rattle.head.specs.Head as head
 use Rattle.lane.proofs.Sayings.{quiet-of, after}
 use Rattle.region.specs.Region.{region-size, head-area, run-area, subscriptions-in, subscription-in, session-of, meaning, Good}
 use Rattle.region.specs.Region.{Becomes, Changes, LanesCleared}
-use Rattle.region.specs.Said.{DealtTo, ending, is-known, stood, Ruled, CarriesOut, ended-by, ended-in}
+use Rattle.region.specs.Said.{DealtTo, ending, is-known, stood, Shows, Ruled, CarriesOut, ended-by, ended-in}
 use Rattle.region.specs.Said.{RunEnds}
 use Rattle.region.specs.declared.Ended.{Ended}
 use Rattle.region.proofs.Areas.{good-of, replaced-size, subscription-at, there, means, unchanged, changes-then}
@@ -112,27 +114,28 @@ changed-so d a b c =
 -- ==== the run is over
 
 -- of a header only one that is mirrored is read
-replies-same : (st : Settings) (h h′ : List ℕ) (r : Reply) → (r ≡ reply.Mirrored → h ≡ h′) → replies st h r ≡ replies st h′ r
-replies-same st h h′ reply.Nothing e = refl
-replies-same st h h′ reply.Started e = refl
-replies-same st h h′ (reply.Accepted mid) e = refl
-replies-same st h h′ (reply.Error mid code) e = refl
-replies-same st h h′ reply.Mirrored e = ap (λ (z : List ℕ). replies st z reply.Mirrored) (e refl)
+replies-same : (g : Shared) (h h′ : List ℕ) (r : Reply) → (r ≡ reply.Mirrored → h ≡ h′) → replies g h r ≡ replies g h′ r
+replies-same g h h′ reply.Nothing e = refl
+replies-same g h h′ reply.Started e = refl
+replies-same g h h′ (reply.Accepted mid) e = refl
+replies-same g h h′ (reply.Error mid code) e = refl
+replies-same g h h′ (reply.Kept number) e = refl
+replies-same g h h′ reply.Mirrored e = ap (λ (z : List ℕ). replies g z reply.Mirrored) (e refl)
 
 known-by : (b : Bool) (bs : List ℕ) → b ≡ is-known (announced b bs)
 known-by false bs = refl
 known-by true bs = refl
 
 -- the decision on a run that is over: whose it is, how that one stands, and what is ruled
-pub record Judged (granted : Bool) (bs r place : List ℕ) (d : Decision) (place′ : List ℕ) : Type 0 where
+pub record Judged (common : Common) (bs r place : List ℕ) (d : Decision) (place′ : List ℕ) : Type 0 where
   pub who : Session
   pub here : who ≡ head-of (head-area r)
   pub idle : who .idle < idle-limit
   pub standing : Standing
-  pub stands : standing-of standing ≡ stood who granted (subscriptions-in r)
+  pub stands : (standing-of standing ≡ stood who common (subscriptions-in r)) × (standing .common ≡ common)
   pub ruled : Ruled who standing (longer (run-of (run-area r)) bs) place d place′
 
-module _ {granted : Bool} {bs r place : List ℕ} {d : Decision} {place′ : List ℕ} (o : Judged granted bs r place d place′) where
+module _ {common : Common} {bs r place : List ℕ} {d : Decision} {place′ : List ℕ} (o : Judged common bs r place d place′) where
   abbrev n : Run
   n = longer (run-of (run-area r)) bs
 
@@ -142,26 +145,45 @@ module _ {granted : Bool} {bs r place : List ℕ} {d : Decision} {place′ : Lis
   header-there : d .reply ≡ reply.Mirrored → header-length ≤ length (n .kept)
   header-there q = mirrored-whole (o .who) (o .standing) n (ap (λ (z : Decision). z .reply) (sym (o .ruled .decides)) ∙ q)
 
-  so : (st : Settings) → st .granted ≡ granted → standing-of (o .standing) ≡ standing-in st (o .who .phase) (subscriptions-in r)
-  so st eg = o .stands ∙ ap (λ (b : Bool). stood (o .who) b (subscriptions-in r)) (sym eg)
+  told-of-kept : (number : ℕ) → d .reply ≡ reply.Kept number → is-among common number ≡ true
+  told-of-kept number q =
+      rw (← o .stands .1)
+      (told-kept (o .who) (o .standing) _ number _ (ap (λ (z : Decision). z .reply) (sym (o .ruled .decides)) ∙ q))
+
+  module _ (g : Shared) (shows : Shows common g) where
+    so : standing-of (o .standing) ≡ standing-in g (o .who .phase) (subscriptions-in r)
+    so =
+        o .stands .0 ∙ ap₂ (λ (granted : Bool) (kept : ℕ → Bool). record {
+          started = is-started (o .who .phase);
+          granted = granted;
+          subscribed = subscribed-to (subscriptions-in r);
+          kept = kept;
+        }) (shows .granted) (fun-ext λ n. sym (ap is-there (shows .remembers .asked-for n) ∙ shows .remembers .kept (meant common n)))
+
+    remembers : Remembers (o .standing .common) (g .kept)
+    remembers = rw (o .stands .1) (shows .remembers)
 
   module _ {sends : Bool} {r′ : List ℕ} (c : CarriesOut d r sends r′) where
     run-ends : (whole : Bool) → (d .reply ≡ reply.Mirrored → take header-length (n .kept) ≡ take header-length (ended-in whole bs r′))
         → (d .reply ≡ reply.Mirrored → header-length ≤ length (ended-in whole bs r′))
-        → RunEnds granted bs r place (ended-by d whole sends) r′ place′
+        → RunEnds common bs r place (ended-by d whole sends) r′ place′
     run-ends whole same long = record {
       good = c .good;
       size = c .size;
       kind = fair .0;
       ready = c .ready;
       whole = long;
-      steps = λ st eg.
-          rw (means-so r (o .who) (o .here), decide-right st _ _ (ending bs) refl (o .standing) (o .who) (so st eg), ← o .ruled .decides)
-          (ap₂ (λ (q : model.Session × List Emission) (es : List Emission). (q .0, es ++ q .1)) (c .carries st)
-          (replies-same st _ _ (d .reply) same));
-      knows = λ st eg.
-          rw (means-so r (o .who) (o .here), identify-right st _ _ (ending bs) refl (o .standing) (o .who) (so st eg), ← o .ruled .decides)
-          (known-by (d .identifies) _, o .ruled .knows);
+      kept = told-of-kept;
+      steps = λ g e.
+          let decided = decide-right g (run-of (run-area r)) (subscriptions-in r) (ending bs) refl (o .standing) (remembers g e) (o .who)
+          (so g e) in
+          rw (means-so r (o .who) (o .here), decided, ← o .ruled .decides)
+          (ap₂ (λ (q : model.Session × List Emission) (es : List Emission). (q .0, es ++ q .1)) (c .carries (g .settings))
+          (replies-same g _ _ (d .reply) same));
+      knows = λ g e.
+          let identified = identify-right g (run-of (run-area r)) (subscriptions-in r) (ending bs) refl (o .standing) (remembers g e)
+          (o .who) (so g e) in
+          rw (means-so r (o .who) (o .here), identified, ← o .ruled .decides) (known-by (d .identifies) _, o .ruled .knows);
     }
 
 -- ==== where its bytes are
@@ -199,18 +221,18 @@ run-empty a e = ap (λ (n : ℕ). record { kept = take (min run-kept n) (drop 2 
 
 -- ==== it is over, and what is decided on it is carried out
 
-module _ {granted : Bool} {bs r place : List ℕ} {d : Decision} {place′ : List ℕ} (o : Judged granted bs r place d place′) {sends : Bool}
+module _ {common : Common} {bs r place : List ℕ} {d : Decision} {place′ : List ℕ} (o : Judged common bs r place d place′) {sends : Bool}
     {r′ : List ℕ} (c : CarriesOut d r sends r′) where
   -- where it stands whole in the slice
-  pub ends-whole : run-of (run-area r) ≡ empty-run → RunEnds granted bs r place (ended-by d true sends) r′ place′
+  pub ends-whole : run-of (run-area r) ≡ empty-run → RunEnds common bs r place (ended-by d true sends) r′ place′
   ends-whole e =
       run-ends o c true (λ q. rw (e, take-take header-length run-kept bs (lit≤ tt)))
       (λ q. omega (arith, length-take run-kept bs, rw e at (header-there o q)))
 
-module _ {granted : Bool} {r place : List ℕ} {d : Decision} {place′ : List ℕ} (o : Judged granted [] r place d place′) {sends : Bool}
+module _ {common : Common} {r place : List ℕ} {d : Decision} {place′ : List ℕ} (o : Judged common [] r place d place′) {sends : Bool}
     {r′ : List ℕ} (c : CarriesOut d r sends r′) where
   -- where it is kept
-  pub ends-kept : run.Area (run-area r) → RunEnds granted [] r place (ended-by d false sends) r′ place′
+  pub ends-kept : run.Area (run-area r) → RunEnds common [] r place (ended-by d false sends) r′ place′
   ends-kept area =
       let n = ap (λ (z : Run). z .kept) (longer-none (run-area r) area) in
       run-ends o c false (λ q. rw (n, c .bytes) (kept-header (run-area r) area (rw n at (header-there o q))))
@@ -229,22 +251,22 @@ module _ (bs : List ℕ) {r r₁ : List ℕ} {x : Session} (ex : x ≡ head-of (
   again : longer (longer run₀ bs) [] ≡ longer run₀ bs
   again = longer-longer run₀ bs [] ∙ ap (longer run₀) (append-nil bs)
 
-  steps-same : (st : Settings) (p : Phase)
-      → step (shared-begun st 0) (receives (ending bs)) (session-as p (x .idle) run₀ subs)
-      ≡ step (shared-begun st 0) (receives (ending [])) (session-as p (x .idle) (longer run₀ bs) subs)
-  steps-same st Closed = refl
-  steps-same st Opened = rw again
-  steps-same st Started = rw again
+  steps-same : (g : Shared) (p : Phase)
+      → step g (receives (ending bs)) (session-as p (x .idle) run₀ subs)
+      ≡ step g (receives (ending [])) (session-as p (x .idle) (longer run₀ bs) subs)
+  steps-same g Closed = refl
+  steps-same g Opened = rw again
+  steps-same g Started = rw again
 
-  tells-same : (st : Settings) (p : Phase)
-      → announces (shared-begun st 0) (ending bs) (session-as p (x .idle) run₀ subs)
-      ≡ announces (shared-begun st 0) (ending []) (session-as p (x .idle) (longer run₀ bs) subs)
-  tells-same st Closed = refl
-  tells-same st Opened = refl
-  tells-same st Started = rw again
+  tells-same : (g : Shared) (p : Phase)
+      → announces g (ending bs) (session-as p (x .idle) run₀ subs)
+      ≡ announces g (ending []) (session-as p (x .idle) (longer run₀ bs) subs)
+  tells-same g Closed = refl
+  tells-same g Opened = refl
+  tells-same g Started = rw again
 
-  pub ends-longer : {granted : Bool} {place : List ℕ} {e : Ended} {r′ place′ : List ℕ} → e .whole ≡ false
-      → RunEnds granted [] r₁ place e r′ place′ → RunEnds granted bs r place e r′ place′
+  pub ends-longer : {common : Common} {place : List ℕ} {e : Ended} {r′ place′ : List ℕ} → e .whole ≡ false
+      → RunEnds common [] r₁ place e r′ place′ → RunEnds common bs r place e r′ place′
   ends-longer kept w =
       record {
         good = w .good;
@@ -252,6 +274,7 @@ module _ (bs : List ℕ) {r r₁ : List ℕ} {x : Session} (ex : x ≡ head-of (
         kind = w .kind;
         ready = w .ready;
         whole = λ q. rw kept (rw kept at (w .whole q));
-        steps = λ st eg. rw (means-so r x ex, steps-same st (x .phase), ← means b, w .steps st eg, kept);
-        knows = λ st eg. rw (means-so r x ex, tells-same st (x .phase), ← means b) (w .knows st eg);
+        kept = w .kept;
+        steps = λ g h. rw (means-so r x ex, steps-same g (x .phase), ← means b, w .steps g h, kept);
+        knows = λ g h. rw (means-so r x ex, tells-same g (x .phase), ← means b) (w .knows g h);
       }

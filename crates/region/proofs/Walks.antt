@@ -16,7 +16,8 @@ use Rattle.model.specs.Row.{row}
 use Rattle.text.proofs.Lists.{drop-next, replicate-next}
 use Rattle.text.proofs.Areas.{length-areas}
 use Rattle.frame.specs.Places.{notice-in}
-use Rattle.message.specs.Meaning.{standing-of}
+use Rattle.message.specs.Meaning.{holds, standing-of}
+use Rattle.message.specs.declared.Common.{Common}
 use Rattle.session.specs.Decisions.{is-started}
 use Rattle.session.specs.declared.Session.{Session}
 use Rattle.run.specs.Area.{run-of}
@@ -189,12 +190,13 @@ module _ (r : List ℕ) where
       let n = length-told in filled known k (omega arith) (drop-of-length-le told {i = k} (omega arith)) ∙ w .so-far
 
 -- so the tests of a message look at what the model's look at
-pub stands-so : (r : List ℕ) (x : Session) (granted : Bool) (known : List Bool) (started : Bool) → started ≡ is-started (x .phase)
+pub stands-so : (r : List ℕ) (x : Session) (common : Common) (known : List Bool) (started : Bool) → started ≡ is-started (x .phase)
     → known ≡ told r
-    → standing-of (record { started = started; granted = granted; subscribed = known }) ≡ stood x granted (subscriptions-in r)
-stands-so r x granted known started es ek = λ i. record {
+    → standing-of (record { started = started; common = common; subscribed = known }) ≡ stood x common (subscriptions-in r)
+stands-so r x common known started es ek = λ i. record {
   started = es i;
-  granted = granted;
+  granted = common .granted;
   subscribed = λ kind.
       (ap (λ (l : List Bool). getD l kind false) ek ∙ List·getD-map is-subscribed (subscriptions-in r) kind unsubscribed) i;
+  kept = holds common;
 }

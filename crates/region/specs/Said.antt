@@ -19,13 +19,15 @@ use Rattle.model.specs.Local.{step, tick, event, receives, announces, takes}
 use Rattle.model.specs.Sharing.{Shared, shared-begun}
 use Rattle.frame.specs.Header.{header-of}
 use Rattle.frame.specs.Places.{place-size, event-in, notice-in}
+use Rattle.message.specs.Meaning.{is-among, holds, Remembers}
+use Rattle.message.specs.declared.Common.{Common}
 use Rattle.message.specs.declared.Standing.{Standing}
 use Rattle.session.specs.Decisions.{is-started, decision}
 use Rattle.session.specs.Effects.{ticked-so, dealt-by, replies, announced}
 use Rattle.session.specs.declared.Idling.the-variants.{Stays}
 use Rattle.session.specs.declared.Session.{Session}
 use Rattle.session.specs.declared.Decision.{Decision}
-use Rattle.session.specs.declared.Reply.the-variants.{Mirrored}
+use Rattle.session.specs.declared.Reply.the-variants.{Kept, Mirrored}
 use Rattle.lane.specs.Lane.{open-one, any}
 use Rattle.run.specs.Area.{run-of}
 use Rattle.head.specs.Head.{head-of}
@@ -138,8 +140,18 @@ abbrev pub Knows : Option (List ℕ) → List ℕ → Bool → List ℕ → Type
 Knows x place known place′ = (known ≡ is-known x) × (place′ ≡ known-in x place)
 
 -- what the tests of a message look at, of one with that phase and those subscriptions
-abbrev pub stood : Session → Bool → List Subscription → model-messages.Standing
-stood x granted subs = record { started = is-started (x .phase); granted = granted; subscribed = subscribed-to subs }
+abbrev pub stood : Session → Common → List Subscription → model-messages.Standing
+stood x common subs = record {
+  started = is-started (x .phase);
+  granted = common .granted;
+  subscribed = subscribed-to subs;
+  kept = holds common;
+}
+
+-- what all share, as far as the tests look at it
+pub record Shows (common : Common) (g : Shared) : Type 0 where
+  pub granted : common .granted ≡ g .settings .granted
+  pub remembers : Remembers common (g .kept)
 
 -- the decision on a run, to one that stands so; an identifier that it makes known is in its place
 pub record Ruled (x : Session) (standing : Standing) (run : Run) (place : List ℕ) (d : Decision) (place′ : List ℕ) : Type 0 where
@@ -171,10 +183,10 @@ abbrev pub ended-in : Bool → List ℕ → List ℕ → List ℕ
 ended-in whole bs r = cond whole bs (run-bytes r)
 
 -- what is said: the reply, and behind it the copy that is due
-abbrev pub end-said : Settings → List ℕ → Ended → List ℕ → List Emission
-end-said st bs e r =
-    replies st (take header-length (ended-in (e .whole) bs r)) (e .reply)
-    ++ due-copy st (e .kind) (e .sends) (subscription-in (e .kind) r)
+abbrev pub end-said : Shared → List ℕ → Ended → List ℕ → List Emission
+end-said g bs e r =
+    replies g (take header-length (ended-in (e .whole) bs r)) (e .reply)
+    ++ due-copy (g .settings) (e .kind) (e .sends) (subscription-in (e .kind) r)
 
 -- what end_whole asks for: no run has begun, so that the one that ends stands whole in the slice
 pub record EndingWhole (r p : List ℕ) : Type 0 where
@@ -182,19 +194,18 @@ pub record EndingWhole (r p : List ℕ) : Type 0 where
   pub place : length p ≡ identifier-length
   pub empty : run-of (run-area r) ≡ empty-run
 
--- the bytes bs end a run, where identifiers over the net are granted or not
-pub record RunEnds (granted : Bool) (bs r place : List ℕ) (e : Ended) (r′ place′ : List ℕ) : Type 0 where
+-- the bytes bs end a run, where what all share is so
+pub record RunEnds (common : Common) (bs r place : List ℕ) (e : Ended) (r′ place′ : List ℕ) : Type 0 where
   pub good : Good r′
   pub size : length r′ ≡ length r
   pub kind : e .kind < length kinds
   pub ready : Ready (e .sends) (subscription-in (e .kind) r′)
   pub whole : e .reply ≡ Mirrored → header-length ≤ length (ended-in (e .whole) bs r′)
-  pub steps : (st : Settings) → st .granted ≡ granted
-      → step (shared-begun st 0) (receives (ending bs)) (session-of r) ≡ (session-of r′, end-said st bs e r′)
-  pub knows : (st : Settings) → st .granted ≡ granted
-      → Knows (announces (shared-begun st 0) (ending bs) (session-of r)) place (e .identified) place′
+  pub kept : (number : ℕ) → e .reply ≡ Kept number → is-among common number ≡ true
+  pub steps : (g : Shared) → Shows common g → step g (receives (ending bs)) (session-of r) ≡ (session-of r′, end-said g bs e r′)
+  pub knows : (g : Shared) → Shows common g → Knows (announces g (ending bs) (session-of r)) place (e .identified) place′
 
 -- a run ends that is kept: it stands whole in no slice
-pub record KeptEnds (granted : Bool) (r place : List ℕ) (e : Ended) (r′ place′ : List ℕ) : Type 0 where
+pub record KeptEnds (common : Common) (r place : List ℕ) (e : Ended) (r′ place′ : List ℕ) : Type 0 where
   pub whole : e .whole ≡ false
-  pub ends : RunEnds granted [] r place e r′ place′
+  pub ends : RunEnds common [] r place e r′ place′

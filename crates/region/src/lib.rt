@@ -22,6 +22,7 @@ ghost use Rattle.region.specs.Region.{session-of, region-formed, Good, r
 ghost use Rattle.region.specs.Said.{DealtTo, DealtToAll, TickStays, Ticks, Taking, Takes};
 ghost use Rattle.region.specs.Said.{stood, Ruled, CarryingOut, CarriesOut, ended-by, EndingWhole, RunEnds, KeptEnds};
 use lane::Told;
+use message::Common;
 use message::Standing;
 use model::IDENTIFIER_LENGTH;
 use model::IDENTIFIERS;
@@ -319,14 +320,14 @@ fn subscribed(region: &[u8]) -> [bool; KIND_COUNT]
 }
 
 // What the tests of a message look at.
-fn standing(region: &[u8], x: Session, granted: bool) -> Standing
+fn standing(region: &[u8], x: Session, common: Common) -> Standing
     requires { ⌜ Good (now region) ⌝ }
-    ensures { λ r. ⌜ standing-of r ≡ stood x «granted» (subscriptions-in (now (region .entry))) ⌝ }
+    ensures { λ r. ⌜ (standing-of r ≡ stood x common (subscriptions-in (now (region .entry)))) × (r .common ≡ common) ⌝ }
 {
     let phase = x.phase;
     Standing {
         started: is_started(phase),
-        granted,
+        common,
         subscribed: subscribed(region),
     }
 }
@@ -401,15 +402,15 @@ fn left_to_say(d: Decision, whole: bool, sends: bool) -> Ended
 }
 
 // A run ends that stands whole in the slice: it is read there.
-fn end_whole(region: &mut [u8], granted: bool, bytes: &[u8], place: &mut [u8]) -> Ended
+fn end_whole(region: &mut [u8], common: Common, bytes: &[u8], place: &mut [u8]) -> Ended
     requires { ⌜ EndingWhole (now region) (now place) ⌝ }
-    ensures { λ r. ⌜ RunEnds «granted» (now (bytes .entry)) (now (region .entry)) (now (place .entry)) r (now (region .exit))
+    ensures { λ r. ⌜ RunEnds common (now (bytes .entry)) (now (region .entry)) (now (place .entry)) r (now (region .exit))
         (now (place .exit)) ⌝ }
 {
     let x = load(region);
     let d = rule(
         x,
-        standing(region, x, granted),
+        standing(region, x, common),
         run::kept_of(bytes),
         run::count_of(bytes),
         place,
@@ -428,25 +429,25 @@ fn rule_kept(region: &[u8], x: Session, standing: Standing, place: &mut [u8]) ->
 }
 
 // A run ends that began in earlier slices: it is read where it is kept.
-fn end_kept(region: &mut [u8], granted: bool, place: &mut [u8]) -> Ended
+fn end_kept(region: &mut [u8], common: Common, place: &mut [u8]) -> Ended
     requires { ⌜ Good (now region) × (length (now place) ≡ identifier-length) ⌝ }
-    ensures { λ r. ⌜ KeptEnds «granted» (now (region .entry)) (now (place .entry)) r (now (region .exit)) (now (place .exit)) ⌝ }
+    ensures { λ r. ⌜ KeptEnds common (now (region .entry)) (now (place .entry)) r (now (region .exit)) (now (place .exit)) ⌝ }
 {
     let x = load(region);
-    let d = rule_kept(region, x, standing(region, x, granted), place);
+    let d = rule_kept(region, x, standing(region, x, common), place);
     let sends = carry_out(region, d);
     left_to_say(d, false, sends)
 }
 
-// The bytes end a run, where identifiers over the net are granted or not. An identifier that is made known is put in `place`.
-pub fn end_run(region: &mut [u8], granted: bool, bytes: &[u8], place: &mut [u8]) -> Ended
+// The bytes end a run; what all sessions share is told as far as the tests look at it. An identifier that is made known is put in `place`.
+pub fn end_run(region: &mut [u8], common: Common, bytes: &[u8], place: &mut [u8]) -> Ended
     requires { ⌜ Good (now region) × (length (now place) ≡ identifier-length) ⌝ }
-    ensures { λ r. ⌜ RunEnds «granted» (now (bytes .entry)) (now (region .entry)) (now (place .entry)) r (now (region .exit))
+    ensures { λ r. ⌜ RunEnds common (now (bytes .entry)) (now (region .entry)) (now (place .entry)) r (now (region .exit))
         (now (place .exit)) ⌝ }
 {
     if run::count(&region[RUN_AT..RUN_END]) == 0 {
-        return end_whole(region, granted, bytes, place);
+        return end_whole(region, common, bytes, place);
     }
     lengthen(region, bytes);
-    end_kept(region, granted, place)
+    end_kept(region, common, place)
 }

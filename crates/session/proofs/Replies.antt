@@ -11,19 +11,19 @@ use Rattle.model.proofs.Erase.{output-append}
 use Rattle.text.specs.Put.{Put}
 use Rattle.text.proofs.Puts.{put-nothing, put-as}
 use Rattle.frame.specs.declared.To.{To}
-use Rattle.session.specs.Effects.{replies, out-bytes}
+use Rattle.session.specs.Effects.{written, out-bytes}
 use Rattle.session.specs.declared.Reply.{Reply}
 
-module _ (to : To) (st : Settings) (header : List ℕ) {r r′ : Reply} (e : r ≡ r′) where
-  pub no-reply : {o : List ℕ} → replies st header r′ ≡ []
-      → Put o (to .at) (out-bytes (to .session) (replies st header r)) (to .at) o
-  no-reply {o} n = put-as (ap (out-bytes (to .session)) (sym (ap (replies st header) e ∙ n))) (put-nothing o (to .at))
+module _ (to : To) (st : Settings) (told : List ℕ) {r r′ : Reply} (e : r ≡ r′) where
+  pub no-reply : {o : List ℕ} → written st told r′ ≡ []
+      → Put o (to .at) (out-bytes (to .session) (written st told r)) (to .at) o
+  no-reply {o} n = put-as (ap (out-bytes (to .session)) (sym (ap (written st told) e ∙ n))) (put-nothing o (to .at))
 
-  pub one-reply : {o o′ : List ℕ} {next : ℕ} (frame : List ℕ) → replies st header r′ ≡ reply frame ∷ []
+  pub one-reply : {o o′ : List ℕ} {next : ℕ} (frame : List ℕ) → written st told r′ ≡ reply frame ∷ []
       → Put o (to .at) (frame-record (to .session) frame) next o′
-      → Put o (to .at) (out-bytes (to .session) (replies st header r)) next o′
+      → Put o (to .at) (out-bytes (to .session) (written st told r)) next o′
   one-reply frame n p =
-      put-as (sym (append-nil (frame-record (to .session) frame)) ∙ ap (out-bytes (to .session)) (sym (ap (replies st header) e ∙ n))) p
+      put-as (sym (append-nil (frame-record (to .session) frame)) ∙ ap (out-bytes (to .session)) (sym (ap (written st told) e ∙ n))) p
 
 tag-append : (s : ℕ) (xs ys : List Emission) → tag s (xs ++ ys) ≡ tag s xs ++ tag s ys
 tag-append s [] ys = refl

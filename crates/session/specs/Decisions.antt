@@ -6,8 +6,9 @@ use mathlib.Core.Option.{Option, none, some}
 use lib.Dec.{eqb}
 use Rattle.model.specs.Kinds.{identifiers}
 use Rattle.model.specs.Messages as model
-use Rattle.model.specs.Messages.{starts, stops, identifies, subscribes, unsubscribes, acknowledges, mirrors, entry-of, error-of}
-use Rattle.message.specs.Meaning.{effect-listed, answered, standing-of, error-number}
+use Rattle.model.specs.Messages.{starts, stops, identifies, subscribes, unsubscribes, acknowledges, fetches, mirrors}
+use Rattle.model.specs.Messages.{number-asked, entry-of, error-of}
+use Rattle.message.specs.Meaning.{effect-listed, answered, meant, standing-of, error-number}
 use Rattle.message.specs.declared.Standing.{Standing}
 use Rattle.frame.specs.declared.Header.{Header}
 use Rattle.frame.specs.declared.Header.the-variants.{Dropped, Message}
@@ -59,33 +60,38 @@ no-error (some error) = false
 abbrev pub refused : ℕ → Option model.Effect → Option model.Error → Decision
 refused mid effect error = replied (cond (answered effect) (reply.Error mid (error-number error)) reply.Nothing) begun
 
-abbrev pub accepted : ℕ → ℕ → Bool → Option model.Effect → Decision
-accepted mid revision no-acknowledge none = replied reply.Nothing begun
-accepted mid revision no-acknowledge (some starts) = replied reply.Nothing begun
-accepted mid revision no-acknowledge (some stops) = replied (reply.Accepted mid) fresh
-accepted mid revision no-acknowledge (some (identifies n)) = identify mid
-accepted mid revision no-acknowledge (some (subscribes kind n)) = deal (reply.Accepted mid) kind (deed.Asks revision no-acknowledge)
-accepted mid revision no-acknowledge (some (unsubscribes kind n)) = deal (reply.Accepted mid) kind deed.Drops
-accepted mid revision no-acknowledge (some (acknowledges kind)) = deal reply.Nothing kind deed.Acks
-accepted mid revision no-acknowledge (some mirrors) = replied reply.Mirrored begun
+-- (02, P2: the number is that of the tightening that is asked for)
+abbrev pub accepted : ℕ → ℕ → Bool → ℕ → Option model.Effect → Decision
+accepted mid revision no-acknowledge number none = replied reply.Nothing begun
+accepted mid revision no-acknowledge number (some starts) = replied reply.Nothing begun
+accepted mid revision no-acknowledge number (some stops) = replied (reply.Accepted mid) fresh
+accepted mid revision no-acknowledge number (some (identifies n)) = identify mid
+accepted mid revision no-acknowledge number (some (subscribes kind n)) =
+    deal (reply.Accepted mid) kind (deed.Asks revision no-acknowledge)
+accepted mid revision no-acknowledge number (some (unsubscribes kind n)) = deal (reply.Accepted mid) kind deed.Drops
+accepted mid revision no-acknowledge number (some (acknowledges kind)) = deal reply.Nothing kind deed.Acks
+accepted mid revision no-acknowledge number (some (fetches n)) = replied (reply.Kept number) begun
+accepted mid revision no-acknowledge number (some mirrors) = replied reply.Mirrored begun
 
 -- to one that is started: by the message's effect and its error
-abbrev pub decided-started : ℕ → ℕ → Bool → Option model.Effect → Option model.Error → Decision
-decided-started mid revision no-acknowledge effect error =
-    cond (no-error error) (accepted mid revision no-acknowledge effect) (refused mid effect error)
+abbrev pub decided-started : ℕ → ℕ → Bool → ℕ → Option model.Effect → Option model.Error → Decision
+decided-started mid revision no-acknowledge number effect error =
+    cond (no-error error) (accepted mid revision no-acknowledge number effect) (refused mid effect error)
 
 -- to one that is not: 0001 alone counts, and one with an error changes nothing
 abbrev pub decided-opened : Session → ℕ → Option model.Error → Decision
 decided-opened x mid error =
     cond (eqb mid 0001) (cond (no-error error) start (replied (reply.Error mid (error-number error)) x)) (replied reply.Nothing x)
 
-abbrev pub decided : Phase → Session → ℕ → ℕ → Bool → Option model.Error → Decision
-decided Closed x mid revision no-acknowledge error = replied reply.Nothing x
-decided Opened x mid revision no-acknowledge error = decided-opened x mid error
-decided Started x mid revision no-acknowledge error = decided-started mid revision no-acknowledge (effect-listed (entry-of mid)) error
+abbrev pub decided : Phase → Session → ℕ → ℕ → Bool → ℕ → Option model.Error → Decision
+decided Closed x mid revision no-acknowledge number error = replied reply.Nothing x
+decided Opened x mid revision no-acknowledge number error = decided-opened x mid error
+decided Started x mid revision no-acknowledge number error =
+    decided-started mid revision no-acknowledge number (effect-listed (entry-of mid)) error
 
 -- of a run with that header and that data field, by what the tests look at besides; one that is dropped changes nothing
 unfoldable pub decision : Session → Standing → Header → List ℕ → Decision
 decision x standing Dropped bs = replied reply.Nothing x
 decision x standing (Message size mid revision no-acknowledge) bs =
-    decided (x .phase) x mid revision no-acknowledge (error-of (standing-of standing) mid size revision bs)
+    decided (x .phase) x mid revision no-acknowledge (meant (standing .common) (number-asked bs))
+    (error-of (standing-of standing) mid size revision bs)

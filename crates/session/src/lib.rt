@@ -3,7 +3,7 @@
 ghost use mathlib.Core.Path.{_≡_};
 ghost use mathlib.Core.Bool.{cond};
 ghost use Prim.Native.Nat.{_+_, _≤_};
-ghost use lib.ListN.{length, take, drop};
+ghost use lib.ListN.{length, drop};
 ghost use Rattle.model.specs.Limits.{header-length};
 ghost use Rattle.model.specs.Records.{settings-of, settings-length};
 ghost use Rattle.model.specs.Kinds.{reply-most};
@@ -44,10 +44,11 @@ ghost use Rattle.session.specs.Decisions.{
   decided-opened,
   decision,
 };
-ghost use Rattle.session.specs.Effects.{replies, out-bytes, ReplyLent};
+ghost use Rattle.session.specs.Effects.{written, out-bytes, ReplyLent};
 use frame::Header;
 use frame::To;
 use message::Effect;
+use message::Outline;
 use message::Standing;
 use message::Verdict;
 use model::IDENTIFIERS;
@@ -405,13 +406,14 @@ pub fn idled(x: Session) -> Idling
 
 // ---- a message, to a session
 
-// What goes back to whom a message came from: nothing; 0002; 0005, with the message's number; 0004, with that and the error's; its own
-// header.
+// What goes back to whom a message came from: nothing; 0002; 0005, with the message's number; 0004, with that and the error's; 0065, with
+// the number of a tightening that is kept; its own header.
 pub enum Reply {
     Nothing,
     Started,
     Accepted { mid: u64 },
     Error { mid: u64, code: u64 },
+    Kept { number: u64 },
     Mirrored,
 }
 
@@ -521,9 +523,9 @@ fn refused(mid: u64, e: Effect, v: Verdict) -> Decision
     replied(Reply::Nothing, begun())
 }
 
-// A message with no error, to a session that is started.
-fn accepted(mid: u64, revision: u64, no_acknowledge: bool, e: Effect) -> Decision
-    ensures { λ r. ⌜ r ≡ accepted-as mid revision «no_acknowledge» (effect-in e) ⌝ }
+// A message with no error, to a session that is started; the number is that of the tightening that it asks for, if it asks for one.
+fn accepted(mid: u64, revision: u64, no_acknowledge: bool, number: u64, e: Effect) -> Decision
+    ensures { λ r. ⌜ r ≡ accepted-as mid revision «no_acknowledge» number (effect-in e) ⌝ }
 {
     match e {
         Effect::Unknown => replied(Reply::Nothing, begun()),
@@ -539,16 +541,23 @@ fn accepted(mid: u64, revision: u64, no_acknowledge: bool, e: Effect) -> Decisio
         }
         Effect::Unsubscribes { kind, error: _ } => deal(Reply::Accepted { mid }, kind, Deed::Drops),
         Effect::Acknowledges { kind } => deal(Reply::Nothing, kind, Deed::Acks),
+        Effect::Fetches { error: _ } => replied(Reply::Kept { number }, begun()),
         Effect::Mirrors => replied(Reply::Mirrored, begun()),
     }
 }
 
-fn decide_started(mid: u64, revision: u64, no_acknowledge: bool, v: Verdict) -> Decision
-    ensures { λ r. ⌜ r ≡ decided-started mid revision «no_acknowledge» (effect-listed (entry-of mid)) (error-in v) ⌝ }
+fn decide_started(
+    mid: u64,
+    revision: u64,
+    no_acknowledge: bool,
+    number: u64,
+    v: Verdict,
+) -> Decision
+    ensures { λ r. ⌜ r ≡ decided-started mid revision «no_acknowledge» number (effect-listed (entry-of mid)) (error-in v) ⌝ }
 {
     let e = message::effect_of(mid);
     if is_fine(v) {
-        return accepted(mid, revision, no_acknowledge, e);
+        return accepted(mid, revision, no_acknowledge, number, e);
     }
     refused(mid, e, v)
 }
@@ -582,12 +591,19 @@ fn decide_read(x: Session, standing: Standing, h: Header, data_field: &[u8]) -> 
     else {
         return replied(Reply::Nothing, x);
     };
-    let v = message::judge(standing, mid, size, revision, data_field);
+    let number = message::number_meant(standing, data_field);
+    let v = message::judge(
+        standing,
+        Outline { mid, size },
+        revision,
+        number,
+        data_field,
+    );
     let phase = x.phase;
     match phase {
         Phase::Closed => replied(Reply::Nothing, x),
         Phase::Opened => decide_opened(x, mid, v),
-        Phase::Started => decide_started(mid, revision, no_acknowledge, v),
+        Phase::Started => decide_started(mid, revision, no_acknowledge, number, v),
     }
 }
 
@@ -601,19 +617,20 @@ pub fn decide(x: Session, standing: Standing, run: &[u8], count: usize) -> Decis
 
 // ---- the reply, as an output record
 
-// The run is the one that was decided on: the header of a 9999 goes back as it came.
-pub fn put_reply(out: &mut [u8], to: To, settings: &[u8], run: &[u8], reply: Reply) -> usize
-    requires { ⌜ ReplyLent (now out) (now settings) (now run) to reply ⌝ }
+// What it tells, besides the settings: of a 9999 the run that was decided on, whose header goes back as it came; of a tightening that is
+// kept its payload.
+pub fn put_reply(out: &mut [u8], to: To, settings: &[u8], told: &[u8], reply: Reply) -> usize
+    requires { ⌜ ReplyLent (now out) (now settings) (now told) to reply ⌝ }
     ensures { λ r. ⌜ WrittenUpTo (now (out .entry)) (to .at) reply-most
-        (out-bytes (to .session) (replies (settings-of (now (settings .entry))) (take header-length (now (run .entry))) reply))
-        r (now (out .exit)) ⌝ }
+        (out-bytes (to .session) (written (settings-of (now (settings .entry))) (now (told .entry)) reply)) r (now (out .exit)) ⌝ }
 {
     match reply {
         Reply::Nothing => to.at,
         Reply::Started => frame::put_0002(out, to, settings),
         Reply::Accepted { mid } => frame::put_0005(out, to, mid),
         Reply::Error { mid, code } => frame::put_0004(out, to, mid, code),
-        Reply::Mirrored => frame::put_9999(out, to, run),
+        Reply::Kept { number } => frame::put_0065(out, to, number, told),
+        Reply::Mirrored => frame::put_9999(out, to, told),
     }
 }
 

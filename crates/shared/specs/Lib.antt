@@ -1,1 +1,2 @@
+pub mod Memory
 pub mod Shared

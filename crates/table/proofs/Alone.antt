@@ -7,14 +7,14 @@ use lib.ListN.{length}
 use Rattle.model.specs.Limits.{session-count}
 use Rattle.model.specs.Sharing.{Shared, shared-begun}
 use Rattle.model.specs.Session.{Session, closed, opened, started, fresh, is-closed, Emission}
-use Rattle.model.specs.Local.{Local, opening, hang-up, step}
+use Rattle.model.specs.Events.{Event}
+use Rattle.model.specs.Local.{Local, opening, hang-up, event, step}
 use Rattle.model.specs.Row.{tag}
 use Rattle.model.specs.World.{World, uncounted, session-at, Moment, to as alone, opens, hangs-up, next, emits, after, emitted}
 use Rattle.model.specs.Calls.{output}
 use Rattle.model.proofs.Erase.{output-append}
 use Rattle.model.proofs.InTurn.{next-to, emits-to, either-emits}
 use Rattle.text.specs.Put.{Put}
-use Rattle.model.proofs.BySettings.{step-bare}
 use Rattle.text.proofs.Puts.{put-nothing, put-as, put-then}
 use Rattle.session.specs.Effects.{out-bytes}
 use Rattle.region.specs.Region.{session-of, Good}
@@ -34,7 +34,13 @@ pub went-then : {t o t₁ o₁ t₂ o₂ : List ℕ} {at to₁ to₂ : ℕ} {m :
 went-then {t} {t₁ = t₁} {m = m} {ms = ms} e a b =
     let w = next (decode t) m in
     let same : decode t₁ ≡ w = a .table .meaning ∙ (λ i. record {
-      shared = record { settings = w .shared .settings; in-force = w .shared .in-force; last = w .shared .last; events = sym e i };
+      shared = record {
+        settings = w .shared .settings;
+        in-force = w .shared .in-force;
+        last = w .shared .last;
+        kept = w .shared .kept;
+        events = sym e i;
+      };
       sessions = w .sessions;
     }) in
     record {
@@ -67,10 +73,13 @@ module _ (t : List ℕ) (s : ℕ) (l : Local) (table : Table t) (few : s < sessi
       → Put o at (out-bytes s es) to o′ → Went t o at (alone s l ∷ []) to (put t s r) o′
   went-alone {r} es g e p = went-one (became-alone r g (rw e)) (rw (emits-to (decode t) s l there, part-is t s few, e) p)
 
--- a region's step is told the settings alone
-pub by-settings : (t : List ℕ) (l : Local) (x : Session) → step (decode t .shared) l x ≡ step (shared-begun (settings-in t) 0) l x
+-- of what all share, an event to a session reads the settings alone
+pub by-settings : (t : List ℕ) (e : Event) (x : Session)
+    → step (decode t .shared) (event e) x ≡ step (shared-begun (settings-in t) 0) (event e) x
 unfolding decode
-by-settings t l x = step-bare (decode t .shared) l x
+by-settings t e closed = refl
+by-settings t e (opened idle run) = refl
+by-settings t e (started idle run subs) = refl
 
 -- the table keeps no count of events
 pub uncounted-yet : (t : List ℕ) (s : ℕ) (l : Local) → next (decode t) (alone s l) .shared .events ≡ 0

@@ -7,24 +7,25 @@ use lib.Dec.{lit≤}
 use native.Mathlib.Omega.{arith}
 use mathlib.Core.Bool.{Bool, true, false, cond}
 use mathlib.Core.List.{List, [], _∷_}
-use lib.ListN.{length, getD, set, take, drop, drop-of-length-le}
+use lib.ListN.{length, getD, set, drop, drop-of-length-le}
 use lib.Seq.{drop-cons, drop-set-lt}
 use Rattle.model.specs.Limits.{session-count}
-use Rattle.model.specs.Bytes.{little}
 use Rattle.model.specs.Records.{settings-of}
 use Rattle.model.specs.Sharing.{Shared}
 use Rattle.model.specs.Session.{Session, closed}
-use Rattle.model.specs.Events.{Event}
-use Rattle.model.specs.Local.{event, takes, step}
-use Rattle.model.specs.World.{World, uncounted, session-at, to as alone}
+use Rattle.model.specs.Kinds.{identifiers}
+use Rattle.model.specs.Events.{Event, Result, result-as}
+use Rattle.model.specs.Memory.{kept-with}
+use Rattle.model.specs.Local.{Local, event, takes, step}
+use Rattle.model.specs.World.{World, uncounted, session-at, to as alone, to-all, next}
 use Rattle.model.specs.Calls.{takers}
 use Rattle.model.proofs.InTurn.{next-to}
-use Rattle.frame.specs.Places.{result-of}
-use Rattle.frame.specs.Places.{event-in}
-use Rattle.shared.specs.Shared.{settings-part, in-force-of, last-of, Holds}
+use Rattle.frame.specs.Places.{result-of, place-size, event-in}
+use Rattle.shared.specs.Shared.{settings-part, in-force-of, last-of, kept-of, Next, Holds}
 use Rattle.region.specs.Region.{session-of, region-formed}
 use Rattle.table.specs.Table.{shared-area, regions, decode, Table, Becomes, noted, Went}
-use Rattle.table.proofs.Regions.{so-many-sessions, length-regions, front, front-size, front-past, front-shared}
+use Rattle.table.specs.Passes.{EventTo}
+use Rattle.table.proofs.Regions.{shared-good, so-many-sessions, length-regions, front, front-size, front-past, front-shared}
 use Rattle.table.proofs.Regions.{front-regions, formed-parts, becomes-of}
 
 -- ==== who takes it
@@ -98,27 +99,51 @@ module _ {kind : ℕ} {t₀ t : List ℕ} {s bit taken : ℕ} (w : Summing kind 
 
 -- ==== what is left to all sessions
 
-front-means : (t a payload x : List ℕ) (n : ℕ) → Table t → Holds payload x n a
-    → let g : Shared = record { settings = settings-of payload; in-force = x; last = n; events = 0 } in
+front-means : (t a payload x : List ℕ) (n : ℕ) (rs : List Result) → Table t → Holds payload x n rs a
+    → let g : Shared = record { settings = settings-of payload; in-force = x; last = n; kept = rs; events = 0 } in
     Becomes t (record { shared = g; sessions = decode t .sessions }) (front t a)
 unfolding decode
-front-means t a payload x n h k =
+front-means t a payload x n rs h k =
     let l = h .size in
     let s = k .area .size in
-    becomes-of l (front-size t a l s) (front-past t a l s) (subst (Holds payload x n) (sym (front-shared t a l s)) k)
+    becomes-of l (front-size t a l s) (front-past t a l s) (subst (Holds payload x n rs) (sym (front-shared t a l s)) k)
     (rw (front-regions t a l s region-formed) (formed-parts t h .1)) (front-regions t a l s session-of)
 
-module _ (t a : List ℕ) (kind : ℕ) (place : List ℕ) (h : Table t) where
-  pub noted-identifier : kind ≡ 0 → Holds (settings-part (shared-area t)) place (last-of (shared-area t)) a
+-- an identifier has no number
+pub identifier-to : {t place : List ℕ} → Table t → length place ≡ place-size identifiers → EventTo t identifiers place
+identifier-to h e = record { table = h; known = omega arith; place = e; number = λ q. absurd (omega arith) }
+
+-- the sessions that see it leave the last number as it was
+pub still-to : {t t₁ place : List ℕ} {kind : ℕ} (l : Local) → EventTo t kind place → Becomes t (next (decode t) (to-all l)) t₁
+    → EventTo t₁ kind place
+still-to l h b = record {
+  table = b .table;
+  known = h .known;
+  place = h .place;
+  number = λ q. h .number q ∙ ap (λ (w : World). suc (w .shared .last)) (sym (b .meaning));
+}
+
+-- a tightening is the next
+pub comes-next : {t place : List ℕ} {kind : ℕ} → EventTo t kind place → kind ≡ 1 → Next (shared-area t) place
+unfolding decode result-of result-as
+comes-next {t} h e = record { area = shared-good t (h .table); size = h .place ∙ ap place-size e; number = h .number e }
+
+module _ (t a : List ℕ) (kind : ℕ) (place : List ℕ) (h : EventTo t kind place) where
+  pub noted-identifier : kind ≡ 0
+      → Holds (settings-part (shared-area t)) place (last-of (shared-area t)) (kept-of (shared-area t)) a
       → Becomes t (noted (decode t) (event-in kind place)) (front t a)
   unfolding decode
-  noted-identifier e k = rw e (front-means t a _ _ _ h k)
+  noted-identifier e k = rw e (front-means t a _ _ _ _ (h .table) k)
 
-  pub noted-number : (n : ℕ) → kind ≡ 1 → n ≡ little (take 4 (drop 106 place))
-      → Holds (settings-part (shared-area t)) (in-force-of (shared-area t)) n a
+  pub noted-tightening : kind ≡ 1
+      → let n = suc (last-of (shared-area t)) in
+      Holds (settings-part (shared-area t)) (in-force-of (shared-area t)) n (kept-with (result-as n place) (kept-of (shared-area t))) a
       → Becomes t (noted (decode t) (event-in kind place)) (front t a)
-  unfolding decode result-of
-  noted-number n e f k = rw e (front-means t a _ _ _ h (rw f at k))
+  unfolding decode result-of result-as
+  noted-tightening e k =
+      rw e (front-means t a _ _ _ _ (h .table)
+      (subst (λ (n : ℕ). Holds (settings-part (shared-area t)) (in-force-of (shared-area t)) n
+      (kept-with (result-as n place) (kept-of (shared-area t))) a) (sym (h .number e)) k))
 
 -- ==== one after another
 

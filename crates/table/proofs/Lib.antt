@@ -4,6 +4,7 @@ pub mod Alone
 pub mod Turns
 pub mod Starts
 pub mod Events
+pub mod Memory
 pub mod Says
 pub mod Again
 pub mod Passes

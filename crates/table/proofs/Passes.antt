@@ -4,7 +4,7 @@ use Prim.Native.Nat.{ℕ, _+_, _≤_}
 use native.Mathlib.Omega.{arith}
 use mathlib.Core.Bool.{true, false}
 use mathlib.Core.List.{List, [], _∷_}
-use Rattle.model.specs.Records.{Settings}
+use Rattle.model.specs.Sharing.{Shared}
 use Rattle.model.specs.Kinds.{kinds, kind-at, copy-most, copies-most}
 use Rattle.model.specs.Session.{Emission}
 use Rattle.model.specs.Local.{Local, tick, event, step, takes}
@@ -24,7 +24,7 @@ use Rattle.table.specs.Says.{Lent, DueLent, asked-in}
 use Rattle.table.specs.Passes.{Last, AskedLent, Copies, EventLent, TellsOne}
 use Rattle.table.specs.declared.Copied.{Copied}
 use Rattle.table.specs.declared.Took.{Took}
-use Rattle.table.proofs.Regions.{part, put, part-is, put-in, put-means, put-settings}
+use Rattle.table.proofs.Regions.{part, put, part-is, put-in, put-means, put-settings, put-same-to-all}
 use Rattle.table.proofs.Alone.{went-alone, by-settings}
 use Rattle.table.proofs.Says.{copy-said}
 use Rattle.table.proofs.Again.{copied-so, last-now}
@@ -39,14 +39,14 @@ module _ {t o : List ℕ} {to : To} {most : ℕ} (l : Lent t o to most) {r : Lis
   there = put-in t (to .session) r (l .table .size) (l .session) (g .size)
 
   -- what the table says now is what the step says
-  pub passed : (seen : Local) (says : Settings → List ℕ → List Emission) {next : ℕ} {o′ : List ℕ}
-      → step (decode t .shared) seen (session-of (part t (to .session))) ≡ (session-of r, says (settings-in t) r)
-      → Put o (to .at) (out-bytes (to .session) (says (settings-in (put t (to .session) r))
+  pub passed : (seen : Local) (says : Shared → List ℕ → List Emission) {next : ℕ} {o′ : List ℕ}
+      → step (decode t .shared) seen (session-of (part t (to .session))) ≡ (session-of r, says (decode t .shared) r)
+      → Put o (to .at) (out-bytes (to .session) (says (decode (put t (to .session) r) .shared)
       (region-in (to .session) (put t (to .session) r)))) next o′
       → Went t o (to .at) (to-one (to .session) seen ∷ []) next (put t (to .session) r) o′
   passed seen says e p =
-      went-alone t (to .session) seen (l .table) (l .session) (says (settings-in t) r) g e
-      (put-as (ap (out-bytes (to .session)) (ap₂ says (put-settings t (to .session) r (l .table .size) (l .session) (g .size)) there)) p)
+      went-alone t (to .session) seen (l .table) (l .session) (says (decode t .shared) r) g e
+      (put-as (ap (out-bytes (to .session)) (ap₂ says (put-same-to-all t (to .session) r (l .table .size) (l .session) (g .size)) there)) p)
 
 -- ==== a tick
 
@@ -60,7 +60,7 @@ module _ {t o : List ℕ} {to : To} (l : Lent t o to (copies-most kinds)) {ticke
       (region-in (to .session) (put t (to .session) r)))) next o′
       → Went t o (to .at) (to-one (to .session) tick ∷ []) next (put t (to .session) r) o′
   unfolding decode
-  tick-passed = passed l (w .good) tick (λ st z. tick-said st ticked z) (w .steps (decode t .shared))
+  tick-passed = passed l (w .good) tick (λ g z. tick-said (g .settings) ticked z) (w .steps (decode t .shared))
 
 -- ==== an event
 
@@ -89,11 +89,12 @@ module _ {t o : List ℕ} {to : To} {kind : ℕ} {p : List ℕ} {c : Copied} (e 
   told-one : {next : ℕ} {o′ : List ℕ} (c′ : Copied) → next ≤ to .at + copy-most (kind-at kind)
       → Put o (to .at) (out-bytes (to .session) (event-said (settings-in t₁) kind p told (region-in (to .session) t₁))) next o′
       → Last (settings-in t₁) kind p c′ next o′ → TellsOne t o to kind p (took next c′) t₁ o′
+  unfolding decode
   told-one c′ within v last = record {
     within = within;
     takes = rw (part-is t (to .session) (e .lent .session)) (w .takes);
-    went = passed (e .lent) (w .good) (event (event-in kind p)) (λ st z. event-said st kind p told z)
-        (by-settings t (event (event-in kind p)) (session-of (part t (to .session))) ∙ w .steps (settings-in t)) v;
+    went = passed (e .lent) (w .good) (event (event-in kind p)) (λ g z. event-said (g .settings) kind p told z)
+        (by-settings t (event-in kind p) (session-of (part t (to .session))) ∙ w .steps (settings-in t)) v;
     last = last;
   }
 

@@ -18,28 +18,30 @@ use Rattle.model.specs.Events.{identified}
 use Rattle.model.specs.Local.{receives, announces, step}
 use Rattle.model.specs.World.{session-at, hears, happens, uncounted, next}
 use Rattle.model.specs.Calls.{output, happening}
-use Rattle.model.proofs.BySettings.{announces-bare}
 use Rattle.model.proofs.InTurn.{emits-to}
 use Rattle.text.specs.Put.{Put}
-use Rattle.text.proofs.Puts.{put-nothing, put-then, put-length}
+use Rattle.text.proofs.Puts.{put-nothing, put-as, put-then, put-length}
 use Rattle.text.proofs.Areas.{each-below}
 use Rattle.frame.specs.declared.To.{To}
-use Rattle.session.specs.Effects.{out-bytes, replies, ReplyLent}
+use Rattle.message.specs.declared.Common.{Common}
+use Rattle.session.specs.Effects.{out-bytes, replies, written, ReplyLent}
 use Rattle.session.proofs.Hearing.{run-goes-on}
 use Rattle.session.proofs.Replies.{out-append}
 use Rattle.run.specs.Area.{run-of, Ends}
 use Rattle.head.specs.Head.{head-of}
 use Rattle.region.specs.Region as region
 use Rattle.region.specs.Region.{head-area, run-area, subscriptions-in, subscription-in, session-of, run-bytes}
-use Rattle.region.specs.Said.{due-copy, ending, Knows, ended-in, end-said, RunEnds}
+use Rattle.region.specs.Said.{due-copy, ending, Knows, Shows, ended-in, end-said, RunEnds}
 use Rattle.region.specs.declared.Ended.{Ended}
 use Rattle.region.proofs.Areas.{means}
 use Rattle.shared.specs.Shared.{settings-part}
+use Rattle.shared.proofs.Results.{payload-long}
 use Rattle.table.specs.Table.{shared-area, region-in, decode, settings-in, Table, Becomes, Went}
-use Rattle.table.specs.Says.{Lent, Wrote, OpenLent, EndLent}
+use Rattle.table.specs.Says.{Lent, Wrote, OpenLent, told-by, EndLent}
 use Rattle.table.specs.Passes.{unended, heard-by-all, Hears, Received}
-use Rattle.table.proofs.Regions.{part, put, part-is, so-many-sessions}
-use Rattle.table.proofs.Alone.{became-alone, went-one, went-then, by-settings, uncounted-yet}
+use Rattle.table.proofs.Regions.{part, put, part-is, length-shared, so-many-sessions, put-same-to-all}
+use Rattle.table.proofs.Memory.{reply-said}
+use Rattle.table.proofs.Alone.{became-alone, went-one, went-then, uncounted-yet}
 use Rattle.table.proofs.Passes.{still-lent, there, passed}
 
 -- ==== bytes that end no run
@@ -54,10 +56,8 @@ module _ (t : List ℕ) (s : ℕ) (bs : List ℕ) (table : Table t) (few : s < s
   unfolding session-of decode
   goes-on =
       let x = head-of (head-area r) in
-      let w = run-goes-on (settings-in t) (run-of (run-area r)) (subscriptions-in r) (unended bs) refl (x .phase) (x .idle) in (
-        rw (part-is t s few, by-settings t (receives (unended bs)) (session-of r)) (w .0),
-        rw (part-is t s few, announces-bare (decode t .shared) (unended bs) (session-of r)) (w .1),
-      )
+      let w = run-goes-on (decode t .shared) (run-of (run-area r)) (subscriptions-in r) (unended bs) refl (x .phase) (x .idle) in
+      (rw (part-is t s few) (w .0), rw (part-is t s few) (w .1))
 
   pub lengthened : {r′ : List ℕ} → region.Becomes r (head-of (head-area r)) (longer (run-of (run-area r)) bs) (subscriptions-in r) r′
       → Becomes t (uncounted (next (decode t) (hears s (unended bs)))) (put t s r′)
@@ -130,15 +130,23 @@ module _ {t o : List ℕ} {to : To} {bs : List ℕ} {e : Ended} (l : EndLent t o
       → run ≡ ended-in (e .whole) bs region-now
   run-is eg ek er = er ∙ ap (cond (e .whole) bs) (ek ∙ ap run-bytes eg)
 
-  pub reply-lent : {payload run : List ℕ} → length payload ≡ settings-length → run ≡ ended-in (e .whole) bs region-now
-      → ReplyLent o payload run to (e .reply)
-  reply-lent es er =
+  pub reply-lent : {payload run told : List ℕ} → length payload ≡ settings-length → run ≡ ended-in (e .whole) bs region-now
+      → told ≡ told-by (shared-area t) run (e .reply) → ReplyLent o payload told to (e .reply)
+  reply-lent {run = run} es er et =
       let room = l .lent .room in
       record {
         output = record { room = omega arith; numbered = omega arith };
         settings = es;
-        header = λ q. rw er (l .whole q);
+        header = λ q. rw (et, q, er) (l .whole q);
+        kept = λ number q.
+            ap length (et ∙ ap (told-by (shared-area t) run) q)
+            ∙ payload-long number (shared-area t) (length-shared t (l .lent .table .size));
       }
+
+  -- what is written is what is replied, by what all share
+  pub replied : (run : List ℕ) → written (settings-in t) (told-by (shared-area t) run (e .reply)) (e .reply)
+      ≡ replies (decode t .shared) (take header-length run) (e .reply)
+  replied run = reply-said t (l .lent .table) run (e .reply) (l .kept)
 
   pub say-lent : {bytes o₁ : List ℕ} {at : ℕ} → at ≤ to .at + reply-most → Put o (to .at) bytes at o₁
       → OpenLent t o₁ (record { session = to .session; at = at }) (e .kind) (e .sends)
@@ -152,42 +160,46 @@ module _ {t o : List ℕ} {to : To} {bs : List ℕ} {e : Ended} (l : EndLent t o
         ready = l .ready;
       }
 
-  pub answered : {payload run o₁ o′ : List ℕ} {at next : ℕ} → payload ≡ settings-part (shared-area t) → run
-      ≡ ended-in (e .whole) bs region-now
+  pub answered : {payload run told o₁ o′ : List ℕ} {at next : ℕ} → payload ≡ settings-part (shared-area t)
+      → run ≡ ended-in (e .whole) bs region-now
+      → told ≡ told-by (shared-area t) run (e .reply)
       → at ≤ to .at + reply-most
-      → Put o (to .at) (out-bytes (to .session) (replies (settings-of payload) (take header-length run) (e .reply))) at o₁
+      → Put o (to .at) (out-bytes (to .session) (written (settings-of payload) told (e .reply))) at o₁
       → Wrote (copy-most (kind-at (e .kind))) (due-copy (settings-in t) (e .kind) (e .sends) (subscription-in (e .kind) region-now))
       (record { session = to .session; at = at }) o₁ next o′
-      → Wrote session-most (end-said (settings-in t) bs e region-now) to o next o′
-  answered ep er few p w =
+      → Wrote session-most (end-said (decode t .shared) bs e region-now) to o next o′
+  unfolding decode
+  answered {payload} {run} {told} ep er et few p w =
       let among = copy-among (e .kind) (l .known) in
       let within = w .within in
+      let run-now = ended-in (e .whole) bs region-now in
+      let same : written (settings-of payload) told (e .reply) ≡ replies (decode t .shared) (take header-length run-now) (e .reply) =
+      rw (ep, et, er) (replied run-now) in
       record {
         within = omega arith;
-        bytes = rw out-append (put-then (rw (ep, er) at p) (w .bytes));
+        bytes = rw out-append (put-then (put-as (ap (out-bytes (to .session)) same) p) (w .bytes));
       }
 
 -- ==== the end of a run: first the region changes, and then what it has to say is written
 
-module _ {t o : List ℕ} {to : To} {bs place : List ℕ} (l : Lent t o to session-most) {granted : Bool} {e : Ended} {r′ place′ : List ℕ}
-    (w : RunEnds granted bs (part t (to .session)) place e r′ place′) where
+module _ {t o : List ℕ} {to : To} {bs place : List ℕ} (l : Lent t o to session-most) {common : Common} {e : Ended} {r′ place′ : List ℕ}
+    (shows : Shows common (decode t .shared)) (w : RunEnds common bs (part t (to .session)) place e r′ place′) where
   pub end-lent : EndLent (put t (to .session) r′) o to bs e
   end-lent = record {
     lent = still-lent l (w .good);
     known = w .kind;
     ready = rw (there l (w .good)) (w .ready);
     whole = λ q. rw (there l (w .good)) (w .whole q);
+    kept = λ number q. rw (put-same-to-all t (to .session) r′ (l .table .size) (l .session) (w .good .size))
+        (shows .remembers .kept number ∙ w .kept number q);
   }
 
-  pub heard : settings-in t .granted ≡ granted → {next : ℕ} {o′ : List ℕ}
-      → Wrote session-most (end-said (settings-in (put t (to .session) r′)) bs e (region-in (to .session) (put t (to .session) r′)))
+  pub heard : {next : ℕ} {o′ : List ℕ}
+      → Wrote session-most (end-said (decode (put t (to .session) r′) .shared) bs e (region-in (to .session) (put t (to .session) r′)))
       to o next o′
       → Hears t o to bs place (record { at = next; identified = e .identified }) (put t (to .session) r′) o′ place′
-  unfolding decode
-  heard eg v = record {
+  heard v = record {
     within = v .within;
-    went = passed l (w .good) (receives (ending bs)) (λ st z. end-said st bs e z)
-        (by-settings t (receives (ending bs)) (session-of (part t (to .session))) ∙ w .steps (settings-in t) eg) (v .bytes);
-    knows = rw (part-is t (to .session) (l .session), announces-bare (decode t .shared) (ending bs) (session-of (part t (to .session))))
-        (w .knows (settings-in t) eg);
+    went = passed l (w .good) (receives (ending bs)) (λ g z. end-said g bs e z) (w .steps (decode t .shared) shows) (v .bytes);
+    knows = rw (part-is t (to .session) (l .session)) (w .knows (decode t .shared) shows);
   }

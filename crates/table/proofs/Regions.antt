@@ -12,13 +12,14 @@ use borrow.Rule.Slice.PartMut.{putMid, midOf, mid-len, same-len-mid}
 use Rattle.model.specs.Limits.{session-count, table-least, identifier-length}
 use Rattle.model.specs.Bytes.{all}
 use Rattle.model.specs.Records.{settings-of, settings-length}
+use Rattle.model.specs.Events.{Result}
 use Rattle.model.specs.Session.{Session, closed}
 use Rattle.model.specs.World.{session-at}
 use Rattle.text.specs.Areas.{Apart}
 use Rattle.text.proofs.Lists.{drop-after}
 use Rattle.text.proofs.Cells.{area-same, area-before, area-after}
 use Rattle.text.proofs.Areas.{length-areas, areas-at, areas-put, areas-same, all-set, passes}
-use Rattle.shared.specs.Shared.{shared-size, settings-part, in-force-of, last-of, shared-formed, Area, Holds}
+use Rattle.shared.specs.Shared.{shared-size, settings-part, in-force-of, last-of, kept-of, shared-formed, Area, Holds}
 use Rattle.region.specs.Region.{region-size, session-of, region-formed, Good}
 use Rattle.table.specs.Table.{
   shared-area,
@@ -26,6 +27,7 @@ use Rattle.table.specs.Table.{
   region-in,
   table-used,
   regions,
+  shared-of,
   decode,
   settings-in,
   table-formed,
@@ -107,29 +109,39 @@ length-in-force a e = length-take-le 25 (drop 56 a) (simp length-drop (omega ari
 
 -- it has become so: as long as it was and the same past what is used, with what all share as it is held, and with regions that are well
 -- formed and mean those sessions
-pub becomes-of : {t t′ payload x : List ℕ} {n : ℕ} {ss : List Session} → table-least ≤ length t → length t′ ≡ length t
-    → drop table-used t′ ≡ drop table-used t → Holds payload x n (shared-area t′) → all (λ (b : Bool). b) (regions region-formed t′) ≡ true
-    → regions session-of t′ ≡ ss
-    → Becomes t (record { shared = record { settings = settings-of payload; in-force = x; last = n; events = 0 }; sessions = ss }) t′
+pub becomes-of : {t t′ payload x : List ℕ} {n : ℕ} {rs : List Result} {ss : List Session} → table-least ≤ length t → length t′ ≡ length t
+    → drop table-used t′ ≡ drop table-used t → Holds payload x n rs (shared-area t′)
+    → all (λ (b : Bool). b) (regions region-formed t′) ≡ true → regions session-of t′ ≡ ss
+    → Becomes t (record {
+      shared = record { settings = settings-of payload; in-force = x; last = n; kept = rs; events = 0 };
+      sessions = ss;
+    }) t′
 unfolding decode table-formed
 becomes-of l s p h formed e = record {
   table = record { size = rw s l; formed = rw (h .area .formed, formed) };
   size = s;
   past = p;
   meaning = λ i. record {
-    shared = record { settings = settings-of (h .settings i); in-force = h .in-force i; last = h .last i; events = 0 };
+    shared = record {
+      settings = settings-of (h .settings i);
+      in-force = h .in-force i;
+      last = h .last i;
+      kept = h .kept i;
+      events = 0;
+    };
     sessions = e i;
   };
 }
 
 -- what is shared, as the table means it
 pub holds-as-before : (t t′ : List ℕ) → Table t → shared-area t′ ≡ shared-area t
-    → Holds (settings-part (shared-area t)) (in-force-of (shared-area t)) (last-of (shared-area t)) (shared-area t′)
+    → let a = shared-area t in Holds (settings-part a) (in-force-of a) (last-of a) (kept-of a) (shared-area t′)
 holds-as-before t t′ h e = record {
   area = subst Area (sym e) (shared-good t h);
   settings = ap settings-part e;
   in-force = ap in-force-of e;
   last = ap last-of e;
+  kept = ap kept-of e;
 }
 
 -- ==== a region was replaced
@@ -155,6 +167,10 @@ module _ (t : List ℕ) (s : ℕ) (ys : List ℕ) (long : table-least ≤ length
 
   pub put-settings : settings-in (put t s ys) ≡ settings-in t
   put-settings = ap (λ (a : List ℕ). settings-of (settings-part a)) put-shared
+
+  pub put-same-to-all : decode (put t s ys) .shared ≡ decode t .shared
+  unfolding decode
+  put-same-to-all = ap shared-of put-shared
 
   pub put-regions : {A : Type 0} (f : List ℕ → A) → regions f (put t s ys) ≡ set (regions f t) s (f ys)
   put-regions f = areas-put (λ (s : ℕ). f) region-at (λ (s : ℕ). region-size) regions-apart t ys s h len (omega arith)

@@ -3,7 +3,7 @@ use mathlib.Core.Path.{_≡_, refl, sym, ap, subst, _∙_}
 use Prim.Native.Nat.{ℕ, _+_, _-_, _≤_, _<_}
 use native.Mathlib.Omega.{arith}
 use mathlib.Core.Bool.{Bool, true}
-use mathlib.Core.List.{List, _++_}
+use mathlib.Core.List.{List, [], _++_}
 use lib.ListN.{length, take, drop, replicate}
 use Rattle.model.specs.Limits.{table-least, session-count}
 use Rattle.model.specs.Bytes.{all, spaces}
@@ -52,7 +52,7 @@ module _ {t₀ : List ℕ} (long : table-least ≤ length t₀) {t : List ℕ} {
       }
 
   -- all of them are, and a is what they share
-  pub closed-all : {payload a : List ℕ} → session-count ≤ s → Holds payload (spaces 25) (settings-of payload .last) a
+  pub closed-all : {payload a : List ℕ} → session-count ≤ s → Holds payload (spaces 25) (settings-of payload .last) [] a
       → Becomes t₀ (begun (settings-of payload) 0) (front t a)
   closed-all {payload} {a} h k =
       let l = still-long in
@@ -61,7 +61,7 @@ module _ {t₀ : List ℕ} (long : table-least ≤ length t₀) {t : List ℕ} {
       let f = length-regions region-formed t in
       let m = length-regions session-of t in
       becomes-of long (front-size t a l n ∙ w .size) (front-past t a l n ∙ w .past)
-      (subst (Holds payload (spaces 25) (settings-of payload .last)) (sym (front-shared t a l n)) k)
+      (subst (Holds payload (spaces 25) (settings-of payload .last) []) (sym (front-shared t a l n)) k)
       (ap (all (λ (b : Bool). b)) (front-regions t a l n region-formed
       ∙ filled (regions region-formed t) s (omega arith) (rw none-left) ∙ w .formed))
       (front-regions t a l n session-of ∙ filled (regions session-of t) s (omega arith) (rw none-left) ∙ w .sessions)

@@ -1,6 +1,6 @@
 -- What passes over the table: an event, received bytes. 01, "What a message does" and "Notices and the clock".
 use mathlib.Core.Path.{_≡_}
-use Prim.Native.Nat.{ℕ, _+_, _^_, _≤_, _<_}
+use Prim.Native.Nat.{ℕ, suc, _+_, _^_, _≤_, _<_}
 use mathlib.Core.Bool.{false}
 use mathlib.Core.List.{List, [], _∷_}
 use mathlib.Core.Option.{Option·map as option-map}
@@ -9,13 +9,13 @@ use Rattle.model.specs.Limits.{session-count}
 use Rattle.model.specs.Runs.{Piece}
 use Rattle.model.specs.Records.{Settings}
 use Rattle.model.specs.Frames.{event-frame, frame-record}
-use Rattle.model.specs.Kinds.{kinds, kind-at, copy-most, session-most, event-most, receive-most}
+use Rattle.model.specs.Kinds.{kinds, kind-at, tightenings, copy-most, session-most, event-most, receive-most}
 use Rattle.model.specs.Events.{identified}
 use Rattle.model.specs.Local.{event, takes, announces}
 use Rattle.model.specs.World.{World, session-at, Moment, to as to-one, to-all, happens, hears, next, emits}
 use Rattle.model.specs.Calls.{output, takers, happening}
 use Rattle.text.specs.Put.{Put}
-use Rattle.frame.specs.Places.{place-size, event-in}
+use Rattle.frame.specs.Places.{result-of, place-size, event-in}
 use Rattle.frame.specs.Output.{Recorded}
 use Rattle.frame.specs.declared.To.{To}
 use Rattle.frame.specs.declared.Asked.{Asked}
@@ -27,12 +27,13 @@ use Rattle.table.specs.declared.Took.{Took}
 use Rattle.table.specs.declared.Told.{Told}
 use Rattle.table.specs.declared.Heard.{Heard}
 
--- ==== an event of a kind, whose notice is in the place p
+-- ==== an event of a kind, whose notice is in the place p; a tightening has the next number
 
 pub record EventTo (t : List ℕ) (kind : ℕ) (p : List ℕ) : Type 0 where
   pub table : Table t
   pub known : kind < length kinds
   pub place : length p ≡ place-size kind
+  pub number : kind ≡ tightenings → result-of p .number ≡ suc (decode t .shared .last)
 
 -- what was written last, up to `at`: nothing, or the record of the notice's frame as it was asked for, to one session or another
 pub record Last (st : Settings) (kind : ℕ) (p : List ℕ) (c : Copied) (at : ℕ) (o : List ℕ) : Type 0 where

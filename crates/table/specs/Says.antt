@@ -7,6 +7,7 @@ use mathlib.Core.List.{List}
 use lib.ListN.{length}
 use Rattle.model.specs.Limits.{session-count, header-length}
 use Rattle.model.specs.Kinds.{kinds, kind-at, copy-most, copies-most, session-most}
+use Rattle.model.specs.Memory.{numbered, is-there}
 use Rattle.model.specs.Notices.{Subscription, is-subscribed}
 use Rattle.model.specs.Session.{Emission}
 use Rattle.text.specs.Put.{Put}
@@ -15,11 +16,13 @@ use Rattle.frame.specs.declared.To.{To}
 use Rattle.frame.specs.declared.Asked.{Asked}
 use Rattle.lane.specs.Lane.{is-plain, control-of}
 use Rattle.session.specs.Effects.{out-bytes}
-use Rattle.session.specs.declared.Reply.the-variants.{Mirrored}
+use Rattle.session.specs.declared.Reply.{Reply}
+use Rattle.session.specs.declared.Reply.the-variants.{Nothing, Started, Accepted, Error, Kept, Mirrored}
+use Rattle.shared.specs.Memory.{payload-kept}
 use Rattle.region.specs.Region.{lane-in, subscriptions-in, subscription-in}
 use Rattle.region.specs.Said.{Ready, AllReady, ended-in}
 use Rattle.region.specs.declared.Ended.{Ended}
-use Rattle.table.specs.Table.{region-in, Table}
+use Rattle.table.specs.Table.{region-in, decode, Table}
 
 -- the subscription of a session to a kind, and all of them
 abbrev pub subscription-to : To → ℕ → List ℕ → Subscription
@@ -69,9 +72,19 @@ pub record DueLent (t o : List ℕ) (to : To) (due : List Bool) : Type 0 where
   pub lent : Lent t o to (copies-most kinds)
   pub ready : AllReady due (subscriptions-to to t)
 
--- for what the end of a run leaves to say, the bytes of the run among it
+-- what a reply tells besides the settings: of a tightening that is kept its payload, out of what all share; of a 9999 the run
+abbrev pub told-by : List ℕ → List ℕ → Reply → List ℕ
+told-by a run Nothing = run
+told-by a run Started = run
+told-by a run (Accepted mid) = run
+told-by a run (Error mid code) = run
+told-by a run (Kept number) = payload-kept number a
+told-by a run Mirrored = run
+
+-- for what the end of a run leaves to say, the bytes of the run and the tightening that is told of among it
 pub record EndLent (t o : List ℕ) (to : To) (bs : List ℕ) (e : Ended) : Type 0 where
   pub lent : Lent t o to session-most
   pub known : e .kind < length kinds
   pub ready : Ready (e .sends) (subscription-to to (e .kind) t)
   pub whole : e .reply ≡ Mirrored → header-length ≤ length (ended-in (e .whole) bs (region-in (to .session) t))
+  pub kept : (number : ℕ) → e .reply ≡ Kept number → is-there (numbered number (decode t .shared .kept)) ≡ true

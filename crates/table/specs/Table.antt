@@ -1,4 +1,4 @@
--- The lent table: what all sessions share, then a region for each session. 01, "What the product holds"; docs/TABLE.md has the map.
+-- The lent table: what all sessions share, then a region for each session. 01, "What the product holds"; 02, P2; docs/TABLE.md has the map.
 use mathlib.Core.Path.{_≡_}
 use Prim.Native.Nat.{ℕ, _+_, _*_, _≤_, _<_}
 use mathlib.Core.Bool.{Bool, true, _&&_}
@@ -14,7 +14,7 @@ use Rattle.model.specs.Sharing.{Shared, shared-after, unnumbered}
 use Rattle.model.specs.Calls.{output}
 use Rattle.text.specs.Put.{Put}
 use Rattle.text.specs.Areas.{areas}
-use Rattle.shared.specs.Shared.{shared-size, settings-part, in-force-of, last-of, shared-formed}
+use Rattle.shared.specs.Shared.{shared-size, settings-part, in-force-of, last-of, kept-of, shared-formed}
 use Rattle.region.specs.Region.{region-size, session-of, region-formed}
 
 -- ==== its areas
@@ -40,7 +40,13 @@ table-used = shared-size + session-count * region-size
 -- ==== its meaning (it keeps no count of events)
 
 abbrev pub shared-of : List ℕ → Shared
-shared-of a = record { settings = settings-of (settings-part a); in-force = in-force-of a; last = last-of a; events = 0 }
+shared-of a = record {
+  settings = settings-of (settings-part a);
+  in-force = in-force-of a;
+  last = last-of a;
+  kept = kept-of a;
+  events = 0;
+}
 
 unfoldable pub decode : List ℕ → World
 decode t = record { shared = shared-of (shared-area t); sessions = regions session-of t }

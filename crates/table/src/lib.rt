@@ -14,24 +14,24 @@ ghost use Rattle.model.specs.World.{session-at, begun, uncounted, to as to-one,
 ghost use Rattle.frame.specs.Places.{event-in, notice-in};
 ghost use Rattle.run.specs.Area.{Ends};
 ghost use Rattle.lane.specs.Lane.{is-plain as is-plain-so};
-ghost use Rattle.region.specs.Said.{copies-out, due-copy, due-copies, ending, end-said};
+ghost use Rattle.region.specs.Said.{copies-out, due-copy, due-copies, ending, Shows, end-said};
 ghost use Rattle.shared.specs.Shared.{settings-part};
 ghost use Rattle.table.specs.Table.{shared-area, region-in, decode, settings-in, table-formed, Table, Openable, Becomes};
 ghost use Rattle.table.specs.Table.{noted, WentUpTo};
 ghost use Rattle.table.specs.Says.{Lent, Wrote, CopyLent, OpenLent, DueLent, EndLent, subscription-to, subscriptions-to};
-ghost use Rattle.table.specs.Says.{Asking, asked-in};
+ghost use Rattle.table.specs.Says.{Asking, asked-in, told-by as told-so};
 ghost use Rattle.table.specs.Passes.{EventTo, Repeats, AskedLent, Copies, EventLent, TellsOne, Tells, Happens, Hears, unended};
 ghost use Rattle.table.specs.Passes.{Received};
 use frame::Asked;
 use frame::To;
+use message::Common;
 use model::IDENTIFIER_LENGTH;
 use model::IDENTIFIERS;
 use model::KIND_COUNT;
-use model::NUMBER_LENGTH;
 use model::SESSION_COUNT;
-use model::TIGHTENING_LENGTH;
 use region::Ended;
 use session::Form;
+use session::Reply;
 
 // Where the regions begin, and the size of each.
 const SHARED: usize = shared::SIZE;
@@ -96,6 +96,19 @@ pub fn settings(table: &[u8]) -> &[u8]
     ensures { λ r. ⌜ (now r ≡ settings-part (shared-area (now (table .entry)))) × (length (now r) ≡ settings-length) ⌝ }
 {
     shared::settings(&table[0..SHARED])
+}
+
+// What the tests of a message look at of what all sessions share.
+fn common(table: &[u8]) -> Common
+    requires { ⌜ Table (now table) ⌝ }
+    ensures { λ r. ⌜ Shows r (decode (now (table .entry)) .shared) ⌝ }
+{
+    let granted = session::is_granted(settings(table));
+    Common {
+        granted,
+        newest: shared::last(&table[0..SHARED]),
+        kept: shared::count(&table[0..SHARED]),
+    }
 }
 
 // ---- a start
@@ -359,7 +372,7 @@ fn tell(table: &mut [u8], out: &mut [u8], at: usize, kind: usize, place: &[u8]) 
     Told { at, taken }
 }
 
-// What the event leaves to all sessions: the identifier in force, or the last number.
+// What the event leaves to all sessions: the identifier in force, or the last number and the tightening that has it.
 fn note(table: &mut [u8], kind: usize, place: &[u8])
     requires { ⌜ EventTo (now table) kind (now place) ⌝ }
     ensures { λ _. ⌜ Becomes (now (table .entry)) (noted (decode (now (table .entry))) (event-in kind (now (place .entry))))
@@ -369,8 +382,7 @@ fn note(table: &mut [u8], kind: usize, place: &[u8])
         shared::put_in_force(&mut table[0..SHARED], place);
         return;
     }
-    let number = text::little(place, TIGHTENING_LENGTH, NUMBER_LENGTH);
-    shared::put_last(&mut table[0..SHARED], number);
+    shared::remember(&mut table[0..SHARED], place);
 }
 
 // An event of that kind, whose notice is in `place`.
@@ -406,16 +418,31 @@ fn ended_in<'a>(bytes: &'a [u8], kept: &'a [u8], whole: bool) -> &'a [u8]
     kept
 }
 
+// What a reply tells besides the settings: of a tightening that is kept its payload, as it stands; of a 9999 the run.
+fn told_by<'a>(table: &'a [u8], run: &'a [u8], reply: Reply) -> &'a [u8]
+    requires { ⌜ table-least ≤ length (now table) ⌝ }
+    ensures { λ r. ⌜ now r ≡ told-so (shared-area (now (table .entry))) (now (run .entry)) reply ⌝ }
+{
+    match reply {
+        Reply::Nothing => run,
+        Reply::Started => run,
+        Reply::Accepted { mid: _ } => run,
+        Reply::Error { mid: _, code: _ } => run,
+        Reply::Kept { number } => shared::kept(&table[0..SHARED], number),
+        Reply::Mirrored => run,
+    }
+}
+
 // What the end of a run leaves to say: the reply, and behind it the copy that is due.
 fn answer<'a>(table: &'a [u8], out: &mut [u8], to: To, bytes: &'a [u8], ended: Ended) -> usize
     requires { ⌜ EndLent (now table) (now out) to (now bytes) ended ⌝ }
-    ensures { λ r. ⌜ Wrote session-most (end-said (settings-in (now (table .entry))) (now (bytes .entry)) ended
+    ensures { λ r. ⌜ Wrote session-most (end-said (decode (now (table .entry)) .shared) (now (bytes .entry)) ended
         (region-in (to .session) (now (table .entry)))) to (now (out .entry)) r (now (out .exit)) ⌝ }
 {
     let kept = region::run_bytes(region_of(table, to.session));
     let run = ended_in(bytes, kept, ended.whole);
     let reply = ended.reply;
-    let at = session::put_reply(out, to, settings(table), run, reply);
+    let at = session::put_reply(out, to, settings(table), told_by(table, run, reply), reply);
     let behind = To {
         session: to.session,
         at,
@@ -435,9 +462,9 @@ fn hear(table: &mut [u8], out: &mut [u8], to: To, bytes: &[u8], place: &mut [u8]
     ensures { λ r. ⌜ Hears (now (table .entry)) (now (out .entry)) to (now (bytes .entry)) (now (place .entry)) r (now (table .exit))
         (now (out .exit)) (now (place .exit)) ⌝ }
 {
-    let granted = session::is_granted(settings(table));
+    let common = common(table);
     let a = SHARED + to.session as usize * SIZE;
-    let ended = region::end_run(&mut table[a..a + SIZE], granted, bytes, place);
+    let ended = region::end_run(&mut table[a..a + SIZE], common, bytes, place);
     let at = answer(table, out, to, bytes, ended);
     Heard {
         at,

@@ -112,6 +112,30 @@ pub fn decimal(s: &[u8]) -> u64
     n
 }
 
+// How far a byte is above `0`, and 0 for one that is not.
+fn above_0(b: u8) -> u64
+    ensures { λ r. ⌜ (r ≡ b - 0x30) × (r ≤ 207) ⌝ }
+{
+    if b < b'0' {
+        return 0;
+    }
+    wide(b - b'0')
+}
+
+// The same number of any bytes, whether they are digits or not: each counts as what it is above `0`.
+pub fn number(s: &[u8]) -> u64
+    requires { ⌜ length (now s) ≤ 17 ⌝ }
+    ensures { λ r. ⌜ r ≡ decimal-of (now (s .entry)) ⌝ }
+{
+    let mut i = 0;
+    let mut n: u64 = 0;
+    while i < s.len() {
+        n = n * 10 + above_0(s[i]);
+        i += 1;
+    }
+    n
+}
+
 // ---- parts
 
 // The bytes from `from` on, as part of the caller's.

@@ -1,6 +1,7 @@
 -- `controller::report` meets its contract.
 use borrow.Author.Needs.{needs}
-use Rattle.controller.proofs.Tools.{tightening-size, scan-size, bad-reported, tightening-reported, scan-reported}
+use Rattle.table.proofs.Events.{identifier-to}
+use Rattle.controller.proofs.Tools.{tightening-to, tightening-size, scan-size, bad-reported, tightening-reported, scan-reported}
 use Rattle.controller.proofs.report.Statement.{statement}
 use Rattle.controller.proofs.report.Tie as tie
 
@@ -13,9 +14,9 @@ report-spec =
     (λ c. search needs)
     (λ c κs. search (needs, tightening-size, c .before .before .before .before .before .before .before .pre .number))
     (λ c. search needs)
-    (λ c κs. search needs)
+    (λ c κs. search (needs, tightening-to))
     (λ c. search needs)
-    (λ c κs. search (needs, scan-size))
+    (λ c κs. search (needs, scan-size, identifier-to))
     (λ c. search (needs, bad-reported))
     (λ c. search needs)
     (λ c. search needs)

@@ -24,27 +24,27 @@ in-four {asked = asked} h e =
     let short = copy-in-four asked (subst Real e (h .real)) in
     omega arith
 
-put-heading-requires-4 : tie.Need-put-heading-requires-4
-put-heading-requires-4 c κs =
-    let m = c .before .before .before .before .before in
-    let s = m .before .before .before in
-    let short = in-four (s .pre) (m .content3 .given .1) in
-    (rw (c .notice-heading .ensures) short, s .pre .room)
-
 put-heading-requires-5 : tie.Need-put-heading-requires-5
 put-heading-requires-5 c κs =
     let m = c .before .before .before .before .before in
     let s = m .before .before .before in
-    let short = in-four (s .pre) (m .content3 .given .1) in
+    let short = in-four (s .pre) (m .content4 .given .1) in
+    (rw (c .notice-heading .ensures) short, s .pre .room)
+
+put-heading-requires-6 : tie.Need-put-heading-requires-6
+put-heading-requires-6 c κs =
+    let m = c .before .before .before .before .before in
+    let s = m .before .before .before in
+    let short = in-four (s .pre) (m .content4 .given .1) in
     (rw (c .notice-heading2 .ensures) short, s .pre .room)
 
 returns : tie.Need-returns
 returns c =
     let h = c .before .before in
     let k = h .before .before .before in
-    let e = k .before .before .before .content3 .given .1 in
+    let e = k .before .before .before .content4 .given .1 in
     let n = k .before .before .before .before .before .before .pre .own ∙ ap frame-length e in
-    headed (of e (h .before .notice-heading .ensures ∙ (rw (n, k .if1 .taken)))) (h .put-heading4 .ensures)
+    headed (of e (h .before .notice-heading .ensures ∙ (rw (n, k .if1 .taken)))) (h .put-heading5 .ensures)
 
 returns-2 : tie.Need-returns-2
 returns-2 c =
@@ -64,12 +64,17 @@ returns-4 c =
 returns-5 : tie.Need-returns-5
 returns-5 c =
     let h = c .before .before in
+    headed (of (h .before .before .before .before .content3 .given .1) (h .before .reply-heading4 .ensures)) (h .put-heading4 .ensures)
+
+returns-6 : tie.Need-returns-6
+returns-6 c =
+    let h = c .before .before in
     let k = h .before .before .before in
-    let e = k .before .before .before .content3 .given .1 in
+    let e = k .before .before .before .content4 .given .1 in
     let s = k .before .before .before .before .before .before in
     let n = s .pre .own ∙ ap frame-length e in
     let two = second-kind _ (subst Real e (s .pre .real)) (k .if1 .left) in
-    headed (of e (h .before .notice-heading2 .ensures ∙ (rw (n, two)))) (h .put-heading5 .ensures)
+    headed (of e (h .before .notice-heading2 .ensures ∙ (rw (n, two)))) (h .put-heading6 .ensures)
 
 pub put-header-spec : {M : Type 1} → statement M
 put-header-spec =
@@ -86,11 +91,14 @@ put-header-spec =
     (λ c κs. (rw (c .reply-heading3 .ensures) (omega arith), search needs))
     (λ c. search needs)
     (λ c κs. search needs)
-    put-heading-requires-4
+    (λ c κs. (rw (c .reply-heading4 .ensures) (omega arith), search needs))
+    (λ c. search needs)
+    (λ c κs. search needs)
+    put-heading-requires-5
     (λ c. search needs)
     returns
     (λ c κs. search needs)
-    put-heading-requires-5
+    put-heading-requires-6
     (λ c. search needs)
     returns-2
     (λ c. search needs)
@@ -98,4 +106,6 @@ put-header-spec =
     (λ c. search needs)
     returns-4
     (λ c. search needs)
-    returns-5)
+    returns-5
+    (λ c. search needs)
+    returns-6)

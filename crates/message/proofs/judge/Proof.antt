@@ -2,16 +2,18 @@
 use borrow.Author.Needs.{needs}
 use borrow.Author.Tests.{not-true, not-false}
 use mathlib.Core.Path.{refl, sym, _∙_, ap}
+use mathlib.Core.Option.{Option}
 use native.Mathlib.Omega.{arith}
-use Rattle.model.specs.Messages.{entry-of}
-use Rattle.message.specs.Inner.{Lists, own-error}
+use Rattle.model.specs.Messages.{Effect, entry-of}
+use Rattle.message.specs.Meaning.{standing-with}
+use Rattle.message.specs.Inner.{Lists, wanted, own-error}
 use Rattle.message.proofs.Order.{known, unknown, ordered}
 use Rattle.message.proofs.judge.Statement.{statement}
 use Rattle.message.proofs.judge.Tie as tie
 
 -- what is not unknown is listed, and has its row
 module _ (c : tie.At-match-keys2) where
-  listed-row : let mid = c .before .before .before .args .mid in Lists mid (c .before .listed-of .result .row) (entry-of mid)
+  listed-row : let mid = c .before .before .before .args .m .mid in Lists mid (c .before .listed-of .result .row) (entry-of mid)
   listed-row =
       let e = c .before .listed-of .ensures in
       e .1 (known _ (c .before .listed-of .result .effect) (c .match .keys2) (e .0))
@@ -43,9 +45,11 @@ returns-5 c =
     let s = v .before .before in
     let a = s .before .before in
     let r = a .before .before in
+    let bs = r .before .before .before .before .args .data-field .now in
+    let f = r .before .before .listed-of .ensures .0 in
     ordered _ _ _ _ _ _ (search needs) (listed-row (r .before)) (sym (a .if1 .left) ∙ a .before .starts-again .ensures)
     (sym (not-false _ (s .if2 .left)) ∙ s .before .within .ensures) (sym (not-false _ (v .if3 .left)) ∙ v .before .within2 .ensures)
-    (sym (not-true _ (c .if4 .taken)) ∙ c .before .is-text .ensures) refl
+    (sym (not-true _ (c .if4 .taken)) ∙ c .before .is-good .ensures ∙ ap (λ (e : Option Effect). wanted e bs) f) refl
 
 returns-6 : tie.Need-returns-6
 returns-6 c =
@@ -55,10 +59,14 @@ returns-6 c =
     let a = s .before .before in
     let r = a .before .before in
     let few = r .before .before .before .before .fits .revision in
+    let y = r .before .before .before .before in
+    let x = standing-with (y .args .x) (y .args .number) in
+    let bs = y .args .data-field .now in
+    let f = r .before .before .listed-of .ensures .0 in
     ordered _ _ _ _ _ _ (omega arith) (listed-row (r .before)) (sym (a .if1 .left) ∙ a .before .starts-again .ensures)
     (sym (not-false _ (s .if2 .left)) ∙ s .before .within .ensures) (sym (not-false _ (v .if3 .left)) ∙ v .before .within2 .ensures)
-    (sym (not-false _ (t .if4 .left)) ∙ t .before .is-text .ensures)
-    (c .own-error .ensures ∙ ap (own-error _) (r .before .before .listed-of .ensures .0))
+    (sym (not-false _ (t .if4 .left)) ∙ t .before .is-good .ensures ∙ ap (λ (e : Option Effect). wanted e bs) f)
+    (c .own-error .ensures bs ∙ ap (λ (e : Option Effect). own-error x e bs) f)
 
 pub judge-spec : {M : Type 1} → statement M
 judge-spec =

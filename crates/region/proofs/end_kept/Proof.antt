@@ -11,7 +11,7 @@ use Rattle.region.proofs.end_kept.Tie as tie
 -- the decision is on the run as it is kept: no more bytes make it no longer
 module _ (c : tie.After-rule-kept) where
   judged : let a = c .before .before .before .before .before .before .before .before .args in
-      Judged (a .granted) [] (a .region .now) (a .place .now) (c .rule-kept .result) (c .rule-kept .last .1 .1 .1 .0)
+      Judged (a .common) [] (a .region .now) (a .place .now) (c .rule-kept .result) (c .rule-kept .last .1 .1 .1 .0)
   judged =
       let l = c .before .before .before .before in
       let s = l .before .before .before .before in

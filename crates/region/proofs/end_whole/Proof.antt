@@ -22,7 +22,7 @@ rule-requires c κs =
 -- the decision is on the run that the bytes are
 module _ (c : tie.After-rule) where
   judged : let a = c .before .before .before .before .before .before .before .before .before .before .before .args in
-      Judged (a .granted) (a .bytes .now) (a .region .now) (a .place .now) (c .rule .result) (c .rule .last .1 .1 .1 .1 .0)
+      Judged (a .common) (a .bytes .now) (a .region .now) (a .place .now) (c .rule .result) (c .rule .last .1 .1 .1 .1 .0)
   judged =
       let n = c .before .before in
       let k = n .before in

@@ -19,6 +19,7 @@ answer-spec =
     run-bytes-requires
     (λ c κs. search needs)
     (λ c κs. search needs)
+    (λ c κs. search needs)
     (λ c κs. search (needs, reply-lent, run-is))
     (λ c κs. search (needs, say-lent))
     (λ c. search needs)

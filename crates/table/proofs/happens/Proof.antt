@@ -4,7 +4,7 @@ use Rattle.model.specs.World.{World}
 use Rattle.frame.specs.Places.{event-in}
 use Rattle.table.specs.Table.{noted}
 use Rattle.table.proofs.Alone.{went-one}
-use Rattle.table.proofs.Events.{takers-below, becomes-then}
+use Rattle.table.proofs.Events.{takers-below, still-to, becomes-then}
 use Rattle.table.proofs.happens.Statement.{statement}
 use Rattle.table.proofs.happens.Tie as tie
 
@@ -23,4 +23,5 @@ returns c =
     }
 
 pub happens-spec : {M : Type 1} → statement M
-happens-spec = tie.close (tie.spec (λ c κs. search needs) (λ c κs. search needs) (λ c. search needs) (λ c. search needs) returns)
+happens-spec =
+    tie.close (tie.spec (λ c κs. search needs) (λ c κs. search (needs, still-to)) (λ c. search needs) (λ c. search needs) returns)

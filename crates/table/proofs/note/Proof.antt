@@ -2,10 +2,9 @@
 use borrow.Author.Needs.{needs}
 use mathlib.Core.Path.{_≡_, ap, _∙_}
 use native.Mathlib.Omega.{arith}
-use lib.ListN.{length}
 use Rattle.frame.specs.Places.{place-size}
 use Rattle.table.proofs.Regions.{shared-good}
-use Rattle.table.proofs.Events.{noted-identifier, noted-number}
+use Rattle.table.proofs.Events.{noted-identifier, comes-next, noted-tightening}
 use Rattle.table.proofs.note.Statement.{statement}
 use Rattle.table.proofs.note.Tie as tie
 
@@ -13,19 +12,6 @@ use Rattle.table.proofs.note.Tie as tie
 module _ (c : tie.Else1) where
   second : c .before .before .before .args .kind ≡ 1
   second = let few = c .before .before .before .pre .known in omega (arith, c .if1 .left)
-
-little-requires : tie.Need-little-requires
-little-requires c κs =
-    let s = c .before .before .before in
-    let e : length (s .args .place .now) ≡ 110 = s .pre .place ∙ ap place-size (second c) in
-    (omega arith, omega arith)
-
-returns-2 : tie.Need-returns-2
-returns-2 c =
-    let k = c .before .before in
-    let l = k .before .before in
-    noted-number _ _ _ _ (l .before .before .before .before .pre .table) _ (second (l .before)) (l .little .ensures .0)
-    (k .put-last .ensures)
 
 pub note-spec : {M : Type 1} → statement M
 note-spec =
@@ -37,11 +23,11 @@ note-spec =
     (λ c κs. let p = c .before .before .before .before .pre in (shared-good _ (p .table), p .place ∙ ap place-size (c .before .if1 .taken)))
     (λ c. search needs)
     (λ c. let k = c .before .before in let i = k .before .before in
-    noted-identifier _ _ _ _ (i .before .before .before .pre .table) (i .if1 .taken) (k .put-in-force .ensures))
-    little-requires
+    noted-identifier _ _ _ _ (i .before .before .before .pre) (i .if1 .taken) (k .put-in-force .ensures))
     (λ c. search needs)
     (λ c. search needs)
     (λ c. search needs)
-    (λ c κs. (shared-good _ (c .before .before .before .before .before .pre .table), omega (arith, c .before .little .ensures .1)))
+    (λ c κs. let i = c .before in comes-next (i .before .before .before .pre) (second i))
     (λ c. search needs)
-    returns-2)
+    (λ c. let k = c .before .before in let i = k .before .before in
+    noted-tightening _ _ _ _ (i .before .before .before .pre) (second i) (k .remember .ensures)))
