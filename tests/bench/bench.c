@@ -50,7 +50,8 @@ enum {
 };
 
 static const double STEADY = 5.0, RATIO_MOST = 1.5; /* against the second implementation */
-static const long STACK_MOST = 4096;
+static const double INSTRUCTIONS_MOST = 1.0;        /* the same */
+static const long STACK_MOST = 1200;
 
 struct library {
     uint64_t (*start)(uint8_t *, size_t, const uint8_t *, size_t, uint8_t *, size_t);
@@ -473,7 +474,8 @@ static bool measure_work(const struct call_kind *call_kind, long bare)
         memcpy(table[i], state[i], TABLE);
         deep[i] = depth(call_kind->run, i) - bare;
     }
-    bool good = deep[PRODUCT] <= STACK_MOST && instructions[PRODUCT] <= peer_most * instructions[PEER];
+    bool good = deep[PRODUCT] <= STACK_MOST && instructions[PRODUCT] <= INSTRUCTIONS_MOST * instructions[INDEPENDENT]
+                && instructions[PRODUCT] <= peer_most * instructions[PEER];
     printf("%-40s %8.0f %8.0f %6.2f %8.0f %6.2f %9ld %7ld %7ld", call_kind->name, instructions[PRODUCT], instructions[INDEPENDENT],
            instructions[PRODUCT] / instructions[INDEPENDENT], instructions[PEER], instructions[PRODUCT] / instructions[PEER],
            deep[PRODUCT], deep[INDEPENDENT], deep[PEER]);
@@ -498,7 +500,8 @@ static bool measure_works(const struct call_kind *call_kinds, unsigned count)
 {
     long bare = depth(NULL, 0);
     bool good = true;
-    printf("instructions a call, and the product's ratios; stack in bytes (the product's at most %ld)\n", STACK_MOST);
+    printf("instructions a call, and the product's ratios (to the second implementation at most %.1f);\n"
+           "stack in bytes (the product's at most %ld)\n", INSTRUCTIONS_MOST, STACK_MOST);
     printf("%-40s %8s %8s %6s %8s %6s %9s %7s %7s\n", "call", "product", "indep.", "ratio", "peer", "ratio", "stack", "indep.",
            "peer");
     for (unsigned k = 0; k < count; k++)

@@ -122,18 +122,16 @@ pub fn rest(bytes: &[u8], answer: Answer) -> &[u8]
 // ---- a tool record
 
 // A tightening as it is kept: the tool record's payload with the identifier that is meant now, and its number, the next one.
-fn result<'a>(table: &'a [u8], payload: &'a [u8]) -> [u8; RESULT_LENGTH]
-    requires { ⌜ Keeping (now table) (now payload) ⌝ }
-    ensures { λ r. ⌜ tightened (result-of r) ≡ reported (decode (now (table .entry)) .shared)
+fn put_result<'a>(table: &'a [u8], payload: &'a [u8], place: &mut [u8])
+    requires { ⌜ Keeping (now table) (now payload) (now place) ⌝ }
+    ensures { λ _. ⌜ tightened (result-of (now (place .exit))) ≡ reported (decode (now (table .entry)) .shared)
         (tightening (identifier-in (now (payload .entry))) (tightening-of (now (payload .entry)))) ⌝ }
 {
-    let mut place = [0; RESULT_LENGTH];
-    text::copy(payload, &mut place, 0);
+    text::copy(payload, place, 0);
     let identifier = record::meant(&payload[0..IDENTIFIER_LENGTH], table::in_force(table));
-    text::copy(identifier, &mut place, 0);
+    text::copy(identifier, place, 0);
     let number = table::last(table) + 1;
-    text::put_little(&mut place, TIGHTENING_LENGTH, NUMBER_LENGTH, number);
-    place
+    text::put_little(place, TIGHTENING_LENGTH, NUMBER_LENGTH, number);
 }
 
 // The event of a tool record, if it is good.
@@ -146,7 +144,8 @@ fn report(table: &mut [u8], output: &mut [u8], slice: &[u8], record_kind: Record
     match record_kind {
         RecordKind::Bad => Told { at: 0, taken: 0 },
         RecordKind::Tightening => {
-            let place = result(table, payload);
+            let mut place = [0; RESULT_LENGTH];
+            put_result(table, payload, &mut place);
             table::happens(table, output, 0, model::TIGHTENINGS, &place)
         }
         RecordKind::Scanned => table::happens(table, output, 0, model::IDENTIFIERS, payload),

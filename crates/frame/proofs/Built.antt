@@ -2,20 +2,19 @@
 use mathlib.Core.Path.{_≡_, refl, sym, ap, subst}
 use Prim.Native.Nat.{ℕ, zero, suc, _+_, _-_, _≤_, _<_}
 use native.Mathlib.Omega.{arith}
-use mathlib.Core.Bool.{Bool, true}
-use mathlib.Core.List.{List, [], _∷_, _++_, map, append-assoc}
-use lib.Dec.{leb, ltb}
-use borrow.Author.Tests.{leb-true, ltb-true}
+use mathlib.Core.Bool.{Bool}
+use mathlib.Core.List.{List, [], _∷_, _++_, append-assoc}
+use lib.Dec.{leb}
+use borrow.Author.Tests.{leb-true}
 use lib.ListN.{length, take, drop, replicate}
 use lib.Seq.{take-all}
 use Rattle.model.specs.Limits.{header-length, identifier-length}
-use Rattle.model.specs.Bytes.{NUL, all, in-bytes}
-use Rattle.model.specs.Records.{record-head, house-record, said, settings-length, settings-items, values, settings-of, tightening-of}
-use Rattle.model.specs.Layouts.{Layout, data-from, data-of, characters, data-length, layout-at, layouts-0052, layouts-0061}
+use Rattle.model.specs.Bytes.{NUL, in-bytes}
+use Rattle.model.specs.Records.{record-head, house-record, said, settings-items, values, settings-of, tightening-of}
+use Rattle.model.specs.Layouts.{Layout, data-from, data-of, characters, data-length, layout-at, layouts-0052}
 use Rattle.model.specs.Kinds.{Kind, kinds, kind-at}
 use Rattle.model.specs.Events.{result-as}
 use Rattle.model.specs.Frames.{frame, frame-0002, frame-0004, frame-0005, frame-0065, event-frame, frame-record}
-use Rattle.model.proofs.Framed.{at-every}
 use Rattle.model.proofs.KindLaws.{every-layout}
 use Rattle.text.specs.Put.{Put, Written}
 use Rattle.text.proofs.Puts.{put-then, put-before, put-over, put-as}
@@ -25,7 +24,7 @@ use Rattle.frame.specs.declared.Asked.{Asked}
 use Rattle.frame.specs.declared.Heading.{Heading}
 use Rattle.frame.specs.declared.To.{To}
 use Rattle.frame.specs.Places.{place-items, place-size, result-of, event-in}
-use Rattle.frame.specs.Layout.{layout-of, placed, Payloads, data-in, served, all-served}
+use Rattle.frame.specs.Layout.{layout-of, Payloads, data-in}
 use Rattle.frame.specs.Output.{frame-length, notice-byte-12, heading-of, heading-bytes}
 use Rattle.frame.specs.Output.{frame-of, RecordMade, Recorded}
 
@@ -70,38 +69,13 @@ wrote-frame content b e d z h =
     let n : frame-length content ≡ header-length + length (data-in content b) = omega arith in
     (omega arith, put-as (rw (n, append-assoc)) (put-before (put-then (d .put) (z .1)) (h .put) (omega arith)))
 
--- ==== how long they are, and which bytes serve them
+-- ==== how long they are
 
 abbrev short : Kind → Layout → Bool
 short k l = leb (header-length + data-length l) (k .longest)
 
 pub copy-short : (asked : Asked) → asked .kind < length kinds → frame-length (Notice asked) ≤ (kind-at (asked .kind)) .longest
 copy-short asked h = leb-true _ _ (every-layout short refl (asked .kind) h (asked .revision))
-
-abbrev in-four : Kind → Layout → Bool
-in-four k l = ltb (header-length + data-length l) 10000
-
--- a frame's length has four digits
-pub copy-in-four : (asked : Asked) → asked .kind < length kinds → frame-length (Notice asked) < 10000
-copy-in-four asked h = ltb-true _ _ (every-layout in-four refl (asked .kind) h (asked .revision))
-
-abbrev few-rows : Kind → Layout → Bool
-few-rows k l = ltb (length (l .rows)) 100
-
-pub copy-few : (asked : Asked) → asked .kind < length kinds → length (layout-of (Notice asked) .rows) < 100
-copy-few asked h = ltb-true _ _ (every-layout few-rows refl (asked .kind) h (asked .revision))
-
-abbrev serves : ℕ → Layout → Bool
-serves kind l = all (served settings-length (place-size kind)) (map (placed (place-items kind)) (l .rows))
-
-notices-served : (kind revision : ℕ) → kind < length kinds → serves kind (layout-at ((kind-at kind) .layouts) revision) ≡ true
-notices-served zero revision h = at-every (serves 0) layouts-0052 refl revision
-notices-served (suc zero) revision h = at-every (serves 1) layouts-0061 refl revision
-notices-served (suc (suc kind)) revision h = absurd (omega arith)
-
-pub notice-served : (asked : Asked) → asked .kind < length kinds
-    → all-served (Notice asked) settings-length (place-size (asked .kind)) ≡ true
-notice-served asked h = notices-served (asked .kind) (asked .revision) h
 
 -- ==== what each is
 

@@ -1,9 +1,6 @@
 pub mod Tests
 pub mod Headers
 pub mod Answers
-pub mod Arms
-pub mod Placing
-pub mod Rows
-pub mod Values
-pub mod Data
+pub mod Fields
+pub mod Contents
 pub mod Built

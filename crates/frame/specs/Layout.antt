@@ -1,20 +1,16 @@
--- The layouts of the frames that we write, where the values stand as bytes. 01, "Frames we write".
-use Prim.Native.Nat.{ℕ, _+_, _-_}
-use mathlib.Core.Bool.{Bool, true, cond, _&&_}
-use mathlib.Core.List.{List, [], map}
-use lib.Dec.{leb, eqb}
-use lib.ListN.{length, getD, take, drop}
-use Rattle.model.specs.Bytes.{all, spaces, digits, little}
-use Rattle.model.specs.Records.{Item, time, item-length, payload-length, values, settings-items, tightening-items}
-use Rattle.model.specs.Layouts.{Sources, settings, Row, number, text, blank, known, Layout, data-of, layout-at}
-use Rattle.model.specs.Layouts.{layout-0002, layout-0004, layout-0005, layout-0065}
+-- The data of the frames that we write, of values that stand as bytes. 01, "Frames we write".
+use Prim.Native.Nat.{ℕ, _+_, _≤_}
+use mathlib.Core.Bool.{true}
+use mathlib.Core.List.{List, [], _++_}
+use lib.ListN.{length, take, drop}
+use Rattle.model.specs.Records.{Item, values, settings-items, tightening-items, tightening-length}
+use Rattle.model.specs.Layouts.{Sources, Row, Layout, label, data-from, data-of, data-length, rows-length, layout-at}
+use Rattle.model.specs.Layouts.{layout-0002, layout-0004, layout-0005, layout-0065, kept-rows, result-rows}
 use Rattle.model.specs.Kinds.{kind-at}
+use Rattle.text.specs.Put.{Written}
 use Rattle.frame.specs.Places.{place-items}
-use Rattle.frame.specs.declared.Placed.{Placed}
-use Rattle.frame.specs.declared.Placed.the-variants.{Number, Text, Blank, Known}
 use Rattle.frame.specs.declared.Content.{Content}
 use Rattle.frame.specs.declared.Content.the-variants.{Started, Refused, Accepted, Kept, Notice}
-use Rattle.frame.specs.declared.Extent.{Extent}
 
 -- ==== what frames say: the layout of each, and of which items what it tells is the payload
 
@@ -32,42 +28,6 @@ items-told (Accepted mid) = []
 items-told (Kept n) = tightening-items
 items-told (Notice asked) = place-items (asked .kind)
 
-abbrev pub extent : Layout → Extent
-extent l = record { numbered = l .numbered; count = length (l .rows) }
-
-abbrev pub extent-of : Content → Extent
-extent-of content = extent (layout-of content)
-
--- where a revision stands among so many older ones, from 1 on, and the newest (above the newest there is none)
-abbrev pub place-among : ℕ → ℕ → ℕ
-place-among older revision = cond (leb (revision - 1) older) (revision - 1) older
-
--- row k (past the last there is none)
-abbrev pub row-at : List Row → ℕ → Row
-row-at rows k = getD rows k (blank 0)
-
--- ==== a row with its place: an item's bytes stand behind those of the items before it
-
-abbrev pub items-of : List Item → ℕ → List Item
-items-of told from = cond (eqb from settings) settings-items told
-
-abbrev pub item-at : List Item → ℕ → Item
-item-at es i = getD es i time
-
-abbrev pub place-of : List Item → ℕ → ℕ
-place-of es i = payload-length (take i es)
-
-abbrev pub placed : List Item → Row → Placed
-placed told (number width from i) =
-    let es = items-of told from in Number width from (item-length (item-at es i)) (place-of es i)
-placed told (text width from i) = Text width from (place-of (items-of told from) i)
-placed told (blank width) = Blank width
-placed told (known width n) = Known width n
-
--- row k of a content
-abbrev pub placed-row : Content → ℕ → Placed
-placed-row content k = placed (items-told content) (row-at (layout-of content .rows) k)
-
 -- ==== what a frame is made of, as bytes: a settings record's payload, and what it tells
 
 pub record Payloads : Type 0 where
@@ -77,41 +37,50 @@ pub record Payloads : Type 0 where
 abbrev pub payloads : List ℕ → List ℕ → Payloads
 payloads settings told = record { settings = settings; told = told }
 
-abbrev pub bytes-of : Payloads → ℕ → List ℕ
-bytes-of b from = cond (eqb from settings) (b .settings) (b .told)
+-- the values that they hold
+abbrev pub held : List Item → Payloads → Sources
+held told b = record { settings = values settings-items (b .settings); told = values told (b .told) }
 
--- so many bytes at a place
-abbrev pub part : Payloads → ℕ → ℕ → ℕ → List ℕ
-part b from size place = take size (drop place (bytes-of b from))
+-- those of settings alone, and of what is told alone
+abbrev pub set-by : List ℕ → Sources
+set-by settings = held [] (payloads settings [])
 
-abbrev pub placed-width : Placed → ℕ
-placed-width (Number width from size place) = width
-placed-width (Text width from place) = width
-placed-width (Blank width) = width
-placed-width (Known width n) = width
+abbrev pub told-of : List Item → List ℕ → Sources
+told-of items told = held items (payloads [] told)
 
--- the characters of a field
-unfoldable pub field-characters : Payloads → Placed → List ℕ
-field-characters b (Number width from size place) = digits width (little (part b from size place))
-field-characters b (Text width from place) = part b from width place
-field-characters b (Blank width) = spaces width
-field-characters b (Known width n) = digits width n
-
--- the data: of the values that the bytes hold
-abbrev pub said-by : Content → Payloads → Sources
-said-by content b = record { settings = values settings-items (b .settings); told = values (items-told content) (b .told) }
-
+-- the data: of those values
 unfoldable pub data-in : Content → Payloads → List ℕ
-data-in content b = data-of (layout-of content) (said-by content b)
+data-in content b = data-of (layout-of content) (held (items-told content) b)
 
--- ==== which rows so many bytes can serve
+-- it was written
+abbrev pub DataPut : Content → Payloads → List ℕ → ℕ → ℕ → List ℕ → Type 0
+DataPut content b o at r o′ = Written o at (data-length (layout-of content)) (data-in content b) r o′
 
-abbrev pub served : ℕ → ℕ → Placed → Bool
-served s t (Number width from size place) = leb (place + size) (cond (eqb from settings) s t) && leb size 8
-served s t (Text width from place) = leb (place + width) (cond (eqb from settings) s t)
-served s t (Blank width) = true
-served s t (Known width n) = true
+-- ==== some fields of a frame
 
--- and that they can serve all of a frame's
-abbrev pub all-served : Content → ℕ → ℕ → Bool
-all-served content s t = all (served s t) (map (placed (items-told content)) (layout-of content .rows))
+-- the characters of a field behind its number
+abbrev pub numbered : ℕ → List ℕ → List ℕ
+numbered n characters = label true n ++ characters
+
+-- the fields of some rows were written, the first of which has number n
+abbrev pub FieldsPut : Sources → ℕ → List Row → List ℕ → ℕ → ℕ → List ℕ → Type 0
+FieldsPut b n rows o at r o′ = Written o at (rows-length true rows) (data-from true n rows b) r o′
+
+-- an output of so many bytes has room for them
+abbrev pub Room : List Row → ℕ → ℕ → Type 0
+Room rows at size = at + rows-length true rows ≤ size
+
+-- and a tightening is told
+abbrev pub Tellable : List Row → List ℕ → ℕ → ℕ → Type 0
+Tellable rows told at size = (tightening-length ≤ length told) × Room rows at size
+
+-- of the rows of 0061 behind the controller's so many, from row i on, which counts from 0
+abbrev pub results : ℕ → ℕ → List Row
+results i count = take count (drop i result-rows)
+
+-- of the rows of 0065 those before the statuses, and those behind them
+abbrev pub kept-first : ℕ → List Row
+kept-first n = take 4 (layout-0065 n .rows)
+
+abbrev pub kept-last : List Row
+kept-last = drop 6 kept-rows

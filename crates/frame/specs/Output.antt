@@ -2,41 +2,25 @@
 -- records.
 use mathlib.Core.Path.{_≡_}
 use Prim.Native.Nat.{ℕ, suc, _+_, _-_, _≤_, _<_}
-use mathlib.Core.Bool.{Bool, true, cond}
+use mathlib.Core.Bool.{Bool, cond}
 use mathlib.Core.List.{List, _++_}
 use lib.ListN.{length}
 use Rattle.model.specs.Limits.{header-length}
 use Rattle.model.specs.Bytes.{space, digit-0, digit-1, in-bytes}
-use Rattle.model.specs.Records.{record-head, settings-length}
+use Rattle.model.specs.Records.{record-head, payload-length, settings-length, tightening-length, result-items}
 use Rattle.model.specs.Layouts.{data-length}
 use Rattle.model.specs.Kinds.{kinds, kind-at, copy-most}
 use Rattle.model.specs.Frames.{header, frame, frame-record}
 use Rattle.text.specs.Put.{Put, Written, Stands}
 use Rattle.frame.specs.Places.{place-size}
-use Rattle.frame.specs.Layout.{layout-of, Payloads, bytes-of, placed-width, data-in, served, all-served}
-use Rattle.frame.specs.declared.Part.{Part}
-use Rattle.frame.specs.declared.Placed.{Placed}
+use Rattle.frame.specs.Layout.{layout-of, Payloads, data-in}
 use Rattle.frame.specs.declared.Content.{Content}
 use Rattle.frame.specs.declared.Content.the-variants.{Started, Refused, Accepted, Kept, Notice}
 use Rattle.frame.specs.declared.Heading.{Heading}
 use Rattle.frame.specs.declared.To.{To}
 use Rattle.frame.specs.declared.Asked.{Asked}
 
--- ==== fields
-
--- so many bytes at a place are there
-abbrev pub Readable : Payloads → ℕ → ℕ → ℕ → Type 0
-Readable b from size place = place + size ≤ length (bytes-of b from)
-
--- and an output has room for so many
-pub record Copyable (b : Payloads) (p : Part) (at size : ℕ) : Type 0 where
-  pub there : Readable b (p .from) (p .size) (p .place)
-  pub room : at + p .size ≤ size
-
--- a row can be written: its bytes are there, and an output of so many bytes has room for it
-pub record Servable (b : Payloads) (row : Placed) (at size : ℕ) : Type 0 where
-  pub sound : served (length (b .settings)) (length (b .told)) row ≡ true
-  pub room : at + placed-width row ≤ size
+-- ==== what a frame is made of
 
 -- a kind of notice is one that there is
 abbrev pub Real : Content → Type 0
@@ -46,11 +30,22 @@ Real (Accepted mid) = Unit {0}
 Real (Kept n) = Unit {0}
 Real (Notice asked) = asked .kind < length kinds
 
--- the rows of a frame can be written: a field's number has two digits
+-- a result and the settings are whole
+abbrev pub ResultWhole : List ℕ → List ℕ → Type 0
+ResultWhole settings told = (length settings ≡ settings-length) × (length told ≡ payload-length result-items)
+
+-- what it is made of is whole: settings for 0002, and for notices beside what they tell, a tightening for 0065
+abbrev pub Whole : Content → Payloads → Type 0
+Whole Started b = length (b .settings) ≡ settings-length
+Whole (Refused mid error) b = Unit {0}
+Whole (Accepted mid) b = Unit {0}
+Whole (Kept n) b = length (b .told) ≡ tightening-length
+Whole (Notice asked) b = (length (b .settings) ≡ settings-length) × (length (b .told) ≡ place-size (asked .kind))
+
+-- its data can be written
 pub record Layable (content : Content) (b : Payloads) (at size : ℕ) : Type 0 where
   pub real : Real content
-  pub few : length (layout-of content .rows) < 100
-  pub sound : all-served content (length (b .settings)) (length (b .told)) ≡ true
+  pub whole : Whole content b
   pub room : at + data-length (layout-of content) ≤ size
 
 -- ==== frames
@@ -145,8 +140,7 @@ pub record RecordMade (o : List ℕ) (to : To) (record-kind end r : ℕ) (o′ :
 pub record Sendable (out : List ℕ) (to : To) (content : Content) (b : Payloads) : Type 0 where
   pub output : Writable out to (record-length (frame-length content))
   pub real : Real content
-  pub few : length (layout-of content .rows) < 100
-  pub sound : all-served content (length (b .settings)) (length (b .told)) ≡ true
+  pub whole : Whole content b
 
 -- a copy of the notice in a place can go there: it may be as long as its kind has them, and what it is made of is whole
 pub record Lent (out : List ℕ) (to : To) (asked : Asked) (st p : List ℕ) : Type 0 where

@@ -1,16 +1,16 @@
-// Frames: the header of a received one is read, and those that we send are written by their rows.
+// Frames: the header of a received one is read, and those that we send are written where they go.
 ghost use mathlib.Core.Path.{_≡_};
 ghost use mathlib.Core.Bool.{true, _||_};
-ghost use mathlib.Core.List.{List, []};
-ghost use Prim.Native.Nat.{ℕ, _+_, _-_, _≤_, _<_};
+ghost use mathlib.Core.List.{_++_};
+ghost use Prim.Native.Nat.{_+_, _≤_, _<_};
 ghost use lib.ListN.{length, take, drop};
-ghost use Rattle.model.specs.Limits.{header-length};
-ghost use Rattle.model.specs.Bytes.{space, is-digit, is-space, all, digits, little};
+ghost use Rattle.model.specs.Limits.{header-length, identifier-length};
+ghost use Rattle.model.specs.Bytes.{space, is-digit, is-space, all, digits, spaces};
 ghost use Rattle.model.specs.Runs.{is-flag as is-flag-byte, revision-of, is-message as is-message-run};
-ghost use Rattle.model.specs.Records.{record-head, settings-of, settings-length, scanned-items, tightening-items, tightening-length};
-ghost use Rattle.model.specs.Records.{result-items};
-ghost use Rattle.model.specs.Layouts.{controller-rows, kept-rows, identifier-rows, result-rows, data-length, label-length, label};
-ghost use Rattle.model.specs.Kinds.{kinds, kind-at, copy-most, reply-most};
+ghost use Rattle.model.specs.Records.{record-head, payload-length, settings-of, settings-length, scanned-items};
+ghost use Rattle.model.specs.Records.{tightening-items, tightening-length, result-items};
+ghost use Rattle.model.specs.Layouts.{controller-rows, identifier-rows, layout-0065, layouts-0061};
+ghost use Rattle.model.specs.Kinds.{kind-at, copy-most, reply-most};
 ghost use Rattle.model.specs.Events.{result-as};
 ghost use Rattle.model.specs.Frames.{frame-0002, frame-0004, frame-0005, frame-0065, event-frame, frame-record, close-record};
 ghost use Rattle.text.specs.Put.{Written, WrittenUpTo};
@@ -18,22 +18,20 @@ ghost use Rattle.frame.specs.Header.{header-of, RunReads};
 ghost use Rattle.frame.specs.Places.{event-in};
 ghost use Rattle.frame.specs.Layout.{
   payloads,
-  layout-of,
-  row-at,
-  placed,
-  placed-row,
-  extent-of,
-  place-among,
-  placed-width,
-  part,
-  field-characters,
-  data-in,
+  held,
+  set-by,
+  told-of,
+  DataPut,
+  numbered,
+  FieldsPut,
+  Room,
+  Tellable,
+  results,
+  kept-first,
+  kept-last,
 };
 ghost use Rattle.frame.specs.Output.{
-  Real,
-  Readable,
-  Copyable,
-  Servable,
+  ResultWhole,
   Layable,
   Headable,
   Sendable,
@@ -71,8 +69,6 @@ const REVISION_AT: usize = NUMBER_AT + NUMBER_DIGITS;
 const FLAG_AT: usize = REVISION_AT + REVISION_DIGITS;
 
 use model::IDENTIFIER_LENGTH;
-use model::NUMBER_LENGTH;
-use model::TIME_LENGTH;
 
 // ---- the header of a received run
 
@@ -191,24 +187,7 @@ pub fn read_header<'a>(run: &'a [u8], count: usize) -> RunRead<'a>
     RunRead { header, field }
 }
 
-// ---- layouts: the rows of each frame, and where the value of each stands in the bytes that the frame is made of
-
-// These bytes: a settings record's payload, and what the frame tells.
-const SETTINGS: usize = 0;
-
-const TOLD: usize = 1;
-
-// A row with its place.
-pub enum Placed {
-    // width; which bytes, how many of them, and where they begin
-    Number(usize, usize, usize, usize),
-    // width; which bytes, and where the text begins
-    Text(usize, usize, usize),
-    // width
-    Blank(usize),
-    // width; the number
-    Known(usize, u64),
-}
+// ---- what frames say
 
 // How a session is subscribed to a kind of notice, as far as a copy shows it.
 pub struct Asked {
@@ -231,311 +210,205 @@ pub enum Content {
     Notice(Asked),
 }
 
-// Whether the fields have their numbers before them, and how many rows there are.
-pub struct Extent {
-    pub numbered: bool,
-    pub count: usize,
+// ---- fields, each behind its number
+
+const FIELD_DIGITS: usize = 2;
+
+// A number in so many digits.
+fn put_number(out: &mut [u8], at: usize, field: u64, width: usize, n: u64) -> usize
+    requires { ⌜ at + (2 + width) ≤ length (now out) ⌝ }
+    ensures { λ r. ⌜ Written (now (out .entry)) at (2 + width) (numbered field (digits width n)) r (now (out .exit)) ⌝ }
+{
+    let at = text::put_digits(out, at, FIELD_DIGITS, field);
+    text::put_digits(out, at, width, n)
 }
+
+// A text as it stands.
+fn put_text(out: &mut [u8], at: usize, field: u64, s: &[u8]) -> usize
+    requires { ⌜ at + (2 + length (now s)) ≤ length (now out) ⌝ }
+    ensures { λ r. ⌜ Written (now (out .entry)) at (2 + length (now (s .entry))) (numbered field (now (s .entry))) r (now (out .exit)) ⌝ }
+{
+    let at = text::put_digits(out, at, FIELD_DIGITS, field);
+    text::copy_few(s, out, at)
+}
+
+// A text of spaces.
+fn put_blank(out: &mut [u8], at: usize, field: u64, width: usize) -> usize
+    requires { ⌜ at + (2 + width) ≤ length (now out) ⌝ }
+    ensures { λ r. ⌜ Written (now (out .entry)) at (2 + width) (numbered field (spaces width)) r (now (out .exit)) ⌝ }
+{
+    let at = text::put_digits(out, at, FIELD_DIGITS, field);
+    text::fill(out, at, width, b' ')
+}
+
+// ---- the data of each frame, field by field: of each number its digits, and in how many bytes it stands where
 
 // 0002, and the first fields of 0061: cell, channel, name.
-const CONTROLLER_COUNT: usize = 3;
-
-fn controller_row(k: usize) -> Placed
-    requires { ⌜ k < length controller-rows ⌝ }
-    ensures { λ r. ⌜ r ≡ placed [] (row-at controller-rows k) ⌝ }
+fn put_controller(out: &mut [u8], at: usize, settings: &[u8]) -> usize
+    requires { ⌜ (length (now settings) ≡ settings-length) × Room controller-rows at (length (now out)) ⌝ }
+    ensures { λ r. ⌜ FieldsPut (set-by (now (settings .entry))) 1 controller-rows (now (out .entry)) at r
+        (now (out .exit)) ⌝ }
 {
-    match k {
-        0 => Placed::Number(4, SETTINGS, 2, 0),
-        1 => Placed::Number(2, SETTINGS, 1, 2),
-        _ => Placed::Text(IDENTIFIER_LENGTH, SETTINGS, 4),
-    }
+    let at = put_number(out, at, 1, 4, text::little(settings, 0, 2));
+    let at = put_number(out, at, 2, 2, text::little(settings, 2, 1));
+    put_text(out, at, 3, &settings[4..29])
 }
 
-// 0065, behind the tightening's number.
-const KEPT_COUNT: usize = 10;
-
-fn kept_row(k: usize) -> Placed
-    requires { ⌜ k < length kept-rows ⌝ }
-    ensures { λ r. ⌜ r ≡ placed tightening-items (row-at kept-rows k) ⌝ }
+// 0004: the message that is answered, and the error.
+fn put_refused(out: &mut [u8], at: usize, mid: u64, error: u64) -> usize
+    requires { ⌜ at + 6 ≤ length (now out) ⌝ }
+    ensures { λ r. ⌜ Written (now (out .entry)) at 6 (digits 4 mid ++ digits 2 error) r (now (out .exit)) ⌝ }
 {
-    match k {
-        // identifier, parameter set, batch counter
-        0 => Placed::Text(IDENTIFIER_LENGTH, TOLD, 0),
-        1 => Placed::Number(3, TOLD, 2, 26),
-        2 => Placed::Number(4, TOLD, 2, 30),
-        // statuses: tightening, torque, angle
-        3 => Placed::Number(1, TOLD, 1, 32),
-        4 => Placed::Number(1, TOLD, 1, 33),
-        5 => Placed::Number(1, TOLD, 1, 34),
-        // torque, angle, time, batch status
-        6 => Placed::Number(6, TOLD, 4, 47),
-        7 => Placed::Number(5, TOLD, 4, 63),
-        8 => Placed::Text(TIME_LENGTH, TOLD, 67),
-        _ => Placed::Number(1, TOLD, 1, 105),
-    }
+    let at = text::put_digits(out, at, NUMBER_DIGITS, mid);
+    text::put_digits(out, at, 2, error)
 }
 
-// 0052: the identifier, and three parts more.
-const IDENTIFIER_COUNT: usize = 4;
-
-fn identifier_row(k: usize) -> Placed
-    requires { ⌜ k < length identifier-rows ⌝ }
-    ensures { λ r. ⌜ r ≡ placed scanned-items (row-at identifier-rows k) ⌝ }
+// 0052 from revision 2 on: the identifier, and three parts more.
+fn put_parts(out: &mut [u8], at: usize, told: &[u8]) -> usize
+    requires { ⌜ (length (now told) ≡ identifier-length) × Room identifier-rows at (length (now out)) ⌝ }
+    ensures { λ r. ⌜ FieldsPut (told-of scanned-items (now (told .entry))) 1 identifier-rows (now (out .entry)) at r (now (out .exit)) ⌝ }
 {
-    match k {
-        0 => Placed::Text(IDENTIFIER_LENGTH, TOLD, 0),
-        1 => Placed::Blank(IDENTIFIER_LENGTH),
-        2 => Placed::Blank(IDENTIFIER_LENGTH),
-        _ => Placed::Blank(IDENTIFIER_LENGTH),
-    }
+    let at = put_text(out, at, 1, told);
+    let at = put_blank(out, at, 2, IDENTIFIER_LENGTH);
+    let at = put_blank(out, at, 3, IDENTIFIER_LENGTH);
+    put_blank(out, at, 4, IDENTIFIER_LENGTH)
 }
 
-// 0061, behind the fields of the controller.
-const RESULT_COUNT: usize = 20;
-
-fn result_row(k: usize) -> Placed
-    requires { ⌜ k < length result-rows ⌝ }
-    ensures { λ r. ⌜ r ≡ placed result-items (row-at result-rows k) ⌝ }
+// Of 0061 and 0065, statuses: tightening, torque, angle.
+fn put_statuses(out: &mut [u8], at: usize, field: u64, told: &[u8]) -> usize
+    requires { ⌜ (field < 97) × Tellable (results 5 3) (now told) at (length (now out)) ⌝ }
+    ensures { λ r. ⌜ FieldsPut (told-of tightening-items (now (told .entry))) field (results 5 3) (now (out .entry)) at r
+        (now (out .exit)) ⌝ }
 {
-    match k {
-        // identifier, job, parameter set, batch size, batch counter
-        0 => Placed::Text(IDENTIFIER_LENGTH, TOLD, 0),
-        1 => Placed::Number(2, TOLD, 1, IDENTIFIER_LENGTH),
-        2 => Placed::Number(3, TOLD, 2, 26),
-        3 => Placed::Number(4, TOLD, 2, 28),
-        4 => Placed::Number(4, TOLD, 2, 30),
-        // statuses: tightening, torque, angle
-        5 => Placed::Number(1, TOLD, 1, 32),
-        6 => Placed::Number(1, TOLD, 1, 33),
-        7 => Placed::Number(1, TOLD, 1, 34),
-        // torques: minimum, maximum, target, the torque
-        8 => Placed::Number(6, TOLD, 4, 35),
-        9 => Placed::Number(6, TOLD, 4, 39),
-        10 => Placed::Number(6, TOLD, 4, 43),
-        11 => Placed::Number(6, TOLD, 4, 47),
-        // angles: minimum, maximum, target, the angle
-        12 => Placed::Number(5, TOLD, 4, 51),
-        13 => Placed::Number(5, TOLD, 4, 55),
-        14 => Placed::Number(5, TOLD, 4, 59),
-        15 => Placed::Number(5, TOLD, 4, 63),
-        // time, time of the last change of the parameter set, batch status, tightening number
-        16 => Placed::Text(TIME_LENGTH, TOLD, 67),
-        17 => Placed::Text(TIME_LENGTH, TOLD, 86),
-        18 => Placed::Number(1, TOLD, 1, 105),
-        _ => Placed::Number(10, TOLD, NUMBER_LENGTH, 106),
-    }
+    let at = put_number(out, at, field, 1, text::little(told, 32, 1));
+    let at = put_number(out, at, field + 1, 1, text::little(told, 33, 1));
+    put_number(out, at, field + 2, 1, text::little(told, 34, 1))
 }
 
-// How many rows notices have, by revision: those of the older ones, from 1 on, and of the newest.
-const IDENTIFIERS_OLDER: usize = 1;
-
-const IDENTIFIER_EXTENTS: [Extent; IDENTIFIERS_OLDER + 1] = [
-    Extent {
-        numbered: false, // revision 1
-        count: 1,
-    },
-    Extent {
-        numbered: true, // revision 2
-        count: IDENTIFIER_COUNT,
-    },
-];
-
-const RESULTS_OLDER: usize = 0;
-
-const RESULT_EXTENTS: [Extent; RESULTS_OLDER + 1] = [Extent {
-    numbered: true,
-    count: CONTROLLER_COUNT + RESULT_COUNT,
-}];
-
-// Where a revision stands among so many older ones and the newest.
-fn place_among(older: usize, revision: u64) -> usize
-    ensures { λ r. ⌜ (r ≤ older) × (r ≡ place-among older revision) ⌝ }
+// Of 0061: identifier, job, parameter set, batch size, batch counter.
+fn put_batch(out: &mut [u8], at: usize, told: &[u8]) -> usize
+    requires { ⌜ Tellable (results 0 5) (now told) at (length (now out)) ⌝ }
+    ensures { λ r. ⌜ FieldsPut (told-of tightening-items (now (told .entry))) 4 (results 0 5) (now (out .entry)) at r
+        (now (out .exit)) ⌝ }
 {
-    if revision > older as u64 {
-        return older;
-    }
-    if revision == 0 {
-        return 0;
-    }
-    (revision - 1) as usize
+    let at = put_text(out, at, 4, &told[0..IDENTIFIER_LENGTH]);
+    let at = put_number(out, at, 5, 2, text::little(told, 25, 1));
+    let at = put_number(out, at, 6, 3, text::little(told, 26, 2));
+    let at = put_number(out, at, 7, 4, text::little(told, 28, 2));
+    put_number(out, at, 8, 4, text::little(told, 30, 2))
 }
 
-// A notice.
-fn notice_extent(asked: Asked) -> Extent
-    requires { ⌜ asked .kind < length kinds ⌝ }
-    ensures { λ r. ⌜ r ≡ extent-of (Notice asked) ⌝ }
+// Torques: minimum, maximum, target, the torque.
+fn put_torques(out: &mut [u8], at: usize, told: &[u8]) -> usize
+    requires { ⌜ Tellable (results 8 4) (now told) at (length (now out)) ⌝ }
+    ensures { λ r. ⌜ FieldsPut (told-of tightening-items (now (told .entry))) 12 (results 8 4) (now (out .entry)) at r
+        (now (out .exit)) ⌝ }
+{
+    let at = put_number(out, at, 12, 6, text::little(told, 35, 4));
+    let at = put_number(out, at, 13, 6, text::little(told, 39, 4));
+    let at = put_number(out, at, 14, 6, text::little(told, 43, 4));
+    put_number(out, at, 15, 6, text::little(told, 47, 4))
+}
+
+// Angles: minimum, maximum, target, the angle.
+fn put_angles(out: &mut [u8], at: usize, told: &[u8]) -> usize
+    requires { ⌜ Tellable (results 12 4) (now told) at (length (now out)) ⌝ }
+    ensures { λ r. ⌜ FieldsPut (told-of tightening-items (now (told .entry))) 16 (results 12 4) (now (out .entry)) at r
+        (now (out .exit)) ⌝ }
+{
+    let at = put_number(out, at, 16, 5, text::little(told, 51, 4));
+    let at = put_number(out, at, 17, 5, text::little(told, 55, 4));
+    let at = put_number(out, at, 18, 5, text::little(told, 59, 4));
+    put_number(out, at, 19, 5, text::little(told, 63, 4))
+}
+
+// Time, time of the last change of the parameter set, batch status, tightening number.
+fn put_times(out: &mut [u8], at: usize, told: &[u8]) -> usize
+    requires { ⌜ (length (now told) ≡ payload-length result-items) × Room (results 16 4) at (length (now out)) ⌝ }
+    ensures { λ r. ⌜ FieldsPut (told-of result-items (now (told .entry))) 20 (results 16 4) (now (out .entry)) at r
+        (now (out .exit)) ⌝ }
+{
+    let at = put_text(out, at, 20, &told[67..86]);
+    let at = put_text(out, at, 21, &told[86..105]);
+    let at = put_number(out, at, 22, 1, text::little(told, 105, 1));
+    put_number(out, at, 23, 10, text::little(told, 106, 4))
+}
+
+// 0061: the controller's fields, and a result's behind them.
+fn put_result(out: &mut [u8], at: usize, settings: &[u8], told: &[u8]) -> usize
+    requires { ⌜ ResultWhole (now settings) (now told) × Room (layouts-0061 .newest .rows) at (length (now out)) ⌝ }
+    ensures { λ r. ⌜ FieldsPut (held result-items (payloads (now (settings .entry)) (now (told .entry)))) 1 (layouts-0061 .newest .rows)
+        (now (out .entry)) at r (now (out .exit)) ⌝ }
+{
+    let at = put_controller(out, at, settings);
+    let at = put_batch(out, at, told);
+    let at = put_statuses(out, at, 9, told);
+    let at = put_torques(out, at, told);
+    let at = put_angles(out, at, told);
+    put_times(out, at, told)
+}
+
+// Of 0065: number, identifier, parameter set, batch counter.
+fn put_kept_batch(out: &mut [u8], at: usize, number: u64, told: &[u8]) -> usize
+    requires { ⌜ Tellable (kept-first number) (now told) at (length (now out)) ⌝ }
+    ensures { λ r. ⌜ FieldsPut (told-of tightening-items (now (told .entry))) 1 (kept-first number) (now (out .entry)) at r
+        (now (out .exit)) ⌝ }
+{
+    let at = put_number(out, at, 1, model::NUMBER_DIGITS, number);
+    let at = put_text(out, at, 2, &told[0..IDENTIFIER_LENGTH]);
+    let at = put_number(out, at, 3, 3, text::little(told, 26, 2));
+    put_number(out, at, 4, 4, text::little(told, 30, 2))
+}
+
+// Torque, angle, time, batch status.
+fn put_kept_end(out: &mut [u8], at: usize, told: &[u8]) -> usize
+    requires { ⌜ Tellable kept-last (now told) at (length (now out)) ⌝ }
+    ensures { λ r. ⌜ FieldsPut (told-of tightening-items (now (told .entry))) 8 kept-last (now (out .entry)) at r (now (out .exit)) ⌝ }
+{
+    let at = put_number(out, at, 8, 6, text::little(told, 47, 4));
+    let at = put_number(out, at, 9, 5, text::little(told, 63, 4));
+    let at = put_text(out, at, 10, &told[67..86]);
+    put_number(out, at, 11, 1, text::little(told, 105, 1))
+}
+
+// 0065.
+fn put_kept(out: &mut [u8], at: usize, number: u64, told: &[u8]) -> usize
+    requires { ⌜ Tellable (layout-0065 number .rows) (now told) at (length (now out)) ⌝ }
+    ensures { λ r. ⌜ FieldsPut (told-of tightening-items (now (told .entry))) 1 (layout-0065 number .rows) (now (out .entry)) at r
+        (now (out .exit)) ⌝ }
+{
+    let at = put_kept_batch(out, at, number, told);
+    let at = put_statuses(out, at, 5, told);
+    put_kept_end(out, at, told)
+}
+
+// A notice, as it was subscribed to. In revision 1 of 0052 the identifier stands alone, with no number before it.
+fn put_notice(out: &mut [u8], at: usize, asked: Asked, settings: &[u8], told: &[u8]) -> usize
+    requires { ⌜ Layable (Notice asked) (payloads (now settings) (now told)) at (length (now out)) ⌝ }
+    ensures { λ r. ⌜ DataPut (Notice asked) (payloads (now (settings .entry)) (now (told .entry))) (now (out .entry)) at r
+        (now (out .exit)) ⌝ }
 {
     if asked.kind == model::IDENTIFIERS {
-        let i = place_among(IDENTIFIERS_OLDER, asked.revision);
-        return IDENTIFIER_EXTENTS[i];
+        if asked.revision < 2 {
+            return text::copy_few(told, out, at);
+        }
+        return put_parts(out, at, told);
     }
-    let i = place_among(RESULTS_OLDER, asked.revision);
-    RESULT_EXTENTS[i]
-}
-
-fn notice_row(asked: Asked, k: usize) -> Placed
-    requires { ⌜ (asked .kind < length kinds) × (k < length (layout-of (Notice asked) .rows)) ⌝ }
-    ensures { λ r. ⌜ r ≡ placed-row (Notice asked) k ⌝ }
-{
-    if asked.kind == model::IDENTIFIERS {
-        return identifier_row(k);
-    }
-    if k < CONTROLLER_COUNT {
-        return controller_row(k);
-    }
-    result_row(k - CONTROLLER_COUNT)
+    put_result(out, at, settings, told)
 }
 
 // Any frame.
-fn measure(content: Content) -> Extent
-    requires { ⌜ Real content ⌝ }
-    ensures { λ r. ⌜ r ≡ extent-of content ⌝ }
-{
-    match content {
-        Content::Started => Extent {
-            numbered: true,
-            count: CONTROLLER_COUNT,
-        },
-        Content::Refused(mid, error) => Extent {
-            numbered: false,
-            count: 2,
-        },
-        Content::Accepted(mid) => Extent {
-            numbered: false,
-            count: 1,
-        },
-        Content::Kept(number) => Extent {
-            numbered: true,
-            count: 1 + KEPT_COUNT,
-        },
-        Content::Notice(asked) => notice_extent(asked),
-    }
-}
-
-// Row k of it.
-fn row(content: Content, k: usize) -> Placed
-    requires { ⌜ Real content × (k < length (layout-of content .rows)) ⌝ }
-    ensures { λ r. ⌜ r ≡ placed-row content k ⌝ }
-{
-    match content {
-        Content::Started => controller_row(k),
-        Content::Refused(mid, error) => {
-            if k == 0 {
-                return Placed::Known(NUMBER_DIGITS, mid);
-            }
-            Placed::Known(2, error)
-        }
-        Content::Accepted(mid) => Placed::Known(NUMBER_DIGITS, mid),
-        Content::Kept(number) => {
-            if k == 0 {
-                return Placed::Known(model::NUMBER_DIGITS, number);
-            }
-            kept_row(k - 1)
-        }
-        Content::Notice(asked) => notice_row(asked, k),
-    }
-}
-
-// ---- the data of a frame, by its rows
-
-// So many bytes at a place of one of the two.
-pub struct Part {
-    pub from: usize,
-    pub size: usize,
-    pub place: usize,
-}
-
-fn number(p: Part, settings: &[u8], told: &[u8]) -> u64
-    requires { ⌜ Readable (payloads (now settings) (now told)) (p .from) (p .size) (p .place) × (p .size ≤ 8) ⌝ }
-    ensures { λ r. ⌜ r ≡ little (part (payloads (now (settings .entry)) (now (told .entry))) (p .from) (p .size) (p .place)) ⌝ }
-{
-    if p.from == SETTINGS {
-        return text::little(settings, p.place, p.size);
-    }
-    text::little(told, p.place, p.size)
-}
-
-fn put_bytes(out: &mut [u8], at: usize, size: usize, place: usize, source: &[u8]) -> usize
-    requires { ⌜ (place + size ≤ length (now source)) × (at + size ≤ length (now out)) ⌝ }
-    ensures { λ r. ⌜ Written (now (out .entry)) at size (take size (drop place (now (source .entry)))) r (now (out .exit)) ⌝ }
-{
-    text::copy(&source[place..place + size], out, at)
-}
-
-fn put_text(out: &mut [u8], at: usize, p: Part, settings: &[u8], told: &[u8]) -> usize
-    requires { ⌜ Copyable (payloads (now settings) (now told)) p at (length (now out)) ⌝ }
-    ensures { λ r. ⌜ Written (now (out .entry)) at (p .size)
-        (part (payloads (now (settings .entry)) (now (told .entry))) (p .from) (p .size) (p .place)) r (now (out .exit)) ⌝ }
-{
-    if p.from == SETTINGS {
-        return put_bytes(out, at, p.size, p.place, settings);
-    }
-    put_bytes(out, at, p.size, p.place, told)
-}
-
-// The characters of a field.
-fn put_value(out: &mut [u8], at: usize, row: Placed, settings: &[u8], told: &[u8]) -> usize
-    requires { ⌜ Servable (payloads (now settings) (now told)) row at (length (now out)) ⌝ }
-    ensures { λ r. ⌜ Written (now (out .entry)) at (placed-width row)
-        (field-characters (payloads (now (settings .entry)) (now (told .entry))) row) r (now (out .exit)) ⌝ }
-{
-    match row {
-        Placed::Number(width, from, size, place) => {
-            let n = number(Part { from, size, place }, settings, told);
-            text::put_digits(out, at, width, n)
-        }
-        Placed::Text(width, from, place) => {
-            let p = Part {
-                from,
-                size: width,
-                place,
-            };
-            put_text(out, at, p, settings, told)
-        }
-        Placed::Blank(width) => text::fill(out, at, width, b' '),
-        Placed::Known(width, n) => text::put_digits(out, at, width, n),
-    }
-}
-
-// Two digits. Divided as a byte a number below a hundred costs little.
-fn put_pair(out: &mut [u8], at: usize, n: usize) -> usize
-    requires { ⌜ (n < 100) × (at + 2 ≤ length (now out)) ⌝ }
-    ensures { λ r. ⌜ Written (now (out .entry)) at 2 (digits 2 n) r (now (out .exit)) ⌝ }
-{
-    let n = n as u8;
-    let at = text::fill(out, at, 1, b'0' + n / 10);
-    text::fill(out, at, 1, b'0' + n % 10)
-}
-
-// The number of a field, where fields are numbered.
-fn put_label(out: &mut [u8], at: usize, numbered: bool, n: usize) -> usize
-    requires { ⌜ (n < 100) × (at + label-length numbered ≤ length (now out)) ⌝ }
-    ensures { λ r. ⌜ Written (now (out .entry)) at (label-length numbered) (label numbered n) r (now (out .exit)) ⌝ }
-{
-    if !numbered {
-        return at;
-    }
-    put_pair(out, at, n)
-}
-
-// The fields of a frame, each with its number before it where they are numbered.
-fn put_fields(out: &mut [u8], at: usize, content: Content, settings: &[u8], told: &[u8]) -> usize
+fn put_data(out: &mut [u8], at: usize, content: Content, settings: &[u8], told: &[u8]) -> usize
     requires { ⌜ Layable content (payloads (now settings) (now told)) at (length (now out)) ⌝ }
-    ensures { λ r. ⌜ Written (now (out .entry)) at (data-length (layout-of content))
-        (data-in content (payloads (now (settings .entry)) (now (told .entry)))) r (now (out .exit)) ⌝ }
+    ensures { λ r. ⌜ DataPut content (payloads (now (settings .entry)) (now (told .entry))) (now (out .entry)) at r (now (out .exit)) ⌝ }
 {
-    let extent = measure(content);
-    let numbered = extent.numbered;
-    let count = extent.count;
-    let mut to = at;
-    let mut k = 0;
-    while k < count {
-        let n = put_label(out, to, numbered, k + 1);
-        let row = row(content, k);
-        to = put_value(out, n, row, settings, told);
-        k += 1;
+    match content {
+        Content::Started => put_controller(out, at, settings),
+        Content::Refused(mid, error) => put_refused(out, at, mid, error),
+        Content::Accepted(mid) => text::put_digits(out, at, NUMBER_DIGITS, mid),
+        Content::Kept(number) => put_kept(out, at, number, told),
+        Content::Notice(asked) => put_notice(out, at, asked, settings, told),
     }
-    to
 }
 
 // ---- the header of a frame
@@ -548,20 +421,11 @@ pub struct Heading {
     pub byte_12: u8,
 }
 
-// The length.
-fn put_size(out: &mut [u8], at: usize, n: usize) -> usize
-    requires { ⌜ (n < 10000) × (at + 4 ≤ length (now out)) ⌝ }
-    ensures { λ r. ⌜ Written (now (out .entry)) at 4 (digits 4 n) r (now (out .exit)) ⌝ }
-{
-    let at = put_pair(out, at, n / 100);
-    put_pair(out, at, n % 100)
-}
-
 fn put_heading(out: &mut [u8], at: usize, h: Heading) -> usize
-    requires { ⌜ (h .size < 10000) × (at + header-length ≤ length (now out)) ⌝ }
+    requires { ⌜ at + header-length ≤ length (now out) ⌝ }
     ensures { λ r. ⌜ Written (now (out .entry)) at header-length (heading-bytes h) r (now (out .exit)) ⌝ }
 {
-    let at = put_size(out, at, h.size);
+    let at = text::put_digits(out, at, NUMBER_DIGITS, h.size as u64);
     let at = text::put_digits(out, at, NUMBER_DIGITS, h.mid);
     let at = text::put_digits(out, at, REVISION_DIGITS, h.revision);
     let at = text::fill(out, at, 1, h.byte_12);
@@ -662,15 +526,15 @@ pub fn put_close(out: &mut [u8], to: To) -> usize
     put_record(out, to, CLOSE_RECORD_KIND, to.at + model::RECORD_HEAD)
 }
 
-// Any frame by its rows, with its NUL. Where the data ends tells the header how long the frame is. The header's place is reckoned then, so
-// that it does not stand on the stack while the fields are written.
+// Any frame, with its NUL. Where the data ends tells the header how long the frame is. The header's place is reckoned then, so that it does
+// not stand on the stack while the fields are written.
 fn put_frame(out: &mut [u8], to: To, content: Content, settings: &[u8], told: &[u8]) -> usize
     requires { ⌜ Sendable (now out) to content (payloads (now settings) (now told)) ⌝ }
     ensures { λ r. ⌜ Written (now (out .entry)) (to .at) (record-length (frame-length content))
         (frame-record (to .session) (frame-of content (payloads (now (settings .entry)) (now (told .entry))))) r
         (now (out .exit)) ⌝ }
 {
-    let nul = put_fields(out, to.at + DATA_AT, content, settings, told);
+    let nul = put_data(out, to.at + DATA_AT, content, settings, told);
     let end = text::fill(out, nul, 1, 0);
     let at = to.at + model::RECORD_HEAD;
     put_header(out, at, content, nul - at);

@@ -1,21 +1,32 @@
--- The items of a payload as a table has them. 01, "House records".
+-- The items of a payload as the code has them, in the model's terms. 01, "House records".
 use Prim.Native.Nat.{ℕ}
-use mathlib.Core.Bool.{Bool, true, cond, _&&_}
-use mathlib.Core.List.{List, map}
-use lib.Dec.{leb, eqb}
+use mathlib.Core.Bool.{Bool, true}
+use mathlib.Core.List.{List}
+use lib.Dec.{leb}
 use lib.ListN.{getD}
-use Rattle.model.specs.Records.{Item, number, text, time, item-length}
+use Rattle.model.specs.Records.{number, text, time, settings-items, tightening-items, scanned-items}
+use Rattle.model.specs.Records.{Item as ModelItem}
+use Rattle.record.specs.declared.Item.{Item}
+use Rattle.record.specs.declared.Item.the-variants.{Number, Text, Time}
+use Rattle.record.specs.declared.Items.{Items}
+use Rattle.record.specs.declared.Items.the-variants.{Settings, Tightening, Scanned}
 
--- a row: the item's form, how many bytes it has, and for a number the greatest that is good
--- form 0 is a number, 1 a text, and any other a time
-abbrev pub item-of : List ℕ → Item
-item-of row =
-    cond (eqb (getD row 0 0) 0) (number (getD row 1 0) (getD row 2 0))
-    (cond (eqb (getD row 0 0) 1) (text (getD row 1 0)) time)
+abbrev pub item-of : Item → ModelItem
+item-of (Number size greatest) = number size greatest
+item-of (Text size) = text size
+item-of Time = time
 
-abbrev pub items : List (List ℕ) → List Item
-items rows = map item-of rows
+abbrev pub items-of : Items → List ModelItem
+items-of Settings = settings-items
+items-of Tightening = tightening-items
+items-of Scanned = scanned-items
 
--- a row that can be read: its length is its item's, and a number's is 8 bytes at most
-abbrev pub readable : List ℕ → Bool
-readable row = eqb (item-length (item-of row)) (getD row 1 0) && cond (eqb (getD row 0 0) 0) (leb (getD row 1 0) 8) true
+-- item k, from 0
+abbrev pub item-at : List ModelItem → ℕ → ModelItem
+item-at es k = getD es k time
+
+-- an item whose number, if it is one, can be read: in 8 bytes at most
+abbrev pub readable : ModelItem → Bool
+readable (number size greatest) = leb size 8
+readable (text size) = true
+readable time = true

@@ -1,23 +1,26 @@
 // House records: which slices are good settings and tool records, and which identifier is meant.
 ghost use mathlib.Core.Path.{_≡_};
 ghost use mathlib.Core.Bool.{true};
-ghost use lib.ListN.{length, drop, getD};
-ghost use Rattle.model.specs.Bytes.{all};
+ghost use Prim.Native.Nat.{_<_};
+ghost use lib.ListN.{length, drop};
 ghost use Rattle.model.specs.Records.{
   record-head,
   is-record as is-record-of,
   good-in-time,
   is-time as is-time-of,
+  item-length as item-length-of,
   good-item as good-item-of,
   payload-length,
   parts,
   good-parts,
   good-record as good-record-of,
+  settings-items,
+  tightening-items,
   read-settings,
   read-tool,
 };
 ghost use Rattle.model.specs.Events.{identifier-of};
-ghost use Rattle.record.specs.Items.{item-of, items, readable};
+ghost use Rattle.record.specs.Items.{item-of, item-at, items-of, readable};
 ghost use Rattle.record.specs.Tools.{settings-in, tool-in};
 use model::IDENTIFIER_LENGTH;
 use model::NUMBER_GREATEST;
@@ -57,82 +60,129 @@ pub fn is_time(s: &[u8]) -> bool
     true
 }
 
-// ---- payloads: a row is an item's form, how many bytes it has, and for a number the greatest that is good
+// ---- payloads: their items, counted from 0. They stand in the arms of a match: a table would be laid on the stack in each call
 
-const NUMBER: usize = 0;
+enum Item {
+    // in how many bytes, and the greatest that is good
+    Number(usize, u64),
+    // of how many bytes
+    Text(usize),
+    Time,
+}
 
-const TEXT: usize = 1;
+// Whose items.
+enum Items {
+    Settings,
+    Tightening,
+    Scanned,
+}
 
-const TIME: usize = 2;
+fn settings_item(k: usize) -> Item
+    requires { ⌜ k < length settings-items ⌝ }
+    ensures { λ r. ⌜ item-of r ≡ item-at settings-items k ⌝ }
+{
+    match k {
+        // cell, channel, granted, name, last tightening number
+        0 => Item::Number(2, 9_999),
+        1 => Item::Number(1, 99),
+        2 => Item::Number(1, 1),
+        3 => Item::Text(IDENTIFIER_LENGTH),
+        _ => Item::Number(NUMBER_LENGTH, NUMBER_GREATEST),
+    }
+}
 
-// Cell, channel, granted, name, last tightening number.
-const SETTINGS: [[usize; 3]; 5] = [
-    [NUMBER, 2, 9_999],
-    [NUMBER, 1, 99],
-    [NUMBER, 1, 1],
-    [TEXT, IDENTIFIER_LENGTH, 0],
-    [NUMBER, NUMBER_LENGTH, NUMBER_GREATEST as usize],
-];
+fn tightening_item(k: usize) -> Item
+    requires { ⌜ k < length tightening-items ⌝ }
+    ensures { λ r. ⌜ item-of r ≡ item-at tightening-items k ⌝ }
+{
+    match k {
+        // identifier, job, parameter set, batch size, batch counter
+        0 => Item::Text(IDENTIFIER_LENGTH),
+        1 => Item::Number(1, 99),
+        2 => Item::Number(2, 999),
+        3 => Item::Number(2, 9_999),
+        4 => Item::Number(2, 9_999),
+        // tightening status, torque status, angle status
+        5 => Item::Number(1, 1),
+        6 => Item::Number(1, 2),
+        7 => Item::Number(1, 2),
+        // torques: min, max, target, the torque
+        8 => Item::Number(4, 999_999),
+        9 => Item::Number(4, 999_999),
+        10 => Item::Number(4, 999_999),
+        11 => Item::Number(4, 999_999),
+        // angles: min, max, target, the angle
+        12 => Item::Number(4, 99_999),
+        13 => Item::Number(4, 99_999),
+        14 => Item::Number(4, 99_999),
+        15 => Item::Number(4, 99_999),
+        // time, parameter set change time, batch status
+        16 => Item::Time,
+        17 => Item::Time,
+        _ => Item::Number(1, 2),
+    }
+}
 
-const TIGHTENING: [[usize; 3]; 19] = [
-    // identifier, job, parameter set, batch size, batch counter
-    [TEXT, IDENTIFIER_LENGTH, 0],
-    [NUMBER, 1, 99],
-    [NUMBER, 2, 999],
-    [NUMBER, 2, 9_999],
-    [NUMBER, 2, 9_999],
-    // tightening status, torque status, angle status
-    [NUMBER, 1, 1],
-    [NUMBER, 1, 2],
-    [NUMBER, 1, 2],
-    // torques: min, max, target, the torque
-    [NUMBER, 4, 999_999],
-    [NUMBER, 4, 999_999],
-    [NUMBER, 4, 999_999],
-    [NUMBER, 4, 999_999],
-    // angles: min, max, target, the angle
-    [NUMBER, 4, 99_999],
-    [NUMBER, 4, 99_999],
-    [NUMBER, 4, 99_999],
-    [NUMBER, 4, 99_999],
-    // time, parameter set change time, batch status
-    [TIME, TIME_LENGTH, 0],
-    [TIME, TIME_LENGTH, 0],
-    [NUMBER, 1, 2],
-];
+// How many items there are.
+fn count(items: Items) -> usize
+    ensures { λ r. ⌜ r ≡ length (items-of items) ⌝ }
+{
+    match items {
+        Items::Settings => 5,
+        Items::Tightening => 19,
+        Items::Scanned => 1,
+    }
+}
 
-const SCANNED: [[usize; 3]; 1] = [[TEXT, IDENTIFIER_LENGTH, 0]];
+// Item k.
+fn item_at(items: Items, k: usize) -> Item
+    requires { ⌜ k < length (items-of items) ⌝ }
+    ensures { λ r. ⌜ item-of r ≡ item-at (items-of items) k ⌝ }
+{
+    match items {
+        Items::Settings => settings_item(k),
+        Items::Tightening => tightening_item(k),
+        Items::Scanned => Item::Text(IDENTIFIER_LENGTH),
+    }
+}
+
+fn item_length(item: Item) -> usize
+    ensures { λ r. ⌜ r ≡ item-length-of (item-of item) ⌝ }
+{
+    match item {
+        Item::Number(size, greatest) => size,
+        Item::Text(size) => size,
+        Item::Time => TIME_LENGTH,
+    }
+}
 
 // Whether the bytes of an item are good.
-fn good_item(row: &[usize; 3], s: &[u8]) -> bool
-    requires { ⌜ (readable (now row) ≡ true) × (length (now s) ≡ getD (now row) 1 0) ⌝ }
-    ensures { λ r. ⌜ r ≡ good-item-of (item-of (now (row .entry))) (now (s .entry)) ⌝ }
+fn good_item(item: Item, s: &[u8]) -> bool
+    requires { ⌜ (readable (item-of item) ≡ true) × (length (now s) ≡ item-length-of (item-of item)) ⌝ }
+    ensures { λ r. ⌜ r ≡ good-item-of (item-of item) (now (s .entry)) ⌝ }
 {
-    let form = row[0];
-    let greatest = row[2];
-    if form == NUMBER {
-        return text::little(s, 0, s.len()) <= greatest as u64;
+    match item {
+        Item::Number(size, greatest) => text::little(s, 0, size) <= greatest,
+        Item::Text(size) => text::is_text(s),
+        Item::Time => is_time(s),
     }
-    if form == TEXT {
-        return text::is_text(s);
-    }
-    is_time(s)
 }
 
 // Whether every item of a payload is good.
-fn good_items(rows: &[[usize; 3]], s: &[u8]) -> bool
-    requires { ⌜ (all readable (now rows) ≡ true) × (length (now s) ≡ payload-length (items (now rows))) ⌝ }
-    ensures { λ r. ⌜ r ≡ good-parts (items (now (rows .entry))) (parts (items (now (rows .entry))) (now (s .entry))) ⌝ }
+fn good_items(items: Items, s: &[u8]) -> bool
+    requires { ⌜ length (now s) ≡ payload-length (items-of items) ⌝ }
+    ensures { λ r. ⌜ r ≡ good-parts (items-of items) (parts (items-of items) (now (s .entry))) ⌝ }
 {
+    let n = count(items);
     let mut at = 0;
     let mut k = 0;
-    while k < rows.len() {
-        let row = rows[k];
-        let size = row[1];
-        if !good_item(&row, &s[at..at + size]) {
+    while k < n {
+        let item = item_at(items, k);
+        let end = at + item_length(item);
+        if !good_item(item, &s[at..end]) {
             return false;
         }
-        at = at + size;
+        at = end;
         k += 1;
     }
     true
@@ -154,9 +204,9 @@ fn is_record(slice: &[u8], record_kind: u64) -> bool
 }
 
 // Whether it is a good record of that kind, whose payload has size bytes and these items.
-fn good_record(slice: &[u8], record_kind: u64, size: usize, rows: &[[usize; 3]]) -> bool
-    requires { ⌜ (all readable (now rows) ≡ true) × (size ≡ payload-length (items (now rows))) ⌝ }
-    ensures { λ r. ⌜ r ≡ good-record-of «record_kind» (items (now (rows .entry))) (now (slice .entry)) ⌝ }
+fn good_record(slice: &[u8], record_kind: u64, size: usize, items: Items) -> bool
+    requires { ⌜ size ≡ payload-length (items-of items) ⌝ }
+    ensures { λ r. ⌜ r ≡ good-record-of «record_kind» (items-of items) (now (slice .entry)) ⌝ }
 {
     if !is_record(slice, record_kind) {
         return false;
@@ -165,7 +215,7 @@ fn good_record(slice: &[u8], record_kind: u64, size: usize, rows: &[[usize; 3]])
     if bytes.len() != size {
         return false;
     }
-    good_items(rows, bytes)
+    good_items(items, bytes)
 }
 
 // The payload of a record, as part of the caller's bytes.
@@ -179,7 +229,12 @@ pub fn payload(slice: &[u8]) -> &[u8]
 pub fn is_settings(slice: &[u8]) -> bool
     ensures { λ r. ⌜ settings-in r (now (slice .entry)) ≡ read-settings (now (slice .entry)) ⌝ }
 {
-    good_record(slice, SETTINGS_RECORD_KIND, SETTINGS_LENGTH, &SETTINGS)
+    good_record(
+        slice,
+        SETTINGS_RECORD_KIND,
+        SETTINGS_LENGTH,
+        Items::Settings,
+    )
 }
 
 // What a slice is to the call that takes tool records.
@@ -196,11 +251,16 @@ pub fn tool_record_kind(slice: &[u8]) -> RecordKind
         slice,
         TIGHTENING_RECORD_KIND,
         TIGHTENING_LENGTH,
-        &TIGHTENING,
+        Items::Tightening,
     ) {
         return RecordKind::Tightening;
     }
-    if good_record(slice, SCANNED_RECORD_KIND, IDENTIFIER_LENGTH, &SCANNED) {
+    if good_record(
+        slice,
+        SCANNED_RECORD_KIND,
+        IDENTIFIER_LENGTH,
+        Items::Scanned,
+    ) {
         return RecordKind::Scanned;
     }
     RecordKind::Bad

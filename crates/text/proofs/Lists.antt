@@ -6,7 +6,7 @@ use native.Mathlib.Numerals.{add-one}
 use native.Mathlib.Omega.{arith}
 use mathlib.Core.Bool.{Bool, true, false, _&&_, and-eq-true-iff}
 use mathlib.Core.List.{List, [], _∷_, _++_, append-assoc}
-use lib.ListN.{length, getD, set, take, drop, replicate, length-append, length-set, drop-of-length-le}
+use lib.ListN.{length, getD, set, take, drop, replicate, length-append, length-set, drop-of-length-le, take-append-drop}
 use lib.Seq.{sets, sets-eq, set-set, set-comm, drop-cons, drop-drop, drop-set-add, drop-set-lt, take-set-le, take-at, take-nil}
 use lib.Seq.{length-take-le, take-append-add, getD-drop}
 use borrow.Rule.Slice.PartMut.{putMid, drop-put}
@@ -75,10 +75,6 @@ sets-over (x ∷ a) (y ∷ b) o i h =
     ∙ ap (λ (l : List ℕ). sets l (suc i) a) (set-set o i x y))
     ∙ sets-over a b (set o i y) (suc i) (omega arith)
 
--- the last element first
-pub sets-last : (a o : List ℕ) (i x : ℕ) → sets o i (a ++ x ∷ []) ≡ sets (set o (i + length a) x) i a
-sets-last a o i x = sym (sets-sets a (x ∷ []) o i) ∙ sym (sets-set a o i (i + length a) x (omega arith))
-
 -- ==== a loop that writes a list: what is left of it over what is there is all of it over what was there
 
 -- forwards, the next element is written
@@ -88,15 +84,16 @@ written {ys} {zs} o at i x e h =
     let n : at + (i + 1) ≡ suc (at + i) = omega arith in
     ap (λ (k : ℕ). sets (set o (at + i) x) k zs) n ∙ ap (sets o (at + i)) (sym e) ∙ h
 
--- backwards, the last element
-pub written-back : {ys all-of-it : List ℕ} (o zs : List ℕ) (at i x : ℕ)
-    → ys ≡ zs ++ x ∷ [] → length zs ≡ i → sets o at ys ≡ all-of-it → sets (set o (at + i) x) at zs ≡ all-of-it
-written-back {ys} o zs at i x e n h =
-    ap (λ (k : ℕ). sets (set o (at + k) x) at zs) (sym n) ∙ sym (sets-last zs o at x) ∙ ap (sets o at) (sym e) ∙ h
+-- backwards, the last few elements
+pub written-before : {ys all-of-it : List ℕ} (o zs xs : List ℕ) (at i : ℕ)
+    → ys ≡ zs ++ xs → length zs ≡ i → sets o at ys ≡ all-of-it → sets (sets o (at + i) xs) at zs ≡ all-of-it
+written-before o zs xs at i e n h =
+    ap (λ (k : ℕ). sets (sets o (at + k) xs) at zs) (sym n) ∙ sets-swap zs xs o at (at + length zs) (omega arith)
+    ∙ sets-sets zs xs o at ∙ ap (sets o at) (sym e) ∙ h
 
--- nothing is left
-pub all-written : {o ys all-of-it : List ℕ} (at : ℕ) → ys ≡ [] → sets o at ys ≡ all-of-it → o ≡ all-of-it
-all-written {o} at e h = ap (sets o at) (sym e) ∙ h
+-- the next few of a list, and those behind them
+pub next-few : (l : List ℕ) (i n : ℕ) → drop i l ≡ take n (drop i l) ++ drop (i + n) l
+next-few l i n = sym (take-append-drop n (drop i l)) ∙ ap (λ (z : List ℕ). take n (drop i l) ++ z) (drop-drop n i l)
 
 -- ==== a run of stores as a part that was replaced
 

@@ -70,6 +70,21 @@ fn little_2(b: &[u8], at: usize) -> u64
     wide(b[at]) + 256 * wide(b[at + 1])
 }
 
+// Four bytes, and eight.
+fn little_4(b: &[u8], at: usize) -> u64
+    requires { ⌜ at + 4 ≤ length (now b) ⌝ }
+    ensures { λ r. ⌜ (r ≡ little-of (take 4 (drop at (now (b .entry))))) × (r < 256 ^ 4) ⌝ }
+{
+    little_2(b, at) + 65_536 * little_2(b, at + 2)
+}
+
+fn little_8(b: &[u8], at: usize) -> u64
+    requires { ⌜ at + 8 ≤ length (now b) ⌝ }
+    ensures { λ r. ⌜ r ≡ little-of (take 8 (drop at (now (b .entry)))) ⌝ }
+{
+    little_4(b, at) + 4_294_967_296 * little_4(b, at + 4)
+}
+
 // Any number of bytes, one after another.
 fn little_by_bytes(b: &[u8], at: usize, size: usize) -> u64
     requires { ⌜ (at + size ≤ length (now b)) × (size ≤ 8) ⌝ }
@@ -93,7 +108,7 @@ pub fn little(b: &[u8], at: usize, size: usize) -> u64
         return little_2(b, at);
     }
     if size == 4 {
-        return little_2(b, at) + 65_536 * little_2(b, at + 2);
+        return little_4(b, at);
     }
     little_by_bytes(b, at, size)
 }
@@ -163,6 +178,20 @@ pub fn copy(s: &[u8], out: &mut [u8], at: usize) -> usize
     at + i
 }
 
+// The bytes of s, where they are few and the compiler knows how many: eight in one load and one store.
+pub fn copy_few(s: &[u8], out: &mut [u8], at: usize) -> usize
+    requires { ⌜ at + length (now s) ≤ length (now out) ⌝ }
+    ensures { λ r. ⌜ Put (now (out .entry)) at (now (s .entry)) r (now (out .exit)) ⌝ }
+{
+    let mut i = 0;
+    while s.len() - i >= 8 {
+        let n = little_8(s, i);
+        put_little(out, at + i, 8, n);
+        i += 8;
+    }
+    copy(&s[i..], out, at + i)
+}
+
 // The byte b, width times.
 pub fn fill(out: &mut [u8], at: usize, width: usize, b: u8) -> usize
     requires { ⌜ at + width ≤ length (now out) ⌝ }
@@ -191,18 +220,30 @@ pub fn put_little(out: &mut [u8], at: usize, size: usize, n: u64) -> usize
     at + size
 }
 
-// n as a decimal field: its last width digits, zeros before them.
+// Two digits: both in one store.
+fn put_pair(out: &mut [u8], at: usize, n: u64) -> usize
+    requires { ⌜ (n < 100) × (at + 2 ≤ length (now out)) ⌝ }
+    ensures { λ r. ⌜ (r ≡ at + 2) × Put (now (out .entry)) at (digits 2 n) r (now (out .exit)) ⌝ }
+{
+    put_little(out, at, 2, n / 10 + 256 * (n % 10) + 0x3030)
+}
+
+// n as a decimal field: its last width digits, zeros before them. They are written in pairs, from the last on.
 pub fn put_digits(out: &mut [u8], at: usize, width: usize, n: u64) -> usize
     requires { ⌜ at + width ≤ length (now out) ⌝ }
     ensures { λ r. ⌜ (r ≡ at + width) × Put (now (out .entry)) at (digits width n) r (now (out .exit)) ⌝ }
 {
     let mut left = n;
     let mut i = width;
-    while i > 0 {
-        i -= 1;
-        out[at + i] = b'0' + (left % 10) as u8;
-        left = left / 10;
+    while i >= 2 {
+        i -= 2;
+        put_pair(out, at + i, left % 100);
+        left = left / 100;
     }
+    if i == 0 {
+        return at + width;
+    }
+    out[at] = b'0' + (left % 10) as u8;
     at + width
 }
 

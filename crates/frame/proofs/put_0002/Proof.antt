@@ -1,7 +1,6 @@
 -- `frame::put_0002` meets its contract.
 use borrow.Author.Needs.{needs}
-use mathlib.Core.Path.{refl, ap}
-use lib.Dec.{lit<}
+use mathlib.Core.Path.{ap}
 use Rattle.model.specs.Frames.{frame-record}
 use Rattle.text.proofs.Puts.{put-as}
 use Rattle.frame.proofs.Built.{is-0002}
@@ -11,7 +10,7 @@ use Rattle.frame.proofs.put_0002.Tie as tie
 put-frame-requires : tie.Need-put-frame-requires
 put-frame-requires c κs =
     let s = c .before .before .before .before in
-    record { output = s .pre .0; real = tt; few = lit< tt; sound = rw (s .pre .1) refl }
+    record { output = s .pre .0; real = tt; whole = s .pre .1 }
 
 returns : tie.Need-returns
 returns c =

@@ -1,8 +1,7 @@
 -- `frame::put_0065` meets its contract.
 use borrow.Author.Needs.{needs}
-use mathlib.Core.Path.{refl, ap}
+use mathlib.Core.Path.{ap}
 use native.Mathlib.Omega.{arith}
-use lib.Dec.{lit<}
 use Rattle.model.specs.Frames.{frame-record}
 use Rattle.text.proofs.Puts.{put-as}
 use Rattle.frame.proofs.Built.{is-0065}
@@ -12,7 +11,7 @@ use Rattle.frame.proofs.put_0065.Tie as tie
 put-frame-requires : tie.Need-put-frame-requires
 put-frame-requires c κs =
     let s = c .before .before .before .before in
-    record { output = s .pre .0; real = tt; few = lit< tt; sound = rw (s .pre .1) refl }
+    record { output = s .pre .0; real = tt; whole = s .pre .1 }
 
 returns : tie.Need-returns
 returns c =

@@ -4,7 +4,7 @@ use mathlib.Core.Path.{ap}
 use native.Mathlib.Omega.{arith}
 use Rattle.model.specs.Frames.{frame-record}
 use Rattle.text.proofs.Puts.{put-as}
-use Rattle.frame.proofs.Built.{copy-short, copy-few, notice-served, is-copy}
+use Rattle.frame.proofs.Built.{copy-short, is-copy}
 use Rattle.frame.proofs.put_copy.Statement.{statement}
 use Rattle.frame.proofs.put_copy.Tie as tie
 
@@ -18,8 +18,7 @@ put-frame-requires c κs =
     record {
       output = record { room = omega arith; numbered = s .pre .output .numbered };
       real = few;
-      few = copy-few asked few;
-      sound = rw (s .pre .settings, s .pre .place) (notice-served asked few);
+      whole = (s .pre .settings, s .pre .place);
     }
 
 returns : tie.Need-returns

@@ -1,42 +1,17 @@
 -- `frame::put_header` meets its contract, by the content: the number of each is the model's, and the length that of its layout.
 use borrow.Author.Needs.{needs}
 use mathlib.Core.Path.{_≡_, sym, ap, subst, _∙_}
-use Prim.Native.Nat.{ℕ, _<_}
-use native.Mathlib.Omega.{arith}
-use Rattle.frame.specs.declared.Asked.{Asked}
 use Rattle.frame.specs.declared.Content.{Content}
-use Rattle.frame.specs.declared.Content.the-variants.{Notice}
 use Rattle.frame.specs.declared.Heading.{Heading}
-use Rattle.frame.specs.Output.{Real, Headable, frame-length, heading-of}
-use Rattle.frame.proofs.Rows.{second-kind}
-use Rattle.frame.proofs.Built.{headed, copy-in-four}
+use Rattle.frame.specs.Output.{Real, frame-length, heading-of}
+use Rattle.frame.proofs.Contents.{second-kind}
+use Rattle.frame.proofs.Built.{headed}
 use Rattle.frame.proofs.put_header.Statement.{statement}
 use Rattle.frame.proofs.put_header.Tie as tie
 
 -- the header of what a content is
 of : {f g : Content} {h : Heading} → f ≡ g → h ≡ heading-of g → h ≡ heading-of f
 of e p = p ∙ sym (ap heading-of e)
-
--- a notice's length has four digits
-in-four : {f : Content} {asked : Asked} {size at n : ℕ} → Headable f size at n → f ≡ Notice asked → size < 10000
-in-four {asked = asked} h e =
-    let own = h .own ∙ ap frame-length e in
-    let short = copy-in-four asked (subst Real e (h .real)) in
-    omega arith
-
-put-heading-requires-5 : tie.Need-put-heading-requires-5
-put-heading-requires-5 c κs =
-    let m = c .before .before .before .before .before in
-    let s = m .before .before .before in
-    let short = in-four (s .pre) (m .content4 .given .1) in
-    (rw (c .notice-heading .ensures) short, s .pre .room)
-
-put-heading-requires-6 : tie.Need-put-heading-requires-6
-put-heading-requires-6 c κs =
-    let m = c .before .before .before .before .before in
-    let s = m .before .before .before in
-    let short = in-four (s .pre) (m .content4 .given .1) in
-    (rw (c .notice-heading2 .ensures) short, s .pre .room)
 
 returns : tie.Need-returns
 returns c =
@@ -82,23 +57,23 @@ put-header-spec =
     (tie.spec
     (λ c. search needs)
     (λ c κs. search needs)
-    (λ c κs. (rw (c .reply-heading .ensures) (omega arith), search needs))
+    (λ c κs. search needs)
     (λ c. search needs)
     (λ c κs. search needs)
-    (λ c κs. (rw (c .reply-heading2 .ensures) (omega arith), search needs))
+    (λ c κs. search needs)
     (λ c. search needs)
     (λ c κs. search needs)
-    (λ c κs. (rw (c .reply-heading3 .ensures) (omega arith), search needs))
+    (λ c κs. search needs)
     (λ c. search needs)
     (λ c κs. search needs)
-    (λ c κs. (rw (c .reply-heading4 .ensures) (omega arith), search needs))
+    (λ c κs. search needs)
     (λ c. search needs)
     (λ c κs. search needs)
-    put-heading-requires-5
+    (λ c κs. search needs)
     (λ c. search needs)
     returns
     (λ c κs. search needs)
-    put-heading-requires-6
+    (λ c κs. search needs)
     (λ c. search needs)
     returns-2
     (λ c. search needs)

@@ -18,7 +18,7 @@ returns c =
       place = search needs;
       put =
           put-as (simp append-assoc) (put-then (put-then
-          (put-then (put-then (p .put-size .ensures .put) (q .put-digits .ensures .1)) (i .put-digits2 .ensures .1)) (f .fill .ensures .1))
+          (put-then (put-then (p .put-digits .ensures .1) (q .put-digits2 .ensures .1)) (i .put-digits3 .ensures .1)) (f .fill .ensures .1))
           (g .fill2 .ensures .1));
     }
 

@@ -1,18 +1,17 @@
--- `frame::put_text` meets its contract: one of the two sources has the bytes.
+-- `frame::put_text` meets its contract: two writes.
 use borrow.Author.Needs.{needs}
-use borrow.Author.Tests.{eq-eqb, ne-eqb}
+use native.Mathlib.Omega.{arith}
+use Rattle.text.proofs.Puts.{put-then}
 use Rattle.frame.proofs.put_text.Statement.{statement}
 use Rattle.frame.proofs.put_text.Tie as tie
 
+returns : tie.Need-returns
+returns c =
+    let b = c .before .before in
+    let a = b .before .before .before .before in
+    let e = a .put-digits .ensures .0 in
+    let f = b .copy-few .ensures .place in
+    record { place = omega arith; put = put-then (a .put-digits .ensures .1) (b .copy-few .ensures) }
+
 pub put-text-spec : {M : Type 1} → statement M
-put-text-spec =
-    tie.close
-    (tie.spec
-    (λ c κs. let s = c .before .before .before .before .before .before in
-    (rw (eq-eqb _ _ (c .before .if1 .taken)) at (s .pre .there), s .pre .room))
-    (λ c. search needs)
-    (λ c. rw (eq-eqb _ _ (c .before .before .before .before .if1 .taken)) (c .before .before .put-bytes .ensures))
-    (λ c κs. let s = c .before .before .before .before .before .before in
-    (rw (ne-eqb _ _ (c .before .if1 .left)) at (s .pre .there), s .pre .room))
-    (λ c. search needs)
-    (λ c. rw (ne-eqb _ _ (c .before .before .before .before .if1 .left)) (c .before .before .put-bytes2 .ensures)))
+put-text-spec = tie.close (tie.spec (λ c κs. search needs) (λ c κs. search needs) (λ c. search needs) returns)

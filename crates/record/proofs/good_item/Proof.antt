@@ -1,43 +1,58 @@
--- `record::good_item` meets its contract: the form says which test.
+-- `record::good_item` meets its contract, by what the item is.
 use borrow.Author.Needs.{needs}
-use mathlib.Core.Path.{ap, _∙_}
+use borrow.Author.Tests.{leb-true}
+use mathlib.Core.Path.{_≡_, sym, ap, subst, _∙_}
+use mathlib.Core.Bool.{Bool, true}
+use mathlib.Core.List.{List}
+use Prim.Native.Nat.{ℕ}
 use native.Mathlib.Omega.{arith}
+use lib.Dec.{leb}
+use lib.ListN.{take}
 use lib.Seq.{take-length}
 use Rattle.model.specs.Bytes.{little}
-use Rattle.record.proofs.Parts.{number-short, is-number, is-a-text, is-a-time}
+use Rattle.model.specs.Records.{item-length, good-item}
+use Rattle.record.specs.declared.Item.{Item}
+use Rattle.record.specs.declared.Item.the-variants.{Number}
+use Rattle.record.specs.Items.{item-of, readable}
 use Rattle.record.proofs.good_item.Statement.{statement}
 use Rattle.record.proofs.good_item.Tie as tie
+
+-- the length, and the test, of what the item is
+length-of : {e f : Item} {n : ℕ} → e ≡ f → n ≡ item-length (item-of e) → n ≡ item-length (item-of f)
+length-of p h = h ∙ ap (λ (x : Item). item-length (item-of x)) p
+
+test-of : {e f : Item} {b : Bool} (bs : List ℕ) → e ≡ f → b ≡ good-item (item-of f) bs → b ≡ good-item (item-of e) bs
+test-of bs p h = h ∙ sym (ap (λ (x : Item). good-item (item-of x) bs) p)
+
+number-test : {e : Item} {size greatest n : ℕ} (bs : List ℕ) → e ≡ Number size greatest → n ≡ little bs
+    → leb n greatest ≡ good-item (item-of e) bs
+number-test {greatest = greatest} bs p h = test-of bs p (ap (λ (n : ℕ). leb n greatest) h)
 
 little-requires : tie.Need-little-requires
 little-requires c κs =
     let s = c .before .before .before .before in
-    let n = number-short (s .args .row .now) (s .pre .0) (c .if1 .taken) in
-    (search needs, omega (arith, s .pre .1))
+    let e = c .before .item .given .1 in
+    let n = length-of e (s .pre .1) in
+    (omega arith, leb-true _ 8 (subst (λ (x : Item). readable (item-of x) ≡ true) e (s .pre .0)))
 
 returns : tie.Need-returns
 returns c =
-    let a = c .before .before .before .before .before .args in
-    is-number (a .row .now) (a .s .now) (c .before .if1 .taken) (c .little .ensures .0 ∙ ap little (take-length (a .s .now)))
-
-returns-2 : tie.Need-returns-2
-returns-2 c =
-    let a = c .before .before .before .before .before .before .args in
-    is-a-text (a .row .now) (a .s .now) (c .before .before .if1 .left) (c .before .if2 .taken) (c .is-text .ensures)
-
-returns-3 : tie.Need-returns-3
-returns-3 c =
-    let a = c .before .before .before .before .before .before .args in
-    is-a-time (a .row .now) (a .s .now) (c .before .before .if1 .left) (c .before .if2 .left) (c .is-time .ensures)
+    let s = c .before .before .before .before .before in
+    let e = c .before .before .item .given .1 in
+    let bs = s .args .s .now in
+    let all-of-it = ap (λ (n : ℕ). take n bs) (sym (length-of e (s .pre .1))) ∙ take-length bs in
+    number-test bs e (c .little .ensures .0 ∙ ap little all-of-it)
 
 pub good-item-spec : {M : Type 1} → statement M
 good-item-spec =
     tie.close
     (tie.spec
     (λ c. search needs)
-    (λ c. search needs)
     little-requires
+    (λ c. search needs)
+    (λ c κs. search needs)
+    (λ c. search needs)
+    (λ c κs. search needs)
     returns
-    (λ c κs. search needs)
-    returns-2
-    (λ c κs. search needs)
-    returns-3)
+    (λ c. test-of _ (c .before .before .item2 .given .1) (c .is-text .ensures))
+    (λ c. test-of _ (c .before .enum-told .given .1) (c .is-time .ensures)))

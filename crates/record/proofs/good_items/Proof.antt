@@ -2,86 +2,109 @@
 -- there.
 use borrow.Author.Needs.{needs}
 use borrow.Author.Tests.{not-true, not-false}
-use mathlib.Core.Path.{_≡_, refl, sym, ap, _∙_}
+use mathlib.Core.Path.{_≡_, refl, sym, ap, subst, _∙_}
 use mathlib.Core.Bool.{true}
-use mathlib.Core.List.{List, []}
-use Prim.Native.Nat.{ℕ, _+_, _-_}
+use mathlib.Core.List.{List}
+use Prim.Native.Nat.{ℕ, _+_, _-_, _<_}
 use native.Mathlib.Nat.{zero-add, add-sub-cancel-left}
 use native.Mathlib.Omega.{arith}
-use lib.ListN.{length, getD, take, drop, length-drop}
+use lib.ListN.{length, take, drop, length-drop}
 use lib.Seq.{length-take-le}
-use Rattle.model.specs.Records.{item-length, payload-length, good-item, parts, parts-from, good-parts}
+use Rattle.model.specs.Records.{Item, time, item-length, payload-length, good-item, parts, parts-from, good-parts}
 use Rattle.text.proofs.Lists.{all-at}
-use Rattle.record.specs.Items.{item-of, items, readable}
-use Rattle.record.proofs.Parts.{row-length, length-next, items-go-on, items-stop, items-end}
+use Rattle.record.specs.Items.{item-of, items-of, item-at, readable}
+use Rattle.record.proofs.Parts.{all-readable, length-next, items-go-on, items-stop, items-end}
 use Rattle.record.proofs.good_items.Statement.{statement}
 use Rattle.record.proofs.good_items.Tie as tie
 
 abbrev Inv-loop : tie.InvT-loop
-Inv-loop rows s at₀ k₀ at k =
-    (at + payload-length (items (drop k rows)) ≡ length s)
-    × (good-parts (items (drop k rows)) (parts-from at (items (drop k rows)) s) ≡ good-parts (items rows) (parts (items rows) s))
+Inv-loop items s n at₀ k₀ at k =
+    let es = items-of items in
+    (at + payload-length (drop k es) ≡ length s)
+    × (good-parts (drop k es) (parts-from at (drop k es) s) ≡ good-parts es (parts es s))
 
 abbrev μ-loop : tie.MeasureT-loop
-μ-loop rows s at₀ k₀ at k = length rows - k
+μ-loop items s n at₀ k₀ at k = n - k
 
--- in a turn: the row can be read, and its bytes are there
+-- in a turn: the item is there, and so are its bytes
 module _ (c : tie.In-loop Inv-loop μ-loop) where
-  abbrev rows : List (List ℕ)
-  rows = c .before .before .before .args .rows .now
+  abbrev es : List Item
+  es = items-of (c .before .before .before .before .args .items)
 
-  abbrev row : List ℕ
-  row = getD rows (c .before .loop .k) []
+  within : c .before .loop .k < length es
+  within = subst (λ (n : ℕ). c .before .loop .k < n) (c .before .before .count .ensures) (c .loop-test .taken)
 
-  ready : readable row ≡ true
-  ready = all-at readable rows (c .before .loop .k) [] (c .before .before .before .pre .0) (c .loop-test .taken)
+module _ (c : tie.After-item-length Inv-loop μ-loop) where
+  abbrev turn : tie.In-loop Inv-loop μ-loop
+  turn = c .before .before
 
-  size : item-length (item-of row) ≡ getD row 1 0
-  size = row-length row ready
+  size : item-length (item-at (es turn) (turn .before .loop .k)) ≡ c .item-length .result
+  size = sym (c .item-length .ensures ∙ ap item-length (c .before .item-at .ensures))
 
-  there : c .before .loop .at + getD row 1 0 + payload-length (items (drop (c .before .loop .k + 1) rows))
-      ≡ length (c .before .before .before .args .s .now)
+  there : turn .before .loop .at + c .item-length .result + payload-length (drop (turn .before .loop .k + 1) (es turn))
+      ≡ length (turn .before .before .before .before .args .s .now)
   there =
-      let n = length-next rows (c .before .before .before .args .s .now) (c .before .loop .k) (c .loop-test .taken) in
+      let n = length-next (es turn) (turn .before .before .before .before .args .s .now) (turn .before .loop .k) (within turn) in
       let e = size in
-      let i = c .before .loop .inv .0 in
+      let i = turn .before .loop .inv .0 in
       omega arith
 
 good-item-requires : tie.Need-good-item-requires Inv-loop μ-loop
 good-item-requires c κs =
-    let t = c .before .before .before in
-    let s = t .before .before .before .args .s .now in
-    let h = there t in
-    let n = length-take-le (getD (row t) 1 0) (drop (t .before .loop .at) s) in
-    (ready t, rw add-sub-cancel-left (n (simp length-drop (omega arith))))
+    let z = c .before in
+    let t = turn z in
+    let a = t .before .before .before .before .args in
+    let h = there z in
+    let n = length-take-le (z .item-length .result) (drop (t .before .loop .at) (a .s .now)) in
+    let r = all-at readable (es t) (t .before .loop .k) time (all-readable (a .items)) (within t) in (
+      subst (λ (e : Item). readable e ≡ true) (sym (z .before .item-at .ensures)) r,
+      rw add-sub-cancel-left (n (simp length-drop (omega arith)) ∙ z .item-length .ensures),
+    )
+
+-- what was tested is the item with its bytes
+module _ (c : tie.After-good-item Inv-loop μ-loop) where
+  abbrev sized : tie.After-item-length Inv-loop μ-loop
+  sized = c .before .before
+
+  abbrev at : ℕ
+  at = turn sized .before .loop .at
+
+  abbrev bytes : List ℕ
+  bytes = turn sized .before .before .before .before .args .s .now
+
+  tested : good-item (item-at (es (turn sized)) (turn sized .before .loop .k)) (take (sized .item-length .result) (drop at bytes))
+      ≡ c .good-item .result
+  tested =
+      ap (λ (e : Item). good-item e (take (sized .item-length .result) (drop at bytes))) (sym (sized .before .item-at .ensures))
+      ∙ ap (λ (n : ℕ). good-item (item-of (sized .before .item-at .result)) (take n (drop at bytes)))
+      (sym (add-sub-cancel-left at (sized .item-length .result)))
+      ∙ sym (c .good-item .ensures)
 
 returns : tie.Need-returns Inv-loop μ-loop
 returns c =
-    let t = c .before .before .before .before .before in
+    let z = sized (c .before) in
+    let t = turn z in
     let l = t .before .loop in
-    let s = t .before .before .before .args .s .now in
-    let w = add-sub-cancel-left (l .at) (getD (row t) 1 0) in
-    items-stop (rows t) s (l .k) (l .at) (getD (row t) 1 0) (t .loop-test .taken) (size t)
-    (ap (λ (n : ℕ). good-item (item-of (row t)) (take n (drop (l .at) s))) (sym w) ∙ sym (c .before .good-item .ensures)
-    ∙ not-true _ (c .if1 .taken)) (l .inv .1)
+    items-stop (es t) (bytes (c .before)) (l .k) (l .at) (z .item-length .result) (within t) (size z)
+    (tested (c .before) ∙ not-true _ (c .if1 .taken)) (l .inv .1)
 
 loop-again : tie.Need-loop-again Inv-loop μ-loop
 loop-again c =
-    let t = c .before .before .before .before .before in
-    let l = t .before .loop in
-    let s = t .before .before .before .args .s .now in
-    let w = add-sub-cancel-left (l .at) (getD (row t) 1 0) in (
-      there t,
-      items-go-on (rows t) s (l .k) (l .at) (getD (row t) 1 0) (t .loop-test .taken) (size t)
-          (ap (λ (n : ℕ). good-item (item-of (row t)) (take n (drop (l .at) s))) (sym w) ∙ sym (c .before .good-item .ensures)
-          ∙ not-false _ (c .if1 .left)) (l .inv .1),
+    let z = sized (c .before) in
+    let t = turn z in
+    let l = t .before .loop in (
+      there z,
+      items-go-on (es t) (bytes (c .before)) (l .k) (l .at) (z .item-length .result) (within t) (size z)
+          (tested (c .before) ∙ not-false _ (c .if1 .left)) (l .inv .1),
     )
 
 returns-2 : tie.Need-returns-2 Inv-loop μ-loop
 returns-2 c =
-    let a = c .before .before .before .args in
+    let a = c .before .before .before .before .args in
     let l = c .before .loop in
-    items-end (a .rows .now) (a .s .now) (l .k) (l .at) (c .loop-test .left) (l .inv .1)
+    let n = c .before .before .count .ensures in
+    let h = c .loop-test .left in
+    items-end (items-of (a .items)) (a .s .now) (l .k) (l .at) (omega (arith, h)) (l .inv .1)
 
 pub good-items-spec : {M : Type 1} → statement M
 good-items-spec =
@@ -89,17 +112,16 @@ good-items-spec =
     (tie.spec
     Inv-loop
     μ-loop
-    (λ c. (zero-add _ ∙ sym (c .before .pre .1), refl))
-    (λ c. search needs)
-    (λ c. search needs)
-    (λ c. search needs)
-    (λ c. let h = there (c .before .before) in search needs)
-    (λ c. let h = there (c .before .before) in search needs)
-    (λ c. let h = there (c .before .before) in search needs)
-    (λ c. let h = there (c .before .before) in search needs)
+    (λ c κs. search needs)
+    (λ c. (zero-add _ ∙ sym (c .before .before .pre), refl))
+    (λ c κs. within c)
+    (λ c κs. search needs)
+    (λ c. let h = there c in search needs)
+    (λ c. let h = there c in search needs)
+    (λ c. let h = there c in search needs)
+    (λ c. let h = there c in search needs)
     good-item-requires
     returns
-    (λ c. let h = there (c .before .before .before .before .before) in search needs)
     (λ c. search needs)
     (λ c. search needs)
     loop-again

@@ -1,4 +1,4 @@
--- `record::is_settings` meets its contract: the table has the model's items.
+-- `record::is_settings` meets its contract: its items are the model's.
 use borrow.Author.Needs.{needs}
 use mathlib.Core.Path.{ap}
 use mathlib.Core.Bool.{Bool}
@@ -9,7 +9,7 @@ use Rattle.record.proofs.is_settings.Tie as tie
 
 returns : tie.Need-returns
 unfolding read-settings
-returns c = ap (λ (b : Bool). settings-in b (c .before .before .before .args .slice .now)) (c .good-record .ensures)
+returns c = ap (λ (b : Bool). settings-in b (c .before .before .args .slice .now)) (c .good-record .ensures)
 
 pub is-settings-spec : {M : Type 1} → statement M
-is-settings-spec = tie.close (tie.spec (λ c. search needs) (λ c κs. search needs) returns)
+is-settings-spec = tie.close (tie.spec (λ c κs. search needs) returns)

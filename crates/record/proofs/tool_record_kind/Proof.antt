@@ -1,4 +1,4 @@
--- `record::tool_record_kind` meets its contract: the tables have the model's items.
+-- `record::tool_record_kind` meets its contract: the items are the model's.
 use borrow.Author.Needs.{needs}
 use mathlib.Core.Path.{sym, _∙_}
 use Rattle.model.specs.Records.{read-tool}
@@ -13,7 +13,7 @@ returns-2 : tie.Need-returns-2
 unfolding read-tool
 returns-2 c =
     rw (
-      sym (c .before .before .before .before .good-record .ensures) ∙ c .before .before .before .if1 .left,
+      sym (c .before .before .before .good-record .ensures) ∙ c .before .before .if1 .left,
       sym (c .before .good-record2 .ensures) ∙ c .if2 .taken,
     )
 
@@ -21,10 +21,10 @@ returns-3 : tie.Need-returns-3
 unfolding read-tool
 returns-3 c =
     rw (
-      sym (c .before .before .before .before .good-record .ensures) ∙ c .before .before .before .if1 .left,
+      sym (c .before .before .before .good-record .ensures) ∙ c .before .before .if1 .left,
       sym (c .before .good-record2 .ensures) ∙ c .if2 .left,
     )
 
 pub tool-record-kind-spec : {M : Type 1} → statement M
 tool-record-kind-spec =
-    tie.close (tie.spec (λ c. search needs) (λ c κs. search needs) returns (λ c. search needs) (λ c κs. search needs) returns-2 returns-3)
+    tie.close (tie.spec (λ c κs. search needs) returns (λ c κs. search needs) returns-2 returns-3)

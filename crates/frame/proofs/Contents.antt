@@ -1,0 +1,99 @@
+-- What the writer of each frame's data leaves is that frame's data.
+use mathlib.Core.Path.{_≡_, sym, ap, subst, _∙_}
+use Prim.Native.Nat.{ℕ, suc, _+_, _-_, _≤_, _<_}
+use native.Mathlib.Omega.{arith}
+use mathlib.Core.Bool.{true, false}
+use mathlib.Core.List.{List, append-nil, _++_}
+use lib.ListN.{length, getD}
+use lib.Seq.{take-all}
+use Rattle.model.specs.Limits.{identifier-length}
+use Rattle.model.specs.Bytes.{digits}
+use Rattle.model.specs.Records.{scanned-items, tightening-items, result-items}
+use Rattle.model.specs.Layouts.{Layout, layouts-0052, layouts-0061, layout-at, first-of, controller-rows, identifier-rows, layout-0065}
+use Rattle.model.specs.Layouts.{characters, data-from, data-of, data-length}
+use Rattle.model.specs.Kinds.{identifiers, tightenings, kinds, kind-at}
+use Rattle.text.specs.Put.{Put, Written}
+use Rattle.text.proofs.Puts.{put-as}
+use Rattle.frame.specs.Places.{place-items, place-size}
+use Rattle.frame.specs.Layout.{Payloads, held, set-by, told-of, DataPut, FieldsPut, data-in}
+use Rattle.frame.specs.declared.Content.{Content}
+use Rattle.frame.specs.declared.Content.the-variants.{Started, Refused, Accepted, Kept}
+
+-- a kind is one or the other
+pub second-kind : (kind : ℕ) → kind < length kinds → (kind ≡ identifiers → ⊥) → kind ≡ tightenings
+second-kind kind few n = omega (arith, n)
+
+-- ==== notices, by kind and revision
+
+abbrev layout : ℕ → ℕ → Layout
+layout kind revision = layout-at ((kind-at kind) .layouts) revision
+
+first-0052 : (revision : ℕ) → revision < 2 → layout identifiers revision ≡ first-of identifier-rows false 1
+first-0052 revision h =
+    let e : revision - 1 ≡ 0 = omega arith in ap (λ (k : ℕ). getD (layouts-0052 .older) k (layouts-0052 .newest)) e
+
+later-0052 : (revision : ℕ) → 2 ≤ revision → layout identifiers revision ≡ first-of identifier-rows true 4
+later-0052 revision h =
+    let e : revision - 1 ≡ suc (revision - 2) = omega arith in ap (λ (k : ℕ). getD (layouts-0052 .older) k (layouts-0052 .newest)) e
+
+-- how long the data of each is
+module _ {kind : ℕ} (revision : ℕ) where
+  pub first-length : kind ≡ identifiers → revision < 2 → data-length (layout kind revision) ≡ identifier-length
+  first-length e h = rw e (ap data-length (first-0052 revision h))
+
+  pub later-length : kind ≡ identifiers → 2 ≤ revision → data-length (layout kind revision) ≡ data-length (layouts-0052 .newest)
+  later-length e h = rw e (ap data-length (later-0052 revision h))
+
+  pub result-length : kind ≡ tightenings → data-length (layout kind revision) ≡ data-length (layouts-0061 .newest)
+  result-length e = rw e
+
+-- the data of a notice of that kind was written by that layout
+abbrev Wrote : Payloads → ℕ → Layout → List ℕ → ℕ → ℕ → List ℕ → Type 0
+Wrote b kind l o at r o′ = Written o at (data-length l) (data-of l (held (place-items kind) b)) r o′
+
+module _ (b : Payloads) {o o′ : List ℕ} {at r : ℕ} where
+  -- by one that is the same, of a kind that is the same
+  by-same : {kind kind′ : ℕ} {l l′ : Layout} → kind ≡ kind′ → l ≡ l′ → Wrote b kind′ l′ o at r o′ → Wrote b kind l o at r o′
+  by-same {kind} {kind′} {l} {l′} e f w =
+      subst (λ (k : ℕ). Wrote b k l o at r o′) (sym e) (subst (λ (m : Layout). Wrote b kind′ m o at r o′) (sym f) w)
+
+  pub identifier-alone : (kind revision : ℕ) → kind ≡ identifiers → revision < 2 → length (b .told) ≡ place-size kind
+      → Put o at (b .told) r o′ → Wrote b kind (layout kind revision) o at r o′
+  unfolding data-from characters digits
+  identifier-alone kind revision e h l p =
+      let n : length (b .told) ≡ identifier-length = l ∙ ap place-size e in
+      by-same e (ap (λ (k : ℕ). layout k revision) e ∙ first-0052 revision h) (record {
+        place = let z = p .place in omega arith;
+        put = put-as (sym (append-nil _ ∙ take-all identifier-length (b .told) (omega arith))) p;
+      })
+
+  pub identifier-parts : (kind revision : ℕ) → kind ≡ identifiers → 2 ≤ revision
+      → FieldsPut (told-of scanned-items (b .told)) 1 identifier-rows o at r o′ → Wrote b kind (layout kind revision) o at r o′
+  unfolding data-from characters
+  identifier-parts kind revision e h w = by-same e (ap (λ (k : ℕ). layout k revision) e ∙ later-0052 revision h) w
+
+  pub result-fields : (kind revision : ℕ) → kind ≡ tightenings
+      → FieldsPut (held result-items b) 1 (layouts-0061 .newest .rows) o at r o′ → Wrote b kind (layout kind revision) o at r o′
+  result-fields kind revision e w = by-same e (ap (λ (k : ℕ). layout k revision) e) w
+
+  -- ==== replies
+
+  -- of a content that is another
+  pub data-as : {content content′ : Content} → content ≡ content′ → DataPut content′ b o at r o′ → DataPut content b o at r o′
+  data-as e w = subst (λ (x : Content). DataPut x b o at r o′) (sym e) w
+
+  pub started : FieldsPut (set-by (b .settings)) 1 controller-rows o at r o′ → DataPut Started b o at r o′
+  unfolding data-in
+  started w = w
+
+  pub refused : (mid error : ℕ) → Written o at 6 (digits 4 mid ++ digits 2 error) r o′ → DataPut (Refused mid error) b o at r o′
+  unfolding data-in data-from characters digits
+  refused mid error w = w
+
+  pub accepted : (mid : ℕ) → (r ≡ at + 4) × Put o at (digits 4 mid) r o′ → DataPut (Accepted mid) b o at r o′
+  unfolding data-in data-from characters digits
+  accepted mid w = record { place = w .0; put = w .1 }
+
+  pub kept : (n : ℕ) → FieldsPut (told-of tightening-items (b .told)) 1 (layout-0065 n .rows) o at r o′ → DataPut (Kept n) b o at r o′
+  unfolding data-in data-from characters
+  kept n w = w

@@ -1,0 +1,67 @@
+-- `frame::put_notice` meets its contract, by kind and revision.
+use borrow.Author.Needs.{needs}
+use mathlib.Core.Path.{ap, _∙_}
+use native.Mathlib.Omega.{arith}
+use Rattle.frame.specs.Places.{place-size}
+use Rattle.frame.specs.Layout.{payloads, data-in}
+use Rattle.frame.proofs.Contents.{second-kind, first-length, later-length, result-length}
+use Rattle.frame.proofs.Contents.{identifier-alone, identifier-parts, result-fields}
+use Rattle.frame.proofs.put_notice.Statement.{statement}
+use Rattle.frame.proofs.put_notice.Tie as tie
+
+copy-few-requires : tie.Need-copy-few-requires
+copy-few-requires c κs =
+    let s = c .before .before .before .before .before .before .before .before in
+    let e = c .before .before .before .if1 .taken in
+    let n = first-length (s .args .asked .revision) e (c .before .if2 .taken) in
+    let l = s .pre .whole .1 ∙ ap place-size e in
+    let room = s .pre .room in
+    omega arith
+
+returns : tie.Need-returns
+unfolding data-in
+returns c =
+    let w = c .before .before in
+    let s = w .before .before .before .before .before .before .before .before .before in
+    let a = s .args in
+    identifier-alone (payloads (a .settings .now) (a .told .now)) (a .asked .kind) (a .asked .revision)
+    (w .before .before .before .before .if1 .taken) (w .before .before .if2 .taken) (s .pre .whole .1) (w .copy-few .ensures)
+
+put-parts-requires : tie.Need-put-parts-requires
+put-parts-requires c κs =
+    let s = c .before .before .before .before .before .before .before .before in
+    let e = c .before .before .before .if1 .taken in
+    let n = later-length (s .args .asked .revision) e (c .before .if2 .left) in
+    let room = s .pre .room in
+    (s .pre .whole .1 ∙ ap place-size e, omega arith)
+
+returns-2 : tie.Need-returns-2
+unfolding data-in
+returns-2 c =
+    let w = c .before .before in
+    let s = w .before .before .before .before .before .before .before .before .before in
+    let a = s .args in
+    identifier-parts (payloads (a .settings .now) (a .told .now)) (a .asked .kind) (a .asked .revision)
+    (w .before .before .before .before .if1 .taken) (w .before .before .if2 .left) (w .put-parts .ensures)
+
+put-result-requires : tie.Need-put-result-requires
+put-result-requires c κs =
+    let s = c .before .before .before .before .before .before in
+    let e = second-kind _ (s .pre .real) (c .before .if1 .left) in
+    let n = result-length (s .args .asked .revision) e in
+    let room = s .pre .room in
+    ((s .pre .whole .0, s .pre .whole .1 ∙ ap place-size e), omega arith)
+
+returns-3 : tie.Need-returns-3
+unfolding data-in
+returns-3 c =
+    let w = c .before .before in
+    let s = w .before .before .before .before .before .before .before in
+    let a = s .args in
+    result-fields (payloads (a .settings .now) (a .told .now)) (a .asked .kind) (a .asked .revision)
+    (second-kind _ (s .pre .real) (w .before .before .if1 .left)) (w .put-result .ensures)
+
+pub put-notice-spec : {M : Type 1} → statement M
+put-notice-spec =
+    tie.close (tie.spec copy-few-requires (λ c. search needs) returns put-parts-requires (λ c. search needs) returns-2
+    put-result-requires (λ c. search needs) returns-3)

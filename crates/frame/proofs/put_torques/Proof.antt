@@ -1,0 +1,28 @@
+-- `frame::put_torques` meets its contract: four numbers.
+use borrow.Author.Needs.{needs}
+use mathlib.Core.List.{[]}
+use Rattle.model.specs.Records.{tightening-items}
+use Rattle.model.specs.Layouts.{told}
+use Rattle.frame.specs.Layout.{told-of, results}
+use Rattle.frame.proofs.Fields.{number-then, fields-none}
+use Rattle.frame.proofs.put_torques.Statement.{statement}
+use Rattle.frame.proofs.put_torques.Tie as tie
+
+returns : tie.Need-returns
+returns c =
+    let e = c .before .before in
+    let d = e .before .before .before .before .before in
+    let b = d .before .before .before .before .before in
+    let a = b .before .before .before .before .before in
+    let s = a .before .before .before .before .before in
+    let x = told-of tightening-items (s .args .told .now) in
+    number-then x 12 6 told 8 (results 9 3) (a .before .little .ensures .0) (a .put-number .ensures)
+    (number-then x 13 6 told 9 (results 10 2) (b .before .little2 .ensures .0) (b .put-number2 .ensures)
+    (number-then x 14 6 told 10 (results 11 1) (d .before .little3 .ensures .0) (d .put-number3 .ensures)
+    (number-then x 15 6 told 11 [] (e .before .little4 .ensures .0) (e .put-number4 .ensures)
+    (fields-none x 16))))
+
+pub put-torques-spec : {M : Type 1} → statement M
+put-torques-spec =
+    tie.close (tie.spec (λ c κs. search needs) (λ c κs. search needs) (λ c κs. search needs) (λ c κs. search needs) (λ c κs. search needs)
+    (λ c κs. search needs) (λ c κs. search needs) (λ c κs. search needs) (λ c. search needs) returns)
