@@ -15,7 +15,7 @@ use Rattle.model.specs.Kinds.{identifiers, tightenings, kinds, kind-at}
 use Rattle.text.specs.Put.{Put, Written}
 use Rattle.text.proofs.Puts.{put-as}
 use Rattle.frame.specs.Places.{place-items, place-size}
-use Rattle.frame.specs.Layout.{Payloads, held, set-by, told-of, DataPut, FieldsPut, data-in}
+use Rattle.frame.specs.Layout.{Payloads, held, set-values, told-values, DataPut, FieldsPut, data-in}
 use Rattle.frame.specs.declared.Content.{Content}
 use Rattle.frame.specs.declared.Content.the-variants.{Started, Refused, Accepted, Kept}
 
@@ -68,7 +68,7 @@ module _ (b : Payloads) {o o′ : List ℕ} {at r : ℕ} where
       })
 
   pub identifier-parts : (kind revision : ℕ) → kind ≡ identifiers → 2 ≤ revision
-      → FieldsPut (told-of scanned-items (b .told)) 1 identifier-rows o at r o′ → Wrote b kind (layout kind revision) o at r o′
+      → FieldsPut (told-values scanned-items (b .told)) 1 identifier-rows o at r o′ → Wrote b kind (layout kind revision) o at r o′
   unfolding data-from characters
   identifier-parts kind revision e h w = by-same e (ap (λ (k : ℕ). layout k revision) e ∙ later-0052 revision h) w
 
@@ -82,7 +82,7 @@ module _ (b : Payloads) {o o′ : List ℕ} {at r : ℕ} where
   pub data-as : {content content′ : Content} → content ≡ content′ → DataPut content′ b o at r o′ → DataPut content b o at r o′
   data-as e w = subst (λ (x : Content). DataPut x b o at r o′) (sym e) w
 
-  pub started : FieldsPut (set-by (b .settings)) 1 controller-rows o at r o′ → DataPut Started b o at r o′
+  pub started : FieldsPut (set-values (b .settings)) 1 controller-rows o at r o′ → DataPut Started b o at r o′
   unfolding data-in
   started w = w
 
@@ -94,6 +94,6 @@ module _ (b : Payloads) {o o′ : List ℕ} {at r : ℕ} where
   unfolding data-in data-from characters digits
   accepted mid w = record { place = w .0; put = w .1 }
 
-  pub kept : (n : ℕ) → FieldsPut (told-of tightening-items (b .told)) 1 (layout-0065 n .rows) o at r o′ → DataPut (Kept n) b o at r o′
+  pub kept : (n : ℕ) → FieldsPut (told-values tightening-items (b .told)) 1 (layout-0065 n .rows) o at r o′ → DataPut (Kept n) b o at r o′
   unfolding data-in data-from characters
   kept n w = w

@@ -42,11 +42,11 @@ abbrev pub held : List Item → Payloads → Sources
 held told b = record { settings = values settings-items (b .settings); told = values told (b .told) }
 
 -- those of settings alone, and of what is told alone
-abbrev pub set-by : List ℕ → Sources
-set-by settings = held [] (payloads settings [])
+abbrev pub set-values : List ℕ → Sources
+set-values settings = held [] (payloads settings [])
 
-abbrev pub told-of : List Item → List ℕ → Sources
-told-of items told = held items (payloads [] told)
+abbrev pub told-values : List Item → List ℕ → Sources
+told-values items told = held items (payloads [] told)
 
 -- the data: of those values
 unfoldable pub data-in : Content → Payloads → List ℕ

@@ -19,8 +19,8 @@ ghost use Rattle.frame.specs.Places.{event-in};
 ghost use Rattle.frame.specs.Layout.{
   payloads,
   held,
-  set-by,
-  told-of,
+  set-values,
+  told-values,
   DataPut,
   numbered,
   FieldsPut,
@@ -246,7 +246,7 @@ fn put_blank(out: &mut [u8], at: usize, field: u64, width: usize) -> usize
 // 0002, and the first fields of 0061: cell, channel, name.
 fn put_controller(out: &mut [u8], at: usize, settings: &[u8]) -> usize
     requires { ⌜ (length (now settings) ≡ settings-length) × Room controller-rows at (length (now out)) ⌝ }
-    ensures { λ r. ⌜ FieldsPut (set-by (now (settings .entry))) 1 controller-rows (now (out .entry)) at r
+    ensures { λ r. ⌜ FieldsPut (set-values (now (settings .entry))) 1 controller-rows (now (out .entry)) at r
         (now (out .exit)) ⌝ }
 {
     let at = put_number(out, at, 1, 4, text::little(settings, 0, 2));
@@ -266,7 +266,8 @@ fn put_refused(out: &mut [u8], at: usize, mid: u64, error: u64) -> usize
 // 0052 from revision 2 on: the identifier, and three parts more.
 fn put_parts(out: &mut [u8], at: usize, told: &[u8]) -> usize
     requires { ⌜ (length (now told) ≡ identifier-length) × Room identifier-rows at (length (now out)) ⌝ }
-    ensures { λ r. ⌜ FieldsPut (told-of scanned-items (now (told .entry))) 1 identifier-rows (now (out .entry)) at r (now (out .exit)) ⌝ }
+    ensures { λ r. ⌜ FieldsPut (told-values scanned-items (now (told .entry))) 1 identifier-rows (now (out .entry)) at r
+        (now (out .exit)) ⌝ }
 {
     let at = put_text(out, at, 1, told);
     let at = put_blank(out, at, 2, IDENTIFIER_LENGTH);
@@ -277,7 +278,7 @@ fn put_parts(out: &mut [u8], at: usize, told: &[u8]) -> usize
 // Of 0061 and 0065, statuses: tightening, torque, angle.
 fn put_statuses(out: &mut [u8], at: usize, field: u64, told: &[u8]) -> usize
     requires { ⌜ (field < 97) × Tellable (results 5 3) (now told) at (length (now out)) ⌝ }
-    ensures { λ r. ⌜ FieldsPut (told-of tightening-items (now (told .entry))) field (results 5 3) (now (out .entry)) at r
+    ensures { λ r. ⌜ FieldsPut (told-values tightening-items (now (told .entry))) field (results 5 3) (now (out .entry)) at r
         (now (out .exit)) ⌝ }
 {
     let at = put_number(out, at, field, 1, text::little(told, 32, 1));
@@ -288,7 +289,7 @@ fn put_statuses(out: &mut [u8], at: usize, field: u64, told: &[u8]) -> usize
 // Of 0061: identifier, job, parameter set, batch size, batch counter.
 fn put_batch(out: &mut [u8], at: usize, told: &[u8]) -> usize
     requires { ⌜ Tellable (results 0 5) (now told) at (length (now out)) ⌝ }
-    ensures { λ r. ⌜ FieldsPut (told-of tightening-items (now (told .entry))) 4 (results 0 5) (now (out .entry)) at r
+    ensures { λ r. ⌜ FieldsPut (told-values tightening-items (now (told .entry))) 4 (results 0 5) (now (out .entry)) at r
         (now (out .exit)) ⌝ }
 {
     let at = put_text(out, at, 4, &told[0..IDENTIFIER_LENGTH]);
@@ -301,7 +302,7 @@ fn put_batch(out: &mut [u8], at: usize, told: &[u8]) -> usize
 // Torques: minimum, maximum, target, the torque.
 fn put_torques(out: &mut [u8], at: usize, told: &[u8]) -> usize
     requires { ⌜ Tellable (results 8 4) (now told) at (length (now out)) ⌝ }
-    ensures { λ r. ⌜ FieldsPut (told-of tightening-items (now (told .entry))) 12 (results 8 4) (now (out .entry)) at r
+    ensures { λ r. ⌜ FieldsPut (told-values tightening-items (now (told .entry))) 12 (results 8 4) (now (out .entry)) at r
         (now (out .exit)) ⌝ }
 {
     let at = put_number(out, at, 12, 6, text::little(told, 35, 4));
@@ -313,7 +314,7 @@ fn put_torques(out: &mut [u8], at: usize, told: &[u8]) -> usize
 // Angles: minimum, maximum, target, the angle.
 fn put_angles(out: &mut [u8], at: usize, told: &[u8]) -> usize
     requires { ⌜ Tellable (results 12 4) (now told) at (length (now out)) ⌝ }
-    ensures { λ r. ⌜ FieldsPut (told-of tightening-items (now (told .entry))) 16 (results 12 4) (now (out .entry)) at r
+    ensures { λ r. ⌜ FieldsPut (told-values tightening-items (now (told .entry))) 16 (results 12 4) (now (out .entry)) at r
         (now (out .exit)) ⌝ }
 {
     let at = put_number(out, at, 16, 5, text::little(told, 51, 4));
@@ -325,7 +326,7 @@ fn put_angles(out: &mut [u8], at: usize, told: &[u8]) -> usize
 // Time, time of the last change of the parameter set, batch status, tightening number.
 fn put_times(out: &mut [u8], at: usize, told: &[u8]) -> usize
     requires { ⌜ (length (now told) ≡ payload-length result-items) × Room (results 16 4) at (length (now out)) ⌝ }
-    ensures { λ r. ⌜ FieldsPut (told-of result-items (now (told .entry))) 20 (results 16 4) (now (out .entry)) at r
+    ensures { λ r. ⌜ FieldsPut (told-values result-items (now (told .entry))) 20 (results 16 4) (now (out .entry)) at r
         (now (out .exit)) ⌝ }
 {
     let at = put_text(out, at, 20, &told[67..86]);
@@ -351,7 +352,7 @@ fn put_result(out: &mut [u8], at: usize, settings: &[u8], told: &[u8]) -> usize
 // Of 0065: number, identifier, parameter set, batch counter.
 fn put_kept_batch(out: &mut [u8], at: usize, number: u64, told: &[u8]) -> usize
     requires { ⌜ Tellable (kept-first number) (now told) at (length (now out)) ⌝ }
-    ensures { λ r. ⌜ FieldsPut (told-of tightening-items (now (told .entry))) 1 (kept-first number) (now (out .entry)) at r
+    ensures { λ r. ⌜ FieldsPut (told-values tightening-items (now (told .entry))) 1 (kept-first number) (now (out .entry)) at r
         (now (out .exit)) ⌝ }
 {
     let at = put_number(out, at, 1, model::NUMBER_DIGITS, number);
@@ -363,7 +364,7 @@ fn put_kept_batch(out: &mut [u8], at: usize, number: u64, told: &[u8]) -> usize
 // Torque, angle, time, batch status.
 fn put_kept_end(out: &mut [u8], at: usize, told: &[u8]) -> usize
     requires { ⌜ Tellable kept-last (now told) at (length (now out)) ⌝ }
-    ensures { λ r. ⌜ FieldsPut (told-of tightening-items (now (told .entry))) 8 kept-last (now (out .entry)) at r (now (out .exit)) ⌝ }
+    ensures { λ r. ⌜ FieldsPut (told-values tightening-items (now (told .entry))) 8 kept-last (now (out .entry)) at r (now (out .exit)) ⌝ }
 {
     let at = put_number(out, at, 8, 6, text::little(told, 47, 4));
     let at = put_number(out, at, 9, 5, text::little(told, 63, 4));
@@ -374,7 +375,7 @@ fn put_kept_end(out: &mut [u8], at: usize, told: &[u8]) -> usize
 // 0065.
 fn put_kept(out: &mut [u8], at: usize, number: u64, told: &[u8]) -> usize
     requires { ⌜ Tellable (layout-0065 number .rows) (now told) at (length (now out)) ⌝ }
-    ensures { λ r. ⌜ FieldsPut (told-of tightening-items (now (told .entry))) 1 (layout-0065 number .rows) (now (out .entry)) at r
+    ensures { λ r. ⌜ FieldsPut (told-values tightening-items (now (told .entry))) 1 (layout-0065 number .rows) (now (out .entry)) at r
         (now (out .exit)) ⌝ }
 {
     let at = put_kept_batch(out, at, number, told);

@@ -6,7 +6,7 @@ use native.Mathlib.Omega.{arith}
 use Rattle.model.specs.Records.{tightening-items}
 use Rattle.model.specs.Layouts.{told}
 use Rattle.text.proofs.Puts.{put-length}
-use Rattle.frame.specs.Layout.{told-of, results}
+use Rattle.frame.specs.Layout.{told-values, results}
 use Rattle.frame.proofs.Fields.{part-length, number-then, text-then, fields-none}
 use Rattle.frame.proofs.put_batch.Statement.{statement}
 use Rattle.frame.proofs.put_batch.Tie as tie
@@ -20,7 +20,7 @@ returns c =
     let a = b .before .before .before .before .before in
     let s = a .before .before .before .before .before in
     let p = s .args .told .now in
-    let x = told-of tightening-items p in
+    let x = told-values tightening-items p in
     text-then x 4 25 told 0 (results 1 4) (part-length p 0 25 (omega arith)) refl (a .put-text .ensures)
     (number-then x 5 2 told 1 (results 2 3) (b .before .little .ensures .0) (b .put-number .ensures)
     (number-then x 6 3 told 2 (results 3 2) (d .before .little2 .ensures .0) (d .put-number2 .ensures)

@@ -3,7 +3,7 @@ use borrow.Author.Needs.{needs}
 use lib.ListN.{drop}
 use Rattle.model.specs.Records.{tightening-items}
 use Rattle.model.specs.Layouts.{kept-rows}
-use Rattle.frame.specs.Layout.{told-of, results, kept-first, kept-last}
+use Rattle.frame.specs.Layout.{told-values, results, kept-first, kept-last}
 use Rattle.frame.proofs.Fields.{fields-then}
 use Rattle.frame.proofs.put_kept.Statement.{statement}
 use Rattle.frame.proofs.put_kept.Tie as tie
@@ -14,7 +14,7 @@ returns c =
     let b = d .before .before .before .before in
     let a = b .before .before .before .before in
     let s = a .before .before .before .before in
-    let x = told-of tightening-items (s .args .told .now) in
+    let x = told-values tightening-items (s .args .told .now) in
     fields-then x 1 (kept-first (s .args .number)) (drop 3 kept-rows) (a .put-kept-batch .ensures)
     (fields-then x 5 (results 5 3) kept-last (b .put-statuses .ensures) (d .put-kept-end .ensures))
 

@@ -6,7 +6,7 @@ use native.Mathlib.Omega.{arith}
 use lib.ListN.{take, drop}
 use Rattle.model.specs.Records.{tightening-items}
 use Rattle.model.specs.Layouts.{told, kept-rows}
-use Rattle.frame.specs.Layout.{told-of}
+use Rattle.frame.specs.Layout.{told-values}
 use Rattle.frame.proofs.Fields.{part-length, known-then, number-then, text-then, fields-none}
 use Rattle.frame.proofs.put_kept_batch.Statement.{statement}
 use Rattle.frame.proofs.put_kept_batch.Tie as tie
@@ -19,7 +19,7 @@ returns c =
     let a = b .before .before .before .before .before in
     let s = a .before .before .before .before in
     let p = s .args .told .now in
-    let x = told-of tightening-items p in
+    let x = told-values tightening-items p in
     known-then x 1 10 _ (take 3 kept-rows) (a .put-number .ensures)
     (text-then x 2 25 told 0 (take 2 (drop 1 kept-rows)) (part-length p 0 25 (omega arith)) refl (b .put-text .ensures)
     (number-then x 3 3 told 2 (take 1 (drop 2 kept-rows)) (d .before .little .ensures .0) (d .put-number2 .ensures)

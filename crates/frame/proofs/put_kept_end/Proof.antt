@@ -6,7 +6,7 @@ use native.Mathlib.Omega.{arith}
 use lib.ListN.{drop}
 use Rattle.model.specs.Records.{tightening-items}
 use Rattle.model.specs.Layouts.{told, kept-rows}
-use Rattle.frame.specs.Layout.{told-of}
+use Rattle.frame.specs.Layout.{told-values}
 use Rattle.frame.proofs.Fields.{part-length, number-then, text-then, fields-none}
 use Rattle.frame.proofs.put_kept_end.Statement.{statement}
 use Rattle.frame.proofs.put_kept_end.Tie as tie
@@ -19,7 +19,7 @@ returns c =
     let a = b .before .before .before .before .before in
     let s = a .before .before .before .before .before in
     let p = s .args .told .now in
-    let x = told-of tightening-items p in
+    let x = told-values tightening-items p in
     number-then x 8 6 told 11 (drop 7 kept-rows) (a .before .little .ensures .0) (a .put-number .ensures)
     (number-then x 9 5 told 15 (drop 8 kept-rows) (b .before .little2 .ensures .0) (b .put-number2 .ensures)
     (text-then x 10 19 told 16 (drop 9 kept-rows) (part-length p 67 19 (omega arith)) refl (d .put-text .ensures)

@@ -8,7 +8,7 @@ use lib.Seq.{take-all}
 use Rattle.model.specs.Limits.{identifier-length}
 use Rattle.model.specs.Records.{scanned-items}
 use Rattle.model.specs.Layouts.{told, identifier-rows}
-use Rattle.frame.specs.Layout.{told-of}
+use Rattle.frame.specs.Layout.{told-values}
 use Rattle.frame.proofs.Fields.{text-then, blank-then, fields-none}
 use Rattle.frame.proofs.put_parts.Statement.{statement}
 use Rattle.frame.proofs.put_parts.Tie as tie
@@ -21,7 +21,7 @@ returns c =
     let a = b .before .before .before .before in
     let s = a .before .before .before .before in
     let p = s .args .told .now in
-    let x = told-of scanned-items p in
+    let x = told-values scanned-items p in
     text-then x 1 identifier-length told 0 (drop 1 identifier-rows) (s .pre .0) (sym (take-all identifier-length p (omega arith)))
     (a .put-text .ensures)
     (blank-then x 2 identifier-length (drop 2 identifier-rows) (b .put-blank .ensures)

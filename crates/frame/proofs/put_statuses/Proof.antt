@@ -6,7 +6,7 @@ use native.Mathlib.Omega.{arith}
 use mathlib.Core.List.{[]}
 use Rattle.model.specs.Records.{tightening-items}
 use Rattle.model.specs.Layouts.{told}
-use Rattle.frame.specs.Layout.{told-of, results}
+use Rattle.frame.specs.Layout.{told-values, results}
 use Rattle.frame.proofs.Fields.{number-then, fields-none}
 use Rattle.frame.proofs.put_statuses.Statement.{statement}
 use Rattle.frame.proofs.put_statuses.Tie as tie
@@ -18,7 +18,7 @@ returns c =
     let a = b .before .before .before .before .before in
     let s = a .before .before .before .before .before in
     let e : s .args .field + 1 + 1 ≡ s .args .field + 2 = omega arith in
-    let x = told-of tightening-items (s .args .told .now) in
+    let x = told-values tightening-items (s .args .told .now) in
     number-then x (s .args .field) 1 told 5 (results 6 2) (a .before .little .ensures .0) (a .put-number .ensures)
     (number-then x (s .args .field + 1) 1 told 6 (results 7 1) (b .before .little2 .ensures .0) (b .put-number2 .ensures)
     (rw e (number-then x (s .args .field + 2) 1 told 7 [] (d .before .little3 .ensures .0) (d .put-number3 .ensures)

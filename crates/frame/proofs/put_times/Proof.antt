@@ -5,7 +5,7 @@ use mathlib.Core.List.{[]}
 use native.Mathlib.Omega.{arith}
 use Rattle.model.specs.Records.{result-items}
 use Rattle.model.specs.Layouts.{told}
-use Rattle.frame.specs.Layout.{told-of, results}
+use Rattle.frame.specs.Layout.{told-values, results}
 use Rattle.frame.proofs.Fields.{part-length, number-then, text-then, fields-none}
 use Rattle.frame.proofs.put_times.Statement.{statement}
 use Rattle.frame.proofs.put_times.Tie as tie
@@ -18,7 +18,7 @@ returns c =
     let a = b .before .before .before .before .before in
     let s = a .before .before .before .before .before in
     let p = s .args .told .now in
-    let x = told-of result-items p in
+    let x = told-values result-items p in
     text-then x 20 19 told 16 (results 17 3) (part-length p 67 19 (omega arith)) refl (a .put-text .ensures)
     (text-then x 21 19 told 17 (results 18 2) (part-length p 86 19 (omega arith)) refl (b .put-text2 .ensures)
     (number-then x 22 1 told 18 (results 19 1) (d .before .little .ensures .0) (d .put-number .ensures)

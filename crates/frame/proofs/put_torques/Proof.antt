@@ -3,7 +3,7 @@ use borrow.Author.Needs.{needs}
 use mathlib.Core.List.{[]}
 use Rattle.model.specs.Records.{tightening-items}
 use Rattle.model.specs.Layouts.{told}
-use Rattle.frame.specs.Layout.{told-of, results}
+use Rattle.frame.specs.Layout.{told-values, results}
 use Rattle.frame.proofs.Fields.{number-then, fields-none}
 use Rattle.frame.proofs.put_torques.Statement.{statement}
 use Rattle.frame.proofs.put_torques.Tie as tie
@@ -15,7 +15,7 @@ returns c =
     let b = d .before .before .before .before .before in
     let a = b .before .before .before .before .before in
     let s = a .before .before .before .before .before in
-    let x = told-of tightening-items (s .args .told .now) in
+    let x = told-values tightening-items (s .args .told .now) in
     number-then x 12 6 told 8 (results 9 3) (a .before .little .ensures .0) (a .put-number .ensures)
     (number-then x 13 6 told 9 (results 10 2) (b .before .little2 .ensures .0) (b .put-number2 .ensures)
     (number-then x 14 6 told 10 (results 11 1) (d .before .little3 .ensures .0) (d .put-number3 .ensures)
