@@ -11,12 +11,16 @@ COUNT := 2000
 # a batch take ten times as long as others.
 export RT_JOBS ?= $(shell echo $$(( $$(nproc) < 4 ? $$(nproc) + 1 : 4 )))
 
+# Which old results make watch asks for, or in which revision it subscribes to results.
+FETCH :=
+REVISION :=
+
 # Where make install puts things.
 PREFIX := /usr/local
 
 help:
 	@echo "make run     proves the library, builds the host around it, and starts that with a simulated tool on 127.0.0.1:4545"
-	@echo "make watch   a small line server that shows what the host sends; in another terminal; FETCH=17 or FETCH=17-23 asks for old results"
+	@echo "make watch   a small line server, for another terminal; FETCH=17-23 asks for old results, REVISION=5 for results in revision 5"
 	@echo "make test    everything that the gate runs: layout, proofs, must-fail edits, the comparison with the implementation in C, the host"
 	@echo "make install the library for C, the host, serifladder-replay, ladder, watch, unit file and man pages, to PREFIX=$(PREFIX)"
 	@echo "make uninstall removes them"
@@ -56,7 +60,7 @@ run: host
 	  --journal $(DEMO)/journal --demo
 
 watch:
-	@exec tools/watch $(FETCH:%=--fetch %)
+	@exec tools/watch $(FETCH:%=--fetch %) $(REVISION:%=--revision %)
 
 host: tools $(ARCHIVE)
 	@$(MAKE) --silent --no-print-directory -C host

@@ -60,6 +60,12 @@ unsigned long number_at(const uint8_t *digits, size_t count)
     return strtoul(text, NULL, 10);
 }
 
+unsigned long revision_of(const uint8_t *message)
+{
+    unsigned long revision = number_at(message + 8, 3);
+    return revision == 0 ? 1 : revision;
+}
+
 bool write_all(int file, const void *bytes, size_t length)
 {
     const char *from = bytes;

@@ -69,6 +69,9 @@ bool read_number(const char *text, uint64_t greatest, uint64_t *number);
 enum { NUMBER_LENGTH = 10 }; /* of a result's number */
 unsigned long number_at(const uint8_t *digits, size_t count);
 
+/* The revision of a message or a frame, from its header: 000 and three spaces mean 1. */
+unsigned long revision_of(const uint8_t *message);
+
 /* Writes all of it, or answers false with errno. */
 bool write_all(int file, const void *bytes, size_t length);
 
@@ -266,8 +269,8 @@ void sessions_end(void); /* the host ends, in order or not */
 const struct session_state *session_state(unsigned session);
 const struct session_losses *session_losses(void);
 
-/* The number of a result, from its 0061. */
-unsigned long result_number(const uint8_t *frame, size_t length);
+/* The number of a result, from its 0061, of whichever revision. */
+unsigned long result_number(const uint8_t *frame);
 
 /* ---- tool.c: house records from a FIFO or over a Unix socket */
 void tool_open(const char *path, const struct socket_access *access);

@@ -133,7 +133,7 @@ static void send_waiting(struct link *link)
 
 /* A line for a frame: of a 0004 with the message and its error, and with the number of a 0064 that is not kept, of a 0005 with the message,
    and with the text of a 0050, of a 0061 and a 0065 with the result's number. */
-static void say_sent(const struct link *link, const uint8_t *frame, size_t length)
+static void say_sent(const struct link *link, const uint8_t *frame)
 {
     const char *text = (const char *)frame, *data = text + HEADER;
     char more[80] = "";
@@ -146,7 +146,7 @@ static void say_sent(const struct link *link, const uint8_t *frame, size_t lengt
     else if (memcmp(text + 4, "0005", 4) == 0)
         snprintf(more, sizeof more, " to %.4s", data);
     else if (memcmp(text + 4, "0061", 4) == 0)
-        snprintf(more, sizeof more, " number %lu", result_number(frame, length));
+        snprintf(more, sizeof more, " number %lu", result_number(frame));
     else if (memcmp(text + 4, "0065", 4) == 0)
         snprintf(more, sizeof more, " old result, number %lu", number_at(frame + OLD_NUMBER, NUMBER_LENGTH));
     say("session %td %s > %.4s%s", link - links, link->peer, text + 4, more);
@@ -163,7 +163,7 @@ void links_send(unsigned session, const uint8_t *frame, size_t length)
         link->failed = "64 KiB wait for it, and it does not read";
         return;
     }
-    say_sent(link, frame, length);
+    say_sent(link, frame);
     send_waiting(link);
 }
 
@@ -185,6 +185,15 @@ static bool is_message(const struct link *link)
            && (are_digits(link->run + 8, 3) || memcmp(link->run + 8, "   ", 3) == 0) && memchr("01 ", link->run[11], 3) != NULL;
 }
 
+/* A line for a message, with its revision where that is not 1. */
+static void say_received(const struct link *link)
+{
+    char more[24] = "";
+    if (revision_of(link->run) > 1)
+        snprintf(more, sizeof more, " revision %lu", revision_of(link->run));
+    say("session %td %s < %.4s%s", link - links, link->peer, (const char *)link->run + 4, more);
+}
+
 /* Keeps of the run what the next call will consume, and says which message ends with it; nothing where none ends. */
 static void note_received(struct link *link, const uint8_t *bytes, size_t length)
 {
@@ -204,7 +213,7 @@ static void note_received(struct link *link, const uint8_t *bytes, size_t length
     if (is_message(link)) {
         link->overlong = 0;
         session_said((unsigned)(link - links), link->run, link->run_length);
-        say("session %td %s < %.4s", link - links, link->peer, (const char *)link->run + 4);
+        say_received(link);
     } else {
         say("session %td %s < no message, %zu bytes", link - links, link->peer, link->run_length);
     }

@@ -9,8 +9,8 @@ enum {
     GIVEN_UP = 120,        /* so many ticks after a result was first sent it is given up */
     MESSAGE_LENGTH = 20,   /* of an acknowledge that counts */
     DATA = 20,             /* where a frame's data field begins */
-    RESULT_LENGTH = 232,   /* of a result's frame, its NUL included */
-    UNSENT_GREATEST = WAITING_GREATEST / RESULT_LENGTH + 1
+    RESULT_SHORTEST = 232, /* of a result's frame, in revision 1, its NUL included */
+    UNSENT_GREATEST = WAITING_GREATEST / RESULT_SHORTEST + 1
 };
 
 static struct session {
@@ -131,17 +131,18 @@ void session_sent(unsigned s, const uint8_t *frame, size_t length, bool waits)
         break;
     case 61:
         if (!session->state.acknowledges) {
-            session->sent[session->sent_count % UNSENT_GREATEST].number = (uint32_t)result_number(frame, length);
+            session->sent[session->sent_count % UNSENT_GREATEST].number = (uint32_t)result_number(frame);
             session->sent[session->sent_count++ % UNSENT_GREATEST].end = waits ? session->given : UINT64_MAX;
         }
         break;
     }
 }
 
-/* It stands at the end of a 0061. */
-unsigned long result_number(const uint8_t *frame, size_t length)
+/* It stands at the end of a 0061 of revision 1; from revision 2 on it is field 41, and more stands behind it. */
+unsigned long result_number(const uint8_t *frame)
 {
-    return number_at(frame + length - 1 - NUMBER_LENGTH, NUMBER_LENGTH);
+    enum { OF_REVISION_1 = 221, OF_LATER_REVISIONS = 303 };
+    return number_at(frame + (revision_of(frame) == 1 ? OF_REVISION_1 : OF_LATER_REVISIONS), NUMBER_LENGTH);
 }
 
 void sessions_result(uint32_t number, uint64_t taken)

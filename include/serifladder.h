@@ -2,7 +2,8 @@
 
    The library holds no memory, no socket and no clock of its own. The host lends a table, which keeps the four sessions from call to
    call, and the last 64 tightenings, whoever took them, for which a line server may ask by number (0064); and an output, into which a call
-   writes what is to be sent. docs/HOST.md shows how a host drives the calls.
+   writes what is to be sent. Each line server is told of tightenings in the revision of 0061 that it subscribed to, 1 to 6. docs/HOST.md
+   shows how a host drives the calls.
 
    What the caller owes:
    - every run of bytes is given as a pointer and its length, and the pointer is valid for that length (for a length of 0 too it is not
@@ -24,7 +25,7 @@ extern "C" {
 /* Sizes: what is lent has at least so many bytes. Longer runs are taken, and not touched behind them. */
 enum {
     SERIFLADDER_TABLE_SIZE = 32768,
-    SERIFLADDER_OUTPUT_SIZE = 2048,
+    SERIFLADDER_OUTPUT_SIZE = 4096,
     SERIFLADDER_ANSWER_SIZE = 32
 };
 

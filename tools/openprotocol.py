@@ -23,6 +23,7 @@ KEEP_ALIVE = 9999
 
 NEWEST = 0  # asked for as a number: the newest result that is kept
 NOT_KEPT = 15  # the error where there is none of that number
+NO_SUCH_REVISION = 97  # the error of a message whose revision the controller does not know
 NUMBER_DIGITS = 10  # of a result's number
 
 # What the error of a 0004 means.
@@ -35,9 +36,12 @@ ERRORS = {
     10: "not subscribed to results",
     NOT_KEPT: "no such result is kept",
     96: "already started",
-    97: "revision not supported",
+    NO_SUCH_REVISION: "revision not supported",
     99: "unknown message",
 }
+
+# What the torque unit of a 0061 means, from revision 3 on (000, Table 23; 8 is 004's).
+UNITS = {"1": "Nm", "2": "lbf.ft", "3": "lbf.in", "4": "kp.m", "5": "kgf.cm", "6": "ozf.in", "7": "%", "8": "Ncm"}
 
 
 def message(mid, revision=b"001", byte_12=b" ", rest=b"        ", data=b""):
@@ -64,19 +68,19 @@ class Stream:
 
 # ---- layouts: rows, and whether a field's number stands before each
 
-SPACES = "spaces"  # a row that has no value; the others are numbers and texts
+SPACES, ZEROS, ONES = b" ", b"0", b"1"  # rows that have no value: one character fills them; the others are numbers and texts
 
 
 @dataclass(frozen=True)
 class Row:
-    sort: str
+    sort: object
     width: int
     name: str  # of the field whose value it shows: what a house record has is called the same there
 
     def write(self, fields):
         if self.sort == NUMBER:
             return b"%0*d" % (self.width, fields[self.name])
-        return filled(fields[self.name] if self.sort == TEXT else b"", self.width)
+        return filled(fields[self.name], self.width) if self.sort == TEXT else self.sort * self.width
 
     def read(self, value):
         return int(value) if self.sort == NUMBER else value.decode("ascii").rstrip(" ")
@@ -112,6 +116,61 @@ class Layout:
 
 CONTROLLER = [Row(NUMBER, 4, "cell"), Row(NUMBER, 2, "channel"), Row(TEXT, TEXT_SIZE, "name")]
 
+BATCH = [Row(NUMBER, 4, "batch_size"), Row(NUMBER, 4, "batch_counter")]
+TORQUES = [Row(NUMBER, 6, name) for name in ("torque_min", "torque_max", "torque_target", "torque")]
+ANGLES = [Row(NUMBER, 5, name) for name in ("angle_min", "angle_max", "angle_target", "angle")]
+TIMES = [Row(TEXT, TIME_SIZE, "time"), Row(TEXT, TIME_SIZE, "change_time")]
+
+# 0061 from revision 2 on (000, Tables 22 to 26); what the controller's tool does not report is zeros, texts too, and the unit is Nm.
+LATER_RESULT = [
+    *CONTROLLER,
+    Row(TEXT, TEXT_SIZE, "identifier"),
+    Row(NUMBER, 4, "job"),
+    Row(NUMBER, 3, "parameter_set"),
+    Row(ZEROS, 2, "strategy"),
+    Row(ZEROS, 5, "strategy_options"),
+    *BATCH,
+    Row(NUMBER, 1, "tightening_status"),
+    Row(NUMBER, 1, "batch_status"),
+    Row(NUMBER, 1, "torque_status"),
+    Row(NUMBER, 1, "angle_status"),
+    Row(ZEROS, 1, "rundown_angle_status"),
+    Row(ZEROS, 1, "current_status"),
+    Row(ZEROS, 1, "selftap_status"),
+    Row(ZEROS, 1, "prevail_torque_status"),
+    Row(ZEROS, 1, "prevail_compensate_status"),
+    Row(ZEROS, 10, "error_status"),
+    *TORQUES,
+    *ANGLES,
+    Row(ZEROS, 5, "rundown_angle_min"),
+    Row(ZEROS, 5, "rundown_angle_max"),
+    Row(ZEROS, 5, "rundown_angle"),
+    Row(ZEROS, 3, "current_min"),
+    Row(ZEROS, 3, "current_max"),
+    Row(ZEROS, 3, "current"),
+    Row(ZEROS, 6, "selftap_min"),
+    Row(ZEROS, 6, "selftap_max"),
+    Row(ZEROS, 6, "selftap_torque"),
+    Row(ZEROS, 6, "prevail_torque_min"),
+    Row(ZEROS, 6, "prevail_torque_max"),
+    Row(ZEROS, 6, "prevail_torque"),
+    Row(NUMBER, NUMBER_DIGITS, "number"),
+    Row(ZEROS, 5, "job_sequence_number"),
+    Row(ZEROS, 5, "sync_number"),
+    Row(ZEROS, 14, "tool_serial_number"),
+    *TIMES,
+    Row(ZEROS, TEXT_SIZE, "parameter_set_name"),
+    Row(ONES, 1, "torque_unit"),
+    Row(ZEROS, 2, "result_type"),
+    Row(ZEROS, TEXT_SIZE, "identifier_part_2"),
+    Row(ZEROS, TEXT_SIZE, "identifier_part_3"),
+    Row(ZEROS, TEXT_SIZE, "identifier_part_4"),
+    Row(ZEROS, 4, "customer_error_code"),
+    Row(ZEROS, 6, "prevail_compensate_value"),
+    Row(ZEROS, 10, "error_status_2"),
+]
+LATER_COUNTS = {2: 46, 3: 49, 4: 52, 5: 53, 6: 55}  # so many of these rows has a revision
+
 # By message number and revision.
 LAYOUTS = {
     (STARTED, 1): Layout(NUMBERED, *CONTROLLER),
@@ -131,24 +190,17 @@ LAYOUTS = {
         Row(TEXT, TEXT_SIZE, "identifier"),
         Row(NUMBER, 2, "job"),
         Row(NUMBER, 3, "parameter_set"),
-        Row(NUMBER, 4, "batch_size"),
-        Row(NUMBER, 4, "batch_counter"),
+        *BATCH,
         Row(NUMBER, 1, "tightening_status"),
         Row(NUMBER, 1, "torque_status"),
         Row(NUMBER, 1, "angle_status"),
-        Row(NUMBER, 6, "torque_min"),
-        Row(NUMBER, 6, "torque_max"),
-        Row(NUMBER, 6, "torque_target"),
-        Row(NUMBER, 6, "torque"),
-        Row(NUMBER, 5, "angle_min"),
-        Row(NUMBER, 5, "angle_max"),
-        Row(NUMBER, 5, "angle_target"),
-        Row(NUMBER, 5, "angle"),
-        Row(TEXT, TIME_SIZE, "time"),
-        Row(TEXT, TIME_SIZE, "change_time"),
+        *TORQUES,
+        *ANGLES,
+        *TIMES,
         Row(NUMBER, 1, "batch_status"),
         Row(NUMBER, NUMBER_DIGITS, "number"),
     ),
+    **{(RESULT, revision): Layout(NUMBERED, *LATER_RESULT[:count]) for revision, count in LATER_COUNTS.items()},
     (OLD_RESULT, 1): Layout(
         NUMBERED,
         Row(NUMBER, NUMBER_DIGITS, "number"),
@@ -165,6 +217,9 @@ LAYOUTS = {
     ),
     (KEEP_ALIVE, 1): Layout(PLAIN),
 }
+
+
+RESULT_REVISIONS = [revision for mid, revision in LAYOUTS if mid == RESULT]
 
 
 def longest(mid):

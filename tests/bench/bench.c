@@ -199,10 +199,20 @@ static void prepare_queue(unsigned i)
         tighten(i);
 }
 
-/* A copy is due on every session at the next tick. */
-static void prepare_due(unsigned i)
+/* Four sessions, subscribed to results in revisions 1, 2, 5 and 6. */
+static void prepare_revisions(unsigned i)
 {
-    all_started(i, "00200060001         ");
+    all_started(i, NULL);
+    SEND(i, 0, "002000600011        ");
+    SEND(i, 1, "002000600021        ");
+    SEND(i, 2, "002000600051        ");
+    SEND(i, 3, "002000600061        ");
+}
+
+/* A copy is due on every session at the next tick. */
+static void due(unsigned i, const char *subscription)
+{
+    all_started(i, subscription);
     tighten(i);
     for (unsigned k = 0; k < 19; k++) {
         tick(i);
@@ -210,6 +220,9 @@ static void prepare_due(unsigned i)
             SEND(i, s, KEEP_ALIVE);
     }
 }
+
+static void prepare_due(unsigned i) { due(i, "00200060001         "); }
+static void prepare_due_6(unsigned i) { due(i, "00200060006         "); }
 
 static void run_start(unsigned i) { start(i); }
 
@@ -249,7 +262,9 @@ static const struct call_kind CALL_KINDS[] = {
     { "bytes: 0064, the oldest of 64 kept", prepare_kept, run_oldest, 8, 123 },
     { "tick, nothing open", prepare_started, run_tick, 12, 0 },
     { "tick, copies due on four sessions", prepare_due, run_tick, 1, 4 * 236 },
+    { "tick, copies due on four, revision 6", prepare_due_6, run_tick, 1, 4 * 531 },
     { "tool record to four sessions", prepare_results, run_tighten, 8, 4 * 236 },
+    { "tool record, revisions 1, 2, 5 and 6", prepare_revisions, run_tighten, 8, 236 + 390 + 511 + 531 },
     { "tool record to nobody, none kept", prepare_started, run_tighten, 8, 0 },
     { "tool record to nobody, 64 kept", prepare_kept, run_tighten, 8, 0 },
 };

@@ -1,6 +1,6 @@
 /* A peer for speed: what the bench holds the product's time against. Each call works in place on the lent table, which is a struct; a frame
-   is built once for all sessions; a held result is kept as the bytes that are sent; an 0061's are made where the memory keeps them, and an
-   0065 is put together out of those; bytes are tested and copied a word at a time.
+   is built once for all sessions; a held result is kept as the bytes that are sent in revision 1; an 0061's are made where the memory keeps
+   them, and an 0065, or an 0061 of a later revision, is put together out of those; bytes are tested and copied a word at a time.
 
    A table is well formed when its mark stands and every count is within its range. It stands any bytes as a table. */
 #include "peer.h"
@@ -12,7 +12,7 @@
 enum {
     SESSIONS = 4,
     TABLE_BYTES = 32768,
-    OUTPUT_BYTES = 2048,
+    OUTPUT_BYTES = 4096,
     ANSWER_BYTES = 32,
 
     IDLE_LIMIT = 15,
@@ -29,7 +29,9 @@ enum {
     TEXT = 25,          /* identifiers and the controller's name */
     TIME = 19,
     CONTROLLER = 37,    /* fields 01 to 03 of 0002 and 0061 */
-    RESULT = 211,       /* the data field of 0061 */
+    RESULT = 211,       /* the data field of 0061 revision 1 */
+    ALIKE = 64,         /* so much of it, fields 01 to 04, stands in every revision */
+    LONGEST = 526,      /* 0061 revision 6 */
     OLD_RESULT = 98,    /* that of 0065 */
     DIGITS = 10,        /* of a result's number, there and in 0064 */
     PARTS = 81          /* parts 2 to 4 of 0052 revision 2 */
@@ -62,7 +64,7 @@ struct IN_TABLE control {
 
 struct IN_TABLE session {
     struct control control;
-    uint8_t revision;   /* of the subscription to identifiers */
+    uint8_t revision[2]; /* of the subscriptions */
     uint8_t first;      /* the place of the open result: the results go round */
     uint16_t run_count; /* of bytes since the last NUL, at most RUN_GREATEST + 1 */
     uint8_t run[RUN_KEPT];
@@ -241,11 +243,50 @@ static uint8_t byte_12(const struct lane *lane)
     return lane->asked == NO_ACKNOWLEDGE ? '1' : '0';
 }
 
-static uint8_t *put_result(uint8_t *at, unsigned s, const struct lane *lane, const uint8_t *result)
+/* 0061 from revision 2 on. The field numbers, and the zeros where the tool reports nothing, stand in the bytes that it begins with; of
+   these a revision has as many as it is long. It stands apart, so that the compiler treats revision 1 as if it were alone. */
+static __attribute__((noinline)) uint8_t *put_later_result(uint8_t *at, unsigned s, const struct session *session, const uint8_t *result)
 {
+    static const uint16_t LENGTHS[8] = { 385, 385, 385, 419, 500, 506, LONGEST, LONGEST }; /* only 2 to 6 are asked for */
+    static const char FRAME[LONGEST + 1] =
+        "    006100          01    02  03                         04                         0500  06   07000800000"
+        "09    10    11 12 13 14 15016017018019020000000000021      22      23      24      25     26     27     28     "
+        "290000030000003100000320003300034000350000003600000037000000380000003900000040000000"
+        "41          42000004300000440000000000000045                   46                   4700000000000000000000000004814900"
+        "50000000000000000000000000051000000000000000000000000052000000000000000000000000053000054000000550000000000";
+    unsigned revision = session->revision[TIGHTENINGS] & 7, length = LENGTHS[revision];
+    at = put_record(at, length + 1, 256 + s);
+    memcpy(at, FRAME, length);
+    put_4(at, length);
+    at[10] = digit(revision);
+    at[11] = byte_12(&session->control.lane[TIGHTENINGS]);
+    memcpy(at + HEADER, result, ALIKE);
+    memcpy(at + 88, result + 66, 2);
+    memcpy(at + 92, result + 70, 3);
+    memcpy(at + 108, result + 75, 4);
+    memcpy(at + 114, result + 81, 4);
+    at[120] = result[87];
+    at[123] = result[198];
+    at[126] = result[90];
+    at[129] = result[93];
+    for (unsigned i = 0; i < 4; i++)
+        memcpy(at + 159 + 8 * i, result + 96 + 8 * i, 6);
+    for (unsigned i = 0; i < 4; i++)
+        memcpy(at + 191 + 7 * i, result + 128 + 7 * i, 5);
+    memcpy(at + 303, result + 201, DIGITS);
+    memcpy(at + 345, result + 156, TIME);
+    memcpy(at + 366, result + 177, TIME);
+    at[length] = 0;
+    return at + length + 1;
+}
+
+static inline uint8_t *put_result(uint8_t *at, unsigned s, const struct session *session, const uint8_t *result)
+{
+    if (session->revision[TIGHTENINGS] > 1)
+        return put_later_result(at, s, session, result);
     at = put_record(at, HEADER + RESULT + 1, 256 + s);
     memcpy(at, "02310061001         ", HEADER);
-    at[11] = byte_12(lane);
+    at[11] = byte_12(&session->control.lane[TIGHTENINGS]);
     memcpy(at + HEADER, result, RESULT);
     at[HEADER + RESULT] = 0;
     return at + HEADER + RESULT + 1;
@@ -254,7 +295,7 @@ static uint8_t *put_result(uint8_t *at, unsigned s, const struct lane *lane, con
 static uint8_t *put_identifier(uint8_t *at, unsigned s, const struct session *session, const uint8_t *identifier)
 {
     static const char REST[PARTS + 1] = "02                         03                         04                         ";
-    bool parts = session->revision == 2; /* and the fields are numbered */
+    bool parts = session->revision[IDENTIFIERS] == 2; /* and the fields are numbered */
     unsigned length = parts ? HEADER + 2 + TEXT + PARTS : HEADER + TEXT;
     at = put_record(at, length + 1, 256 + s);
     if (parts) {
@@ -329,10 +370,10 @@ static const uint8_t *open_notice(const struct session *session, enum kind kind)
     return kind == IDENTIFIERS ? session->identifiers[0] : session->results[session->first];
 }
 
-static uint8_t *put_open(uint8_t *at, unsigned s, const struct session *session, enum kind kind)
+static inline uint8_t *put_open(uint8_t *at, unsigned s, const struct session *session, enum kind kind)
 {
     const uint8_t *notice = open_notice(session, kind);
-    return kind == IDENTIFIERS ? put_identifier(at, s, session, notice) : put_result(at, s, &session->control.lane[kind], notice);
+    return kind == IDENTIFIERS ? put_identifier(at, s, session, notice) : put_result(at, s, session, notice);
 }
 
 /* Ends the open notice and sends the one behind it, if there is one. */
@@ -389,7 +430,7 @@ static uint8_t *offer_result(uint8_t *at, unsigned s, struct session *session, c
         lane->count += 1;
     }
     *taken |= 1u << s;
-    return lane->count > 1 ? at : put_result(at, s, lane, result);
+    return lane->count > 1 ? at : put_result(at, s, session, result);
 }
 
 /* The result is made in its number's place, which was the oldest's. */
@@ -446,13 +487,12 @@ static bool read_header(struct message *message)
 static uint8_t *subscribe(uint8_t *at, unsigned s, struct session *session, enum kind kind, const struct message *message)
 {
     struct lane *lane = &session->control.lane[kind];
-    if (message->revision > (kind == IDENTIFIERS ? 2 : 1))
+    if (message->revision > (kind == IDENTIFIERS ? 2 : 6))
         return refuse_message(at, s, message->bytes + 4, 97);
     if (lane->asked != NOTHING)
         return refuse_message(at, s, message->bytes + 4, kind == IDENTIFIERS ? 6 : 9);
     lane->asked = message->bytes[11] == '1' ? NO_ACKNOWLEDGE : ACKNOWLEDGES;
-    if (kind == IDENTIFIERS)
-        session->revision = (uint8_t)message->revision;
+    session->revision[kind] = (uint8_t)message->revision;
     return accept(at, s, message->bytes + 4);
 }
 
@@ -605,7 +645,7 @@ static uint8_t *end_run(uint8_t *at, unsigned s, struct table *table, const uint
 
 /* ---- the clock */
 
-static uint8_t *tick_lane(uint8_t *at, unsigned s, struct session *session, enum kind kind)
+static inline uint8_t *tick_lane(uint8_t *at, unsigned s, struct session *session, enum kind kind)
 {
     struct lane *lane = &session->control.lane[kind];
     if (lane->count == 0)

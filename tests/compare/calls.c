@@ -28,7 +28,7 @@
 
 enum {
     TABLE = 32768,
-    OUTPUT = 2048,
+    OUTPUT = 4096,
     ANSWER = 32,
     SPARE = 64, /* room behind each lent slice, filled with MARK */
     PIECE_GREATEST = 140000,

@@ -10,8 +10,8 @@
    be touched lie behind all that is lent, and before the table. The product's calls are made over a twin of the table too,
    which has something else where a table has no meaning: in the lanes of sessions that are not started, and in the places
    of the memory that keep nothing. They answer and write the same. Exit status 0: all so, and what is to be met was met often
-   enough: a count over its bound in a started, subscribed session and in the memory, a session with such lanes that started,
-   and an 0065 out of a memory with such places. */
+   enough: a count over its bound in a started, subscribed session and in the memory, a revision there that no 0060 asks for, a
+   session with such lanes that started, and an 0065 out of a memory with such places. */
 #define _DEFAULT_SOURCE /* MAP_ANONYMOUS */
 #include "../independent/independent.h"
 
@@ -41,12 +41,13 @@ enum {
     CALLS_ASIDE = 4,
     PAGE = 4096,
     LEAST_OVER = 1000, /* calls over a table with a count over its bound in a started, subscribed session, or in the memory */
+    LEAST_ODD = 1000,  /* calls over one in which such a session has a revision of results that no 0060 asks for */
     LEAST_NEAR = 5000, /* calls over an altered table that is well formed */
     LEAST_OLD = 300,   /* of these, answered by an 0065 */
     LEAST_TWIN = 100   /* sessions that started where the twin had other lanes, and 0065 where its memory had other places */
 };
 
-static const unsigned HELD_AT_MOST[KINDS] = { 2, 8 }, KEPT_AT_MOST = 64;
+static const unsigned HELD_AT_MOST[KINDS] = { 2, 8 }, REVISION_AT_MOST[KINDS] = { 2, 6 }, KEPT_AT_MOST = 64;
 
 /* ---- where a table's control stands, and which tables are well formed */
 
@@ -55,12 +56,13 @@ static bool kept_over_its_bound(const uint8_t *table);
 
 #ifdef PREFIX
 
-enum { USED = 12288, MARK_SIZE = 8, FIRST_SESSION = 8192, SESSION_SIZE = 1024, RUN_COUNT = 8, CONTROL_SIZE = 10, SHARED_SIZE = 81 };
+enum { USED = 12288, MARK_SIZE = 8, FIRST_SESSION = 8192, SESSION_SIZE = 1024, RUN_COUNT = 8, CONTROL_SIZE = 12, SHARED_SIZE = 81 };
 enum { LAST = 8, KEPT_COUNT = 12, MEMORY = 1024, PLACE = 106 };
-static const unsigned CONTROL[CONTROL_SIZE] = { 0, 1, RUN_COUNT, RUN_COUNT + 1, 56, 57, 58, 128, 129, 130 };
-static const unsigned SUBSCRIBED[KINDS] = { 56, 128 }, COUNT[KINDS] = { 58, 130 };
+static const unsigned CONTROL[CONTROL_SIZE] = { 0, 1, RUN_COUNT, RUN_COUNT + 1, 56, 57, 58, 64, 128, 129, 130, 136 };
+static const unsigned SUBSCRIBED[KINDS] = { 56, 128 }, COUNT[KINDS] = { 58, 130 }, REVISION[KINDS] = { 64, 136 };
 
-/* A lane begins with form, clock and count. Of a session that is not started they are to be so too, though they have no meaning. */
+/* A lane begins with form, clock and count. Of a session that is not started they are to be so too, though they have no meaning.
+   Whatever its revision is, it is well formed. */
 static bool lane_formed(const uint8_t *lane, unsigned kind)
 {
     return lane[0] <= 2 && lane[1] <= 119 && lane[2] <= HELD_AT_MOST[kind];
@@ -121,7 +123,7 @@ enum { USED = 13528, MARK_SIZE = 8, FIRST_SESSION = 66, SESSION_SIZE = 1797, RUN
 enum { LAST = 37, KEPT_COUNT = 7254, OLDEST = 7255, MEMORY = 7256, PLACE = 98 };
 enum { TEXT = 25, RESULT = 211 };
 static const unsigned CONTROL[CONTROL_SIZE] = { 0, 1, RUN_COUNT, RUN_COUNT + 1, 49, 50, 51, 52, 53, 54, 55, 56, 57, 58 };
-static const unsigned SUBSCRIBED[KINDS] = { 49, 54 }, COUNT[KINDS] = { 52, 57 };
+static const unsigned SUBSCRIBED[KINDS] = { 49, 54 }, COUNT[KINDS] = { 52, 57 }, REVISION[KINDS] = { 51, 56 };
 
 static bool is_text(const uint8_t *bytes, size_t count)
 {
@@ -138,7 +140,7 @@ static bool subscription_formed(const uint8_t *part, unsigned kind, bool started
         return false;
     if (part[0] == 0)
         return part[1] == 0 && part[2] == 0 && part[3] == 0 && part[4] == 0;
-    return started && part[2] >= 1 && part[2] <= 2 - kind && (part[1] == 0 || part[3] == 0)
+    return started && part[2] >= 1 && part[2] <= REVISION_AT_MOST[kind] && (part[1] == 0 || part[3] == 0)
         && (part[3] > 0 || part[4] == 0);
 }
 
@@ -194,12 +196,22 @@ static bool count_over_its_bound(const uint8_t *table)
     return false;
 }
 
+static bool revision_odd(const uint8_t *table)
+{
+    for (unsigned s = 0; s < SESSIONS; s++) {
+        const uint8_t *session = table + FIRST_SESSION + s * SESSION_SIZE, revision = session[REVISION[1]];
+        if (session[0] == 2 && session[SUBSCRIBED[1]] != 0 && (revision < 1 || revision > REVISION_AT_MOST[1]))
+            return true;
+    }
+    return false;
+}
+
 /* ---- the calls */
 
 static uint8_t *table, *output, *answer, *given; /* what is lent */
 static uint8_t before[TABLE], output_before[OUTPUT], kept[TABLE];
 static uint64_t dice;
-static unsigned long numbers[11], aside_count, over_count, kept_over_count, near_count, old_count;
+static unsigned long numbers[11], aside_count, over_count, kept_over_count, odd_count, near_count, old_count;
 
 static unsigned roll(unsigned below)
 {
@@ -305,12 +317,12 @@ static struct asked a_fetch(void)
 static struct asked a_message(uint64_t session)
 {
     static const char *const MESSAGES[] = {
-        "00200001001         ", "00200051002         ", "002000600010        ",
+        "00200001001         ", "00200051002         ", "002000600010        ", "002000600060        ",
         "00200062            ", "00200053            ", "00209999            ",
         "00300050            ABCDEFGHIJ", "00200003            ", "00200063            ", "0020",
     };
     bool starts = table[FIRST_SESSION + session * SESSION_SIZE] == 1 && roll(4) > 0;
-    const char *text = MESSAGES[starts ? 0 : roll(10)];
+    const char *text = MESSAGES[starts ? 0 : roll(sizeof MESSAGES / sizeof *MESSAGES)];
     return (struct asked){ BYTES, session, (const uint8_t *)text, strlen(text) + (starts || roll(2)) };
 }
 
@@ -364,6 +376,13 @@ static void spoil_run(uint8_t *session)
         session[RUN_COUNT + 2 + roll(45)] = 0;
 }
 
+/* A revision of results at an edge. */
+static void spoil_revision(uint8_t *session)
+{
+    static const uint8_t REVISIONS[] = { 0, 1, 2, 3, 4, 5, 6, 7, 8, 255 };
+    session[REVISION[1]] = REVISIONS[roll(sizeof REVISIONS)];
+}
+
 /* A count of the memory at an edge, or what stands behind it (the independent one's place of the oldest), or a last number that
    may be below it. */
 static void spoil_memory(void)
@@ -379,7 +398,7 @@ static void spoil_memory(void)
 /* Another value for a byte: near its own, at an edge of what controls and texts hold, or any. */
 static uint8_t another(uint8_t byte)
 {
-    static const uint8_t EDGES[] = { 0, 1, 2, 3, 8, 9, 14, 15, 16, 17, 31, 32, 39, 40, 63, 64, 65, 99, 100, 119, 120, 126, 127, 255 };
+    static const uint8_t EDGES[] = { 0, 1, 2, 3, 6, 7, 8, 9, 14, 15, 16, 17, 31, 32, 39, 40, 63, 64, 65, 99, 100, 119, 120, 126, 127, 255 };
     switch (roll(4)) {
     case 0:
         return (uint8_t)roll(256);
@@ -390,8 +409,8 @@ static uint8_t another(uint8_t byte)
     }
 }
 
-/* Mostly a byte of a session's control; else one of what all share, the memory's control, a run, or any byte that is used;
-   seldom everything, or everything but the mark. */
+/* Mostly a byte of a session's control; else one of what all share, the memory's control, a run, a revision, or any byte that is
+   used; seldom everything, or everything but the mark. */
 static void spoil(void)
 {
     unsigned sort = roll(200);
@@ -402,12 +421,14 @@ static void spoil(void)
     }
     for (unsigned i = roll(3) + 1; i > 0; i--) {
         uint8_t *session = table + FIRST_SESSION + roll(SESSIONS) * SESSION_SIZE;
-        unsigned where = roll(14);
+        unsigned where = roll(15);
         uint8_t *byte = where == 0 ? table + roll(USED) : where == 1 ? table + roll(SHARED_SIZE) : session + CONTROL[roll(CONTROL_SIZE)];
         if (where == 2)
             spoil_run(session);
         else if (where == 3 || where == 4)
             spoil_memory();
+        else if (where == 5)
+            spoil_revision(session);
         else
             *byte = another(*byte);
     }
@@ -482,6 +503,7 @@ static void aside(const struct asked *asked)
         struct asked call = i == 0 && asked->what != START ? *asked : any_call();
         over_count += count_over_its_bound(table);
         kept_over_count += kept_over_its_bound(table);
+        odd_count += revision_odd(table);
         near_count += table_formed(table);
         aside_count += 1;
         checked_call(&call);
@@ -511,9 +533,9 @@ int main(void)
     given = fenced(2 * PAYLOAD_GREATEST);
     serve_input(serve_history);
     printf("garbage: %lu calls over altered tables: %lu of them well formed, %lu with a count over its bound in a\n"
-           "started, subscribed session, %lu with one in the memory, %lu answered by an 0065; in all %lu done, %lu answered 2,\n"
-           "%lu answered 5 or 6, no crash\n",
-           aside_count, near_count, over_count, kept_over_count, old_count, numbers[0], numbers[2], numbers[5] + numbers[6]);
-    return !twins_enough() || over_count < LEAST_OVER || kept_over_count < LEAST_OVER || near_count < LEAST_NEAR
-        || old_count < LEAST_OLD;
+           "started, subscribed session, %lu with one in the memory, %lu with a revision of results other than 1 to 6,\n"
+           "%lu answered by an 0065; in all %lu done, %lu answered 2, %lu answered 5 or 6, no crash\n",
+           aside_count, near_count, over_count, kept_over_count, odd_count, old_count, numbers[0], numbers[2], numbers[5] + numbers[6]);
+    return !twins_enough() || over_count < LEAST_OVER || kept_over_count < LEAST_OVER || odd_count < LEAST_ODD
+        || near_count < LEAST_NEAR || old_count < LEAST_OLD;
 }

@@ -97,6 +97,7 @@ static uint64_t tighten(size_t length)
 static void sizes(void)
 {
     expect("the table's size", SERIFLADDER_TABLE_SIZE, 32768);
+    expect("the output's size", SERIFLADDER_OUTPUT_SIZE, 4096);
     uint8_t settings[SERIFLADDER_RECORD_HEADER + SETTINGS_PAYLOAD];
     write_header(settings, SETTINGS_PAYLOAD, SERIFLADDER_SETTINGS);
     memset(settings + 8, ' ', 25);
@@ -118,6 +119,22 @@ static void sizes(void)
            SERIFLADDER_OUTPUT_SHORT);
     expect("tick, output", serifladder_tick(TABLE, output, SERIFLADDER_OUTPUT_SIZE - 1, ANSWER), SERIFLADDER_OUTPUT_SHORT);
     expect("record, output", serifladder_record(TABLE, output, SERIFLADDER_OUTPUT_SIZE - 1, settings, 1, ANSWER), SERIFLADDER_OUTPUT_SHORT);
+}
+
+/* A server that subscribes to results in the greatest revision there is, and one that asks for a greater. */
+static void revisions(void)
+{
+    static const char STARTED[] = "00200001001         ", LAST[] = "00200060006         ", NONE[] = "00200060007         ";
+    const uint64_t frame = 526 + 1; /* with its NUL */
+    expect("the start", start(0, 0), SERIFLADDER_DONE);
+    expect("an open", serifladder_open(TABLE, OUTPUT, 0, ANSWER), SERIFLADDER_DONE);
+    expect("0001", bytes(0, STARTED, sizeof STARTED), SERIFLADDER_DONE);
+    expect_answer("0060 in revision 7", bytes(0, NONE, sizeof NONE), SERIFLADDER_DONE, sizeof NONE, SERIFLADDER_RECORD_HEADER + 27, 0);
+    expect("its answer", memcmp(output + SERIFLADDER_RECORD_HEADER, "00260004001         006097", 27), 0);
+    expect_answer("0060 in revision 6", bytes(0, LAST, sizeof LAST), SERIFLADDER_DONE, sizeof LAST, SERIFLADDER_RECORD_HEADER + 25, 0);
+    expect_answer("a tightening", tighten(SERIFLADDER_RECORD_HEADER + TIGHTENING_PAYLOAD), SERIFLADDER_DONE, 0,
+                  SERIFLADDER_RECORD_HEADER + frame, 1);
+    expect_record("0061 in revision 6", SERIFLADDER_FRAME, frame);
 }
 
 /* The calls in a short history, on the highest session. */
@@ -164,6 +181,7 @@ int main(void)
     table[SERIFLADDER_TABLE_SIZE] = output[SERIFLADDER_OUTPUT_SIZE] = answer[SERIFLADDER_ANSWER_SIZE] = MARK;
     sizes();
     history();
+    revisions();
     expect("behind the table", table[SERIFLADDER_TABLE_SIZE], MARK);
     expect("behind the output", output[SERIFLADDER_OUTPUT_SIZE], MARK);
 #ifdef __cplusplus

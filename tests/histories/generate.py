@@ -28,9 +28,12 @@ LONG_EVERY = 25  # of as many seeds one gives a history three times as long, in 
 KNOWN = (1, 3, 50, 51, 53, 54, 60, 62, 63, 64, 9999)
 OTHERS = (0, 2, 4, 5, 6, 10, 49, 52, 55, 59, 61, 65, 66, 70, 71, 72, 73, 100, 999, 1001,
           1234, 5000, 5001, 5100, 6000, 9990, 9998)
-REVISIONS = (b"001", b"000", b"   ", b"002", b"003", b"004", b"010", b"011", b"100", b"101",
+REVISIONS = (b"001", b"000", b"   ", b"002", b"003", b"006", b"007", b"010", b"011", b"100", b"101",
              b"200", b"257", b"999")
 GOOD_REVISIONS = (b"001", b"001", b"000", b"   ")
+RESULT_REVISIONS = (b"001", b"002", b"003", b"004", b"005", b"006")  # that 0060 may ask for
+TOO_HIGH = {51: (b"003", b"003", b"004", b"257", b"258", b"999"),
+            60: (b"007", b"007", b"007", b"008", b"009", b"010", b"257", b"258", b"262", b"998", b"999")}
 BAD_REVISIONS = (b"0  ", b"  1", b"00 ", b" 01", b"1  ", b"0 1", b"00a", b"/00", b"00:", b"-01",
                  b"\xb0\xb01", b"  \x1f")
 NO_DIGITS = (0x20, 0x2F, 0x3A, 0x3B, 0x3C, 0x3D, 0x3E, 0x3F, 0x2B, 0x2D, 0x41, 0xB0, 0x1F)
@@ -243,14 +246,21 @@ class History:
             session.started = True
             session.silent = 0
 
+    def good_revision(self, mid):
+        """One that a subscription may ask for: of results all six, and revision 1 in each way of writing it."""
+        if mid == 60 and self.chance(0.75):
+            return self.pick(RESULT_REVISIONS)
+        return self.pick(GOOD_REVISIONS if mid == 60 else GOOD_REVISIONS + (b"002", b"002"))
+
     def subscribe(self, s, mid, free=None):
         if free is None:
             free = self.chance(0.2)
         twelve = b"1" if free else self.pick((b"0", b" "))
-        revision = self.pick(GOOD_REVISIONS if mid == 60 else GOOD_REVISIONS + (b"002", b"002"))
         if self.chance(0.05):  # first one that may be too high
             self.send(s, message(mid, self.any_revision(), twelve, self.rest()))
-        self.send(s, message(mid, revision, twelve, self.rest()))
+        if self.chance(0.08):  # or that surely is
+            self.send(s, message(mid, self.pick(TOO_HIGH[mid]), twelve, self.rest()))
+        self.send(s, message(mid, self.good_revision(mid), twelve, self.rest()))
 
     def acknowledge(self, s, mid=None):
         mid = mid or self.pick((62, 62, 53))
@@ -553,7 +563,7 @@ class History:
             self.open(s)
         mid = self.pick((1, 3, 50, 50, 51, 53, 54, 60, 62, 63, 64, 64, 9999))
         for _ in range(self.between(3, 9)):
-            size = self.pick((0, 0, 1, 2, 24, 25, 26))
+            size = self.pick((0, 0, 1, 2, 24, 25, 26, 26))
             data = self.data(size) if mid != 64 or self.chance(0.2) else (self.asked_digits() * 2)[:self.pick((9, 10, 10, 11))]
             self.send(s, message(mid, self.pick(REVISIONS), self.twelve(), data=data))
         self.flush(s)
@@ -707,18 +717,24 @@ class History:
         self.bring_up(s)
         self.event()
 
-    def all_anew(self):
-        """All four links made anew, subscribed to identifiers in revision 2 and to tightenings, with acknowledges."""
+    def all_anew(self, revisions):
+        """All four links made anew, subscribed to identifiers in revision 2 and to tightenings in these, with acknowledges."""
         self.manner = "whole"
-        for s in range(4):
+        for s, revision in enumerate(revisions):
             self.hang_up(s)
             self.open(s)
             self.begin(s)
-            self.send(s, message(51, b"002") + message(60))
+            self.send(s, message(51, b"002") + message(60, revision))
+
+    def some_revisions(self):
+        """For each of the four sessions one; mostly no two are alike."""
+        if self.chance(0.2):
+            return [self.good_revision(60) for _ in range(4)]
+        return self.random.sample(RESULT_REVISIONS, 4)
 
     def fullest(self):
         """As much output as a call can have: a 0050 and a tightening that go to all, and two copies to each."""
-        self.all_anew()
+        self.all_anew(4 * [b"006"])
         self.send(self.between(0, 3), message(50, data=self.text().replace(b" ", b".")))
         self.tightening()
         self.watch(self.pick((19, 20, 20, 21, 41)))
@@ -726,9 +742,35 @@ class History:
             for s in range(4):
                 self.acknowledge(s, self.pick((53, 62)))
 
+    def revisions(self):
+        """Results in several revisions at once: sent, sent again, and sent when they have waited; one subscription changes on the way."""
+        self.all_anew(self.some_revisions())
+        changing = self.between(0, 3)
+        for _ in range(self.between(1, 4)):
+            self.tightening()
+        if self.chance(0.4):
+            self.watch(self.pick((19, 20, 21)))
+        for _ in range(self.between(2, 10)):
+            sort = self.random.random()
+            if sort < 0.5:
+                self.acknowledge(self.between(0, 3), 62)
+            elif sort < 0.75:
+                self.event()
+            elif sort < 0.85:
+                self.tick()
+            else:
+                self.change_revision(changing)
+
+    def change_revision(self, s):
+        """Results unsubscribed and subscribed to anew, mostly in another revision; between the two one may come."""
+        self.send(s, message(63, self.pick(REVISIONS), self.twelve()))
+        if self.chance(0.3):
+            self.tightening()
+        self.subscribe(s, 60)
+
     def all_given_up(self):
         """Eight tightenings and two identifiers, none of them acknowledged: one after the other is given up."""
-        self.all_anew()
+        self.all_anew(self.some_revisions())
         for _ in range(self.between(8, 10)):
             self.tightening()
         for _ in range(self.between(1, 3)):
@@ -778,7 +820,7 @@ class History:
 
     def numbers_end(self):
         """The last number runs up to its end; bad records then too."""
-        self.start(last=GREATEST_NUMBER - self.between(0, 4))
+        self.start(last=GREATEST_NUMBER - self.pick((0, 0, 1, 2, 3, 4)))
         self.bring_up_some()
         for _ in range(self.between(4, 10)):
             sort = self.random.random()
@@ -854,9 +896,9 @@ class History:
 
     STRETCHES = (
         (10, "long_watch"), (10, "steady"), (6, "flood"), (6, "identifiers"), (9, "chatter"),
-        (6, "ladder"), (4, "bad_records"), (10, "lifecycle"), (7, "resubscribe"), (1.5, "long_run"),
+        (6, "ladder"), (4, "bad_records"), (10, "lifecycle"), (7, "resubscribe"), (2.5, "long_run"),
         (7, "idle_edge"), (4, "time_out_in_step"), (4, "unstarted"), (1.5, "second_start"),
-        (1, "numbers_end"), (2, "fullest"), (6, "old_results"), (3, "more_than_kept"),
+        (1.5, "numbers_end"), (2, "fullest"), (6, "old_results"), (3.5, "more_than_kept"), (4, "revisions"),
     )
 
     def make(self):

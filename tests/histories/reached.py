@@ -3,9 +3,9 @@
 
     reached.py PROGRAM [--count N] [--first-seed N]
 
-What was sent is read off the records. What a tick gave up, and how 0064 was answered, is read
-off the lines of a test program, which is given a hang-up of session 15 behind each record:
-'R 4' ends its lines."""
+What was sent is read off the records. What a tick gave up, in which revisions results went out,
+and how 0060 and 0064 were answered, is read off the lines of a test program, which is given a
+hang-up of session 15 behind each record: 'R 4' ends its lines."""
 
 import argparse
 import collections
@@ -14,11 +14,18 @@ import subprocess
 
 import generate  # which puts tools on the path
 from house_records import BYTES, GREATEST_NUMBER, HANG_UP, OPEN, PAYLOADS, SCANNED, SETTINGS, TICK, TIGHTENING, fields_of, record, split
+from openprotocol import LAYOUTS, RESULT
 
 MARKER = record(HANG_UP + 15)
 NO_DIGITS = b"/:;<=>?"
 GIVEN_UP_WHOLE = 7  # of eight held seven are sent when the one before them is given up, within 840 ticks
 KEPT = 64  # tightenings
+
+
+def result_in(line):
+    """Of a line that shows an 0061: its session, its revision and its number."""
+    found = re.match(r"(\d) S \d{4}0061(\d{3})", line)
+    return found and (int(found[1]), int(found[2]), int(line[4:][LAYOUTS[RESULT, int(found[2])].places["number"]]))
 
 
 class Reached:
@@ -123,7 +130,7 @@ class Memory:
         elif BYTES <= record_kind < BYTES + 4:
             self.bytes(record_kind, payload, lines)
         for line in lines:
-            if re.match(r"\d S 02310061", line) and int(line[-10:]) <= self.last - KEPT:
+            if (result := result_in(line)) and result[2] <= self.last - KEPT:
                 self.times["0061 of a tightening that is kept no more"] += 1
 
     def tightened(self, payload):
@@ -178,6 +185,77 @@ class Memory:
                    asked > GREATEST_NUMBER and (wrapped == 0 or wrapped > self.last - self.kept()) and wrapped <= self.last)
 
 
+class Revisions:
+    """In which revisions a history's results were sent, and how subscriptions to them changed. `times` counts it."""
+
+    def __init__(self, times):
+        self.times = times
+        self.begin(0)
+
+    def begin(self, last):
+        self.last, self.newest = last, collections.Counter()  # the last number, and the newest that was sent to each session
+        self.sent = collections.defaultdict(bytes)
+        self.asked, self.ended = {}, {}  # by session: the revision and the last number when it was asked for; what was ended
+
+    def record(self, record_kind, payload, lines):
+        done = not any(line.startswith("R ") for line in lines)
+        if record_kind == SETTINGS and done:
+            self.begin(fields_of(record_kind, payload)["last"])
+        self.last += record_kind == TIGHTENING and done
+        if OPEN <= record_kind < BYTES and done:
+            self.forget(record_kind % 16)
+        self.results(record_kind, [result for line in lines if (result := result_in(line))])
+        if BYTES <= record_kind < BYTES + 4:
+            self.bytes(record_kind - BYTES, payload, lines)
+        for line in lines:
+            if re.match(r"\d C|\d S 00240005.{12}0003", line):
+                self.forget(int(line[0]))
+
+    def forget(self, s):
+        for kept in (self.sent, self.asked, self.ended):
+            kept.pop(s, None)
+
+    def results(self, record_kind, results):
+        """A result that is sent for the first time by another record than its own has waited."""
+        for s, revision, number in results:
+            self.times["0061 in revision %d" % revision] += 1
+            waited = record_kind != TIGHTENING and number > self.newest[s]
+            self.times["0061 of a result that waited, in revision %d" % revision] += waited
+            self.times["0061 once more, in revision %d" % revision] += record_kind == TICK and not waited
+            self.newest[s] = number
+        together = len({revision for _, revision, _ in results})
+        if together > 1:
+            self.times["a call that sends 0061 in %d revisions" % together] += 1
+
+    def bytes(self, s, payload, lines):
+        *runs, self.sent[s] = (self.sent[s] + payload).split(b"\0")
+        asked = [run for run in runs if len(run) >= 20 and re.match(rb"\d{4}006[03](\d{3}|   )[01 ]", run)]
+        replies = [line for line in lines if re.match(r"\d S \d{4}000[45].{12}006[03]", line)]
+        for run, line in zip(asked, replies) if len(asked) == len(replies) else ():
+            revision = int(run[8:11].replace(b"   ", b"001")) or 1
+            if line[8:12] == "0004":
+                self.refused(revision, line[-6:])
+            elif run[4:8] == b"0063":
+                self.unsubscribed(s)
+            else:
+                self.subscribed(s, revision)
+
+    def refused(self, revision, said):
+        if said == "006097":
+            self.times["0060 gets 97 in %s" % ("revision %d" % revision if revision in (7, 8, 998, 999) else "another revision")] += 1
+
+    def unsubscribed(self, s):
+        """The newest result came when there was a subscription, and was not sent: so some wait."""
+        revision, last = self.asked.pop(s, (0, self.last))
+        self.ended[s] = revision, self.last > max(last, self.newest[s])
+
+    def subscribed(self, s, revision):
+        self.asked[s] = revision, self.last
+        before, waiting = self.ended.pop(s, (revision, False))
+        self.times["results subscribed to anew in another revision"] += before not in (0, revision)
+        self.times["results subscribed to anew in another revision, some had waited"] += before not in (0, revision) and waiting
+
+
 def groups_of(program, records):
     """Each record with its lines. Records to sessions that there are not are left out: they print what the marker does."""
     records = [(record_kind, payload) for record_kind, payload in records if not (16 <= record_kind < 64 and record_kind % 16 > 3)]
@@ -202,13 +280,14 @@ def main():
         groups = list(groups_of(options.program, records))
         reached.identifiers(groups)
         reached.given_up(groups)
-        memory = Memory(reached.times)
+        memory, revisions = Memory(reached.times), Revisions(reached.times)
         for group in groups:
             memory.record(*group)
+            revisions.record(*group)
     for what, values in sorted(reached.seen.items()):
-        print("%-60s %d" % (what, len(values)))
+        print("%-64s %d" % (what, len(values)))
     for what, times in sorted(reached.times.items()):
-        print("%-60s %d times" % (what, times))
+        print("%-64s %d times" % (what, times))
     print("reached: %d histories" % options.count)
 
 

@@ -77,7 +77,7 @@ def what_a_table_holds_is_drawn(place):
     """A result that stands open and a run that was begun in parts that are gone: its copies are counted on, and the run's bytes too. What
     the table has of the subscriptions of a server that was stopped counts for nothing."""
     host = place.host("--journal-size", 60, "--journal-keep", 1000, tick=int(harness.FAST_TICK * 1000))
-    server, other = place.server(host).subscribe(), place.server(host).start()
+    server, other = place.server(host).subscribe(revision=4), place.server(host).start()
     stopped = place.server(host).subscribe()
     other.send(b"0020")
     place.tool().tighten(tightening_fields(1), "0 2")

@@ -134,15 +134,24 @@ def done(taken_by, number):
     return "0 done, taken by %s, number %d" % (taken_by, number)
 
 
-def result_fields(fields, number):
-    """What a 0061 has to say of that tightening."""
-    return {**CONTROLLER, **fields, "number": number}
+# What a 0061 says from revision 2 on of which the tool says nothing.
+NOT_REPORTED = {row.name: row.write({}).decode() for row in openprotocol.LATER_RESULT
+                if row.sort in (openprotocol.ZEROS, openprotocol.ONES)}
+
+
+def told_fields(layout, fields, number):
+    told = {**CONTROLLER, **NOT_REPORTED, **fields, "number": number}
+    return {row.name: told[row.name] for row in layout.rows}
+
+
+def result_fields(fields, number, revision=1):
+    """What a 0061 of that revision has to say of that tightening."""
+    return told_fields(openprotocol.LAYOUTS[openprotocol.RESULT, revision], fields, number)
 
 
 def old_fields(fields, number):
     """What a 0065 has to say of it."""
-    told = result_fields(fields, number)
-    return {row.name: told[row.name] for row in openprotocol.LAYOUTS[openprotocol.OLD_RESULT, 1].rows}
+    return told_fields(openprotocol.LAYOUTS[openprotocol.OLD_RESULT, 1], fields, number)
 
 
 # ---- the programs of a test
@@ -310,6 +319,7 @@ class Server(Link):
         self.open = True
         self.reads_all = True
         self.fences = 0
+        self.revision = 1  # of the results that it has subscribed to
 
     def take(self):
         """Takes what has come, or waits for it; False at the end."""
@@ -338,7 +348,7 @@ class Server(Link):
         return frame.fields
 
     def expect_result(self, fields, number):
-        equal(self.expect(openprotocol.RESULT), result_fields(fields, number), "result")
+        equal(self.expect(openprotocol.RESULT, self.revision), result_fields(fields, number, self.revision), "result")
 
     def fetch(self, number=openprotocol.NEWEST):
         """The fields of the old result of that number; None where it is not kept."""
@@ -362,12 +372,17 @@ class Server(Link):
         equal(self.expect(openprotocol.STARTED), CONTROLLER, "0002")
         return self
 
-    def subscribe(self, acknowledge=True):
-        """Starts, and subscribes to identifiers and results."""
+    def subscribe(self, acknowledge=True, revision=1):
+        """Starts, and subscribes to identifiers, and to results in that revision."""
+        byte_12 = b"0" if acknowledge else b"1"
         self.start()
-        for mid in (openprotocol.SUBSCRIBE_IDENTIFIERS, openprotocol.SUBSCRIBE_RESULTS):
-            self.accepted(mid, byte_12=b"0" if acknowledge else b"1")
+        self.accepted(openprotocol.SUBSCRIBE_IDENTIFIERS, byte_12=byte_12)
+        self.subscribe_results(revision, byte_12=byte_12)
         return self
+
+    def subscribe_results(self, revision=1, **more):
+        self.accepted(openprotocol.SUBSCRIBE_RESULTS, revision=b"%03d" % revision, **more)
+        self.revision = revision
 
     def fence(self):
         """The runs that come before the mirror of a 9999 that is sent now: what the host had to send, it has sent."""

@@ -63,7 +63,7 @@ class Play:
         mid = self.source.choice([1, 50, 51, 51, 53, 53, 60, 60, 60, 62, 62, 62, 62, 54, 63, 64, 64, 9999, 9999, 1234])
         data = b"NET" if mid == 50 else b"%010d" % self.source.randrange(self.number + 3) if mid == 64 else b""
         with contextlib.suppress(ConnectionError):
-            server.tell(mid, revision=b"00%c" % self.source.choice(b"1112"), byte_12=b"%c" % self.source.choice(b"  1"), data=data)
+            server.tell(mid, revision=b"00%c" % self.source.choice(b"11122567"), byte_12=b"%c" % self.source.choice(b"  1"), data=data)
 
     def fall_silent(self):
         """One of them says nothing more until the host closes it, while the others speak on."""
@@ -129,7 +129,7 @@ class Play:
                  re.findall(r"Z session \d [0-9.]+:(\d+): result (\d+) ([a-z ,]+): ", self.host.log())}
         counts = collections.Counter()
         for server, number in self.taken():
-            copies = sum(run[4:8] == b"0061" and int(run[-10:]) == number for run in server.seen)
+            copies = sum(run[4:8] == b"0061" and openprotocol.read(run).fields["number"] == number for run in server.seen)
             how = lines.get((server.port, number))
             counts[how] += 1
             unread = not server.reads_all and copies == 0

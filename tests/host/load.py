@@ -5,17 +5,19 @@ import select
 import harness
 from harness import InTime, Wrong, check, done, equal, in_memory, openprotocol, result_fields, test, tightening_fields, tightening_record
 
+REVISIONS = (1, 2, 5, 6)  # of the results, one for each server
+
 # A session keeps eight results; one acknowledge of a server may be on its way, so that seven may be without one.
 WINDOW = 7
 
 
 def drive(place, count):
-    """Four servers: each result is to arrive at each of them once, in order, and as the tool gave it."""
+    """Four servers, each in its revision: each result is to arrive at each of them once, in order, and as the tool gave it."""
     host = place.host(tick=None)  # a tick a second, as in earnest
     tool = place.tool()
-    servers = [place.server(host).start() for _ in range(4)]
-    for server in servers:
-        server.accepted(openprotocol.SUBSCRIBE_RESULTS)
+    servers = [place.server(host).start() for _ in REVISIONS]
+    for server, revision in zip(servers, REVISIONS):
+        server.subscribe_results(revision)
     begin = [len(server.seen) for server in servers]
     by_link = {server.link: server for server in servers}
     given = answered = 0
@@ -53,7 +55,7 @@ def drive(place, count):
         doubled += len(numbers) - len(set(numbers))
         if not lost and not doubled:
             for i, result in enumerate(results, 1):
-                equal(result, result_fields(tightening_fields(i), i), "result %d" % i)
+                equal(result, result_fields(tightening_fields(i), i, server.revision), "result %d" % i)
     place.said.append("%d results sent to each of 4 servers, lost %d, doubled %d" % (count, lost, doubled))
     if lost or doubled:
         raise Wrong(place.said[-1])
@@ -62,7 +64,7 @@ def drive(place, count):
 @test
 @in_memory
 def load(place):
-    """Results to four servers as fast as they are acknowledged."""
+    """Results to four servers, each in another revision, as fast as they are acknowledged."""
     drive(place, place.count)
 
 

@@ -58,6 +58,39 @@ def a_result_waits_for_the_acknowledge_before_it(place):
     place.finish(host, [slow, quick])
 
 
+# The bytes of a 0061 in each revision, and where each has its number.
+LENGTHS = {1: 231, 2: 385, 3: 419, 4: 500, 5: 506, 6: 526}
+NUMBERS = {revision: slice(303, 313) if revision > 1 else slice(221, 231) for revision in LENGTHS}
+
+
+@test
+def servers_in_different_revisions(place):
+    """Each is told of a result in the revision that it subscribed to, whatever the others have, and acknowledges it for itself. A revision
+    that there is not gets 97 and changes nothing. One that subscribes anew gets the revision that it asks for then."""
+    host = place.host()
+    tool = place.tool()
+    servers = [place.server(host).subscribe(acknowledge=revision != 4, revision=revision) for revision in (1, 2, 3, 4)]
+    number = 0
+    for revisions in ((1, 2, 3, 4), (5, 6, 5, 1)):
+        for server, revision in zip(servers, revisions):
+            if server.revision != revision:
+                server.accepted(openprotocol.UNSUBSCRIBE_RESULTS)
+                for none in (b"007", b"998", b"999"):
+                    server.tell(openprotocol.SUBSCRIBE_RESULTS, revision=none)
+                    equal(server.expect(openprotocol.REFUSED), {"mid": 60, "error": openprotocol.NO_SUCH_REVISION}, "answer to %r" % none)
+                server.subscribe_results(revision)
+        for _ in range(3):
+            number += 1
+            equal(tool.tighten(tightening_fields(number), "0 1 2 3"), number, "number")
+            for server, revision in zip(servers, revisions):
+                server.expect_result(tightening_fields(number), number)
+                run = server.seen[-1]
+                equal((len(run), int(run[NUMBERS[revision]])), (LENGTHS[revision], number), "length and number in revision %d" % revision)
+                server.tell(openprotocol.ACKNOWLEDGE_RESULT)
+                equal(server.fence(), [], "something besides")
+    place.finish(host, servers)
+
+
 @test
 def an_identifier_over_the_net(place):
     """An identifier that one server downloads reaches all, its sender included, and stands in the next result."""
@@ -78,24 +111,27 @@ def an_identifier_over_the_net(place):
 @test
 @in_memory
 def a_notice_that_is_not_acknowledged(place):
-    """It is repeated byte for byte, six copies in all, while keep-alives go on; then the next is sent."""
+    """It is repeated byte for byte, six copies in all, in whichever revision, while keep-alives go on; then the next is sent."""
     tick = harness.FAST_TICK
     host = place.host(tick=int(tick * 1000))
     tool = place.tool()
-    server = place.server(host).start()
-    server.accepted(openprotocol.SUBSCRIBE_RESULTS)
-    tool.tighten(tightening_fields(1), "0")
-    tool.tighten(tightening_fields(2), "0")
+    servers = [place.server(host).start() for _ in range(2)]
+    for server, revision in zip(servers, (1, 6)):
+        server.subscribe_results(revision)
+    tool.tighten(tightening_fields(1), "0 1")
+    tool.tighten(tightening_fields(2), "0 1")
     before = place.ticks()
-    runs, in_time = [], InTime("123 ticks", more=200 * tick)
+    runs, in_time = [[], []], InTime("123 ticks", more=200 * tick)
     while place.ticks() < before + 123 and in_time():
-        runs += server.fence()
+        for server, came in zip(servers, runs):
+            came += server.fence()
         time.sleep(tick)
-    runs += server.fence()
-    results = [openprotocol.read(run).fields["number"] for run in runs]
-    equal(results, [1, 1, 1, 1, 1, 1, 2], "numbers of the copies")
-    equal(len(set(runs[:6])), 1, "how many sorts of copies")
-    place.finish(host, [server])
+    for server, came in zip(servers, runs):
+        frames = list(map(openprotocol.read, came + server.fence()))
+        equal([frame.fields["number"] for frame in frames], [1, 1, 1, 1, 1, 1, 2], "numbers of the copies")
+        equal({frame.revision for frame in frames}, {server.revision}, "their revisions")
+        equal(len(set(came[:6])), 1, "how many sorts of copies")
+    place.finish(host, servers)
 
 
 def losses(host):
@@ -164,23 +200,24 @@ def results_that_are_lost(place):
 @test
 @in_memory
 def results_not_read(place):
-    """A server that asked for no acknowledge and does not read is hung up: each result that was not given to the system has its line, and
-    no other; what was is there to be read."""
+    """A server that asked for no acknowledge and does not read is hung up, in whichever revision: each result that was not given to the
+    system has its line, and no other; what was is there to be read."""
     host = place.host()
     tool = place.tool()
-    deaf = place.server(host, receive_buffer=4096).subscribe(acknowledge=False)
-    number, in_time = 0, InTime("the deaf one is hung up")
-    while in_time() and "it does not read" not in host.log():
-        number += 1
-        tool.give(tightening_record(tightening_fields(number)))
-    lost = [n for _, n, how, _ in losses(host) if how == "dropped, not sent"]
-    check(len(lost) > 250, "only %d lines", len(lost))
-    deaf.until_closed()
-    results = [openprotocol.read(run).fields["number"] for run in deaf.seen if run[4:8] == b"0061"]
-    check(results == list(range(1, len(results) + 1)), "results that were read: %s", results)
-    equal(lost, list(range(lost[0], lost[0] + len(lost))), "results lost")
-    check(lost[0] > len(results), "result %d was read, and a line says that it was not sent", lost[0])
-    equal(lost[-1], number, "the last one lost")
+    number = 0
+    for times, (revision, least) in enumerate(((1, 250), (6, 110)), 1):
+        deaf = place.server(host, receive_buffer=4096).subscribe(acknowledge=False, revision=revision)
+        first, lost_before, in_time = number + 1, len(losses(host)), InTime("the deaf one is hung up")
+        while in_time() and host.log().count("closed: 64 KiB wait for it") < times:
+            number += 1
+            tool.give(tightening_record(tightening_fields(number)))
+        lost = [n for _, n, how, _ in losses(host)[lost_before:] if how == "dropped, not sent"]
+        check(len(lost) > least, "only %d lines", len(lost))
+        deaf.until_closed()
+        results = [openprotocol.read(run).fields["number"] for run in deaf.seen if run[4:8] == b"0061"]
+        equal(results, list(range(first, first + len(results))), "results that were read")
+        equal(lost, list(range(lost[0], number + 1)), "results lost")
+        check(lost[0] >= first + len(results), "result %d was read, and a line says that it was not sent", lost[0])
 
 
 @test
@@ -222,6 +259,28 @@ def log_lines_with_values(place):
     said = re.findall(r"Z session 0 [0-9.:]+ > (000[45] .*|0061.*)\n", host.log())
     equal(said[2:], ['0005 to 0050 "FROM THE \"LINE\""', '0005 to 0050 "IN TWO PIECES"', "0004 to 0050, error 01", "0004 to 0060, error 09",
                      "0004 to 1234, error 99", "0061 number 42"], "values logged")
+
+
+@test
+def log_lines_in_each_revision(place):
+    """The log shows the number of a 0061 in each revision, and which revision a message asks for where that is not 1."""
+    host = place.host("--new-state", 41)
+    tool = place.tool()
+    server = place.server(host).start()
+    wanted = []
+    for number, revision in enumerate((*LENGTHS, 7), 42):
+        asked = "< 0060 revision %d" % revision if revision > 1 else "< 0060"
+        if revision not in LENGTHS:
+            server.tell(openprotocol.SUBSCRIBE_RESULTS, revision=b"%03d" % revision)
+            server.fence()
+            wanted += [asked, "> 0004 to 0060, error 97"]
+            continue
+        server.subscribe_results(revision)
+        tool.tighten(tightening_fields(number), "0")
+        server.expect_result(tightening_fields(number), number)
+        server.accepted(openprotocol.UNSUBSCRIBE_RESULTS)
+        wanted += [asked, "> 0005 to 0060", "> 0061 number %d" % number]
+    equal(re.findall(r"Z session 0 [0-9.:]+ (< 0060.*|> 000[45] to 0060.*|> 0061.*)\n", host.log()), wanted, "lines of the log")
 
 
 @test

@@ -34,6 +34,8 @@ class Controller:
     """Another controller, played by a test: a watch connects to it."""
 
     STARTED = openprotocol.write(openprotocol.STARTED, harness.CONTROLLER) + b"\0"
+    FAREWELL = [openprotocol.message(mid) for mid in (openprotocol.UNSUBSCRIBE_RESULTS, openprotocol.UNSUBSCRIBE_IDENTIFIERS,
+                                                      openprotocol.STOP)]  # where it is subscribed to both
 
     def __init__(self, place, *arguments):
         self.place = place
@@ -56,6 +58,21 @@ class Controller:
         while in_time() and len(got) < len(wanted) and (more := link.receive()):
             got += more
         equal(got, wanted, "what watch sends")
+
+    def start(self, revision=1):
+        """The next link, on which watch starts and subscribes to results in that revision."""
+        link = self.accept()
+        link.send(self.STARTED)
+        self.expect(link, openprotocol.message(openprotocol.SUBSCRIBE_IDENTIFIERS),
+                    openprotocol.message(openprotocol.SUBSCRIBE_RESULTS, b"%03d" % revision))
+        return link
+
+    def end(self, link, status, *messages):
+        """Takes these messages, with which watch ends, with that status. Its lines behind the first, which is of the start."""
+        self.expect(link, *messages)
+        link.send(openprotocol.write(openprotocol.ACCEPTED, {"mid": openprotocol.STOP}) + b"\0")
+        equal(self.watch.process.wait(harness.SECONDS), status, "status of watch")
+        return [" ".join(line.split()) for line in self.watch.lines()[1:]]
 
 
 @test
@@ -135,13 +152,96 @@ def watch_with_another_controller(place):
     link = controller.accept()
     link.send(openprotocol.message(openprotocol.REFUSED, data=b"000197"))
     watch.wait_for("link lost: 0001 refused with error 97, revision not supported")
-    link = controller.accept()
-    link.send(controller.STARTED)
-    controller.expect(link, *subscribes)
-    link.close()
+    link = controller.start()
+    link.send(openprotocol.message(openprotocol.REFUSED, data=b"006009"))
+    watch.wait_for("link lost: 0060 refused with error 09, already subscribed to results")
+    controller.start().close()
     watch.wait_for("link lost: closed by the controller")
     controller.accept().close()
     watch.wait_for("turned away by %s: it closed the link before it answered." % controller.address)
+
+
+SHOWN = tightening_fields(1, torque=2431, torque_min=2200, torque_max=2600, angle=87, angle_min=60, angle_max=120,
+                          time="2026-01-31:12:34:56", tightening_status=1)
+LINE = "result 1 BODY-0000001 24.31 %s (22.00 to 26.00) 87 deg (60 to 120) 2026-01-31 12:34:56 OK"
+
+
+def result_run(revision, unit=b"1"):
+    """A 0061 of the tightening that is shown, in that revision, with another unit than Nm where one is given; with its NUL."""
+    layout = openprotocol.LAYOUTS[openprotocol.RESULT, revision]
+    run = bytearray(openprotocol.write(openprotocol.RESULT, harness.result_fields(SHOWN, 1, revision), revision, b"0"))
+    if "torque_unit" in layout.places:
+        run[layout.places["torque_unit"]] = unit
+    return bytes(run) + b"\0"
+
+
+@test
+def watch_in_each_revision(place):
+    """watch --revision subscribes in that revision, reads each result by its layout and shows the same of it; a torque unit that is not Nm
+    is shown as it is told."""
+    told = [(revision, b"1", "Nm") for revision in openprotocol.RESULT_REVISIONS]
+    told += [(3, b"2", "lbf.ft"), (5, b"7", "%"), (6, b"9", "unit 9")]
+    for revision, unit, shown in told:
+        controller = Controller(place, "--count", "1", "--revision", str(revision))
+        link = controller.start(revision)
+        link.send(openprotocol.write(openprotocol.ACCEPTED, {"mid": openprotocol.SUBSCRIBE_RESULTS}) + b"\0" + result_run(revision, unit))
+        lines = controller.end(link, 0, openprotocol.message(openprotocol.ACKNOWLEDGE_RESULT), *controller.FAREWELL)
+        equal(lines, [LINE % shown, "ended: 1 results"], "what watch shows of revision %d" % revision)
+
+
+@test
+def watch_in_a_revision_that_is_not_to_be_had(place):
+    """Where the controller does not know the revision, or there is no layout for it here, watch says so, acknowledges nothing and ends with
+    status 1."""
+    refused = openprotocol.write(openprotocol.REFUSED, {"mid": openprotocol.SUBSCRIBE_RESULTS, "error": openprotocol.NO_SUCH_REVISION})
+    accepted = openprotocol.write(openprotocol.ACCEPTED, {"mid": openprotocol.SUBSCRIBE_RESULTS})
+    of_revision_7 = result_run(6)[:-1].replace(b"05260061006", b"05440061007") + b"0" * 18
+    unsubscribes, *rest = Controller.FAREWELL
+    for revision, answer, farewell, said in (
+            (1, [refused], rest, "refused with error 97, revision not supported"),
+            (7, [refused], rest, "refused with error 97, revision not supported"),
+            (7, [accepted, of_revision_7], [unsubscribes, *rest], "accepted, and can't be shown: watch reads revisions 1 to 6")):
+        controller = Controller(place, "--revision", str(revision))
+        link = controller.start(revision)
+        link.send(b"".join(run + b"\0" for run in answer))
+        lines = controller.end(link, 1, *farewell)
+        equal(lines, ["results in revision %d: %s" % (revision, said), "ended: 0 results"], "what watch shows")
+
+
+@test
+def watch_in_each_revision_of_the_host(place):
+    """The host tells watch of results in each revision, to several at once; a higher one it refuses, and watch says so and ends with
+    status 1."""
+    host = place.host()
+    tool = place.tool()
+
+    def watching(revision):
+        return Watch(place, "--connect", "127.0.0.1:%d" % host.port, "--count", "1", "--revision", str(revision))
+
+    for number, revisions in enumerate(((1, 2, 3), (4, 5, 6)), 1):
+        watches = [watching(revision) for revision in revisions]
+        place.wait_for_journal(lambda records: sum(payload[4:8] == b"0060" for _, payload in records) == 3 * number, "all subscribe")
+        tool.tighten(SHOWN, "0 1 2")
+        for watch, revision in zip(watches, revisions):
+            equal(watch.process.wait(harness.SECONDS), 0, "status of watch")
+            equal([" ".join(line.split()) for line in watch.lines()[1:]],
+                  [(LINE % "Nm").replace("result 1", "result %d" % number), "ended: 1 results"], "what it shows of revision %d" % revision)
+        for session in range(3):
+            place.wait_for_hang_up(session, number)
+    watch = watching(7)
+    equal(watch.process.wait(harness.SECONDS), 1, "status of watch")
+    equal(watch.lines()[1:], ["results in revision 7: refused with error 97, revision not supported", "ended: 0 results"], "what it shows")
+    equal(host.end(), 0, "status")
+
+
+@test
+def watch_used_wrongly(place):
+    """A revision that has no three digits, and one that is given where nothing is subscribed to, are wrong usage, and said."""
+    for arguments, said in ((["--revision", "0"], "1 to 999"), (["--revision", "1000"], "1 to 999"), (["--revision", "5a"], "1 to 999"),
+                            (["--revision", "5", "--fetch", "0"], "--fetch goes with none of")):
+        watch = Watch(place, *arguments)
+        equal(watch.process.wait(harness.SECONDS), 2, "status of watch %s" % " ".join(arguments))
+        check(said in watch.lines()[-1], "watch says %r", watch.lines()[-1])
 
 
 @test

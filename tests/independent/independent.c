@@ -9,6 +9,7 @@
 
 enum {
     TABLE_LEAST = FAULT == TABLE_OF_16384 ? 16384 : INDEPENDENT_TABLE_BYTES,
+    OUTPUT_LEAST = FAULT == OUTPUT_OF_2048 ? 2048 : INDEPENDENT_OUTPUT_BYTES,
     SESSIONS = 4,
     IDLE_LIMIT = FAULT == IDLE_CLOSES_AT_14 ? 14 : 15, /* ticks without a message until the close */
     REPEAT_TICKS = 20,                                 /* between the copies of an open notice */
@@ -24,6 +25,9 @@ enum {
     SETTINGS_BYTES = 33,   /* the payload of their record */
     TIGHTENING_BYTES = 106,
     RESULT_BYTES = 211,    /* the data field of 0061 revision 1 */
+    RESULT_GREATEST = 506, /* that of revision 6, the longest */
+    RESULT_REVISION_GREATEST =
+        FAULT == REVISION_6_REFUSED ? 5 : FAULT == REVISION_7_TAKEN ? 7 : 6,
     OLD_RESULT_BYTES = 98, /* that of 0065 revision 1 */
     NUMBER_DIGITS = 10,    /* of a tightening number, in these and in 0064 */
     DOWNLOAD_GREATEST = FAULT == DOWNLOAD_OF_46 ? 46 : 45, /* length of an 0050 */
@@ -31,7 +35,7 @@ enum {
     RUN_GREATEST = 9999,
     RUN_COUNTED =                                          /* longer runs count as this long */
         FAULT == RUN_LENGTH_16_BITS ? 65535 : RUN_GREATEST + 1,
-    FRAME_GREATEST = HEADER_BYTES + RESULT_BYTES + 1
+    FRAME_GREATEST = HEADER_BYTES + RESULT_GREATEST + 1
 };
 
 #define LAST_NUMBER_GREATEST UINT32_C(4294967295)
@@ -78,7 +82,7 @@ static const size_t NOTICE_BYTES[KINDS] = { TEXT_BYTES, RESULT_BYTES };
 struct subscription {
     bool subscribed;
     bool free;         /* no acknowledge asked */
-    unsigned revision; /* 1 or 2 while subscribed, else 0 */
+    unsigned revision; /* from 1 on while subscribed, else 0 */
     unsigned count;    /* notices held */
     unsigned clock;    /* ticks that the open notice has stood */
 };
@@ -230,10 +234,11 @@ enum field_name {
     TORQUE_MIN, TORQUE_MAX, TORQUE_TARGET, TORQUE,
     ANGLE_MIN, ANGLE_MAX, ANGLE_TARGET, ANGLE,
     TIGHTENED_AT, SET_CHANGED_AT, BATCH_STATUS,
-    RESULT_NUMBER, BLANK
+    RESULT_NUMBER, BLANK, UNREPORTED, UNREPORTED_TEXT, TORQUE_UNIT
 };
 
-enum sort { NUMBER, TEXT, TIME, SPACES };
+/* Of the last three no value is read: one character fills them. */
+enum sort { NUMBER, TEXT, TIME, SPACES, ZEROS, ONES };
 
 /* Where the value of a field comes from: the settings, or what an event tells, which is an
    identifier, or a tightening with its number behind it. */
@@ -274,6 +279,9 @@ static const struct field FIELDS[] = {
     [BATCH_STATUS] = { NUMBER, EVENT, 105, 1, 2 },
     [RESULT_NUMBER] = { NUMBER, EVENT, TIGHTENING_BYTES, 4, 0 },
     [BLANK] = { SPACES, EVENT, 0, 0, 0 },
+    [UNREPORTED] = { ZEROS, EVENT, 0, 0, 0 },
+    [UNREPORTED_TEXT] = { FAULT == UNREPORTED_TEXT_BLANK ? SPACES : ZEROS, EVENT, 0, 0, 0 },
+    [TORQUE_UNIT] = { FAULT == UNIT_0 ? ZEROS : ONES, EVENT, 0, 0, 0 }, /* Nm */
 };
 
 static uint32_t number_in(const uint8_t *source, enum field_name name)
@@ -353,8 +361,8 @@ static uint8_t *notices(struct session *session, enum kind kind)
 
 static unsigned revision_at_most(enum kind kind)
 {
-    if (kind == TIGHTENING)
-        return 1;
+    if (kind == TIGHTENING || FAULT == REVISION_OF_BOTH_KINDS)
+        return RESULT_REVISION_GREATEST;
     return FAULT == IDENTIFIER_REVISION_3 ? 3 : 2;
 }
 
@@ -519,11 +527,11 @@ static void save(uint8_t *table, const struct state *state)
 
 /* The records that a call puts out, gathered here and lent on when it is done. */
 struct output {
-    uint8_t bytes[INDEPENDENT_OUTPUT_BYTES];
+    uint8_t bytes[FAULT == GATHERED_IN_2048 ? 2048 : INDEPENDENT_OUTPUT_BYTES];
     size_t written;
 };
 
-/* By the rules a call writes at most 4 x (133 + 236) bytes; what would not fit is
+/* By the rules a call writes at most 4 x (133 + 531) bytes; what would not fit is
    left out rather than written past the end. */
 static void put_record(struct output *output, unsigned record_kind, const uint8_t *payload, size_t length)
 {
@@ -588,6 +596,8 @@ static void send_frame(struct output *output, unsigned s, struct frame *frame)
         write_digits(frame->bytes, 4, 47);
     if (FAULT == OLD_BYTE_BEHIND_REVISION_1 && revision_1_of_0052)
         add_bytes(frame, frame->bytes + frame->length - 1, 1);
+    if (FAULT == LENGTH_506_IN_REVISION_4 && frame->length == 500)
+        write_digits(frame->bytes, 4, 506);
     add_filling(frame, 0, 1);
     put_record(output, RECORD_KIND_FRAME + s, frame->bytes, frame->length);
 }
@@ -633,6 +643,43 @@ static const struct row RESULT_ROWS[] = {
     { TIGHTENED_AT, 19 }, { SET_CHANGED_AT, 19 }, { BATCH_STATUS, 1 }, { RESULT_NUMBER, 10 }
 };
 
+/* 0061 from revision 2 on, which rearranges the fields: 000, Tables 22 to 26. */
+static const struct row LATER_RESULT_ROWS[] = {
+    { CELL, 4 }, { CHANNEL, 2 }, { NAME, 25 }, { IDENTIFIER_TEXT, 25 },
+    { JOB, FAULT == JOB_OF_TWO_DIGITS ? 2 : 4 }, { PARAMETER_SET, 3 },
+    { UNREPORTED, 2 }, { UNREPORTED, 5 }, /* 07: strategy and its options */
+    { BATCH_SIZE, 4 }, { BATCH_COUNTER, 4 }, { TIGHTENING_STATUS, 1 },
+    { FAULT == BATCH_STATUS_NOT_MOVED ? TORQUE_STATUS : BATCH_STATUS, 1 },
+    { FAULT == BATCH_STATUS_NOT_MOVED ? ANGLE_STATUS : TORQUE_STATUS, 1 },
+    { FAULT == BATCH_STATUS_NOT_MOVED ? BATCH_STATUS : ANGLE_STATUS, 1 },
+    { UNREPORTED, 1 }, { UNREPORTED, 1 }, { UNREPORTED, 1 }, /* 15: statuses of rundown angle, current, selftap */
+    { UNREPORTED, 1 }, { UNREPORTED, 1 },                    /* 18: of prevail torque, and of its compensation */
+    { UNREPORTED, 10 },                                      /* 20: what went wrong */
+    { TORQUE_MIN, 6 }, { TORQUE_MAX, 6 }, { TORQUE_TARGET, 6 }, { TORQUE, 6 },
+    { ANGLE_MIN, 5 }, { ANGLE_MAX, 5 }, { ANGLE_TARGET, 5 }, { ANGLE, 5 },
+    { UNREPORTED, 5 }, { UNREPORTED, 5 }, { UNREPORTED, 5 }, /* 29: rundown angle, min and max before it */
+    { UNREPORTED, 3 }, { UNREPORTED, 3 }, { UNREPORTED, 3 }, /* 32: current */
+    { UNREPORTED, 6 }, { UNREPORTED, 6 }, { UNREPORTED, 6 }, /* 35: selftap torque */
+    { UNREPORTED, 6 }, { UNREPORTED, 6 }, { UNREPORTED, 6 }, /* 38: prevail torque */
+    { RESULT_NUMBER, 10 },
+    { UNREPORTED, 5 }, { UNREPORTED, 5 }, /* 42: numbers of the job's sequence and of synchronous tightenings */
+    { UNREPORTED_TEXT, 14 },              /* 44: the tool's serial number */
+    { TIGHTENED_AT, 19 }, { SET_CHANGED_AT, 19 },
+    { UNREPORTED_TEXT, 25 }, { TORQUE_UNIT, 1 }, { UNREPORTED, 2 }, /* 47, revision 3: the set's name, the unit, the sort of result */
+    { UNREPORTED_TEXT, 25 }, { UNREPORTED_TEXT, 25 }, { UNREPORTED_TEXT, 25 }, /* 50, revision 4: parts 2 to 4 of the identifier */
+    { UNREPORTED_TEXT, 4 },                 /* 53, revision 5: the customer's code of what went wrong */
+    { UNREPORTED, 6 }, { UNREPORTED, 10 }   /* 54, revision 6: compensation of the prevail torque, what else went wrong */
+};
+
+/* So many of these rows has a revision. */
+static const unsigned LATER_RESULT_COUNTS[] = {
+    [2] = FAULT == REVISION_2_OF_49_FIELDS ? 49 : 46, [3] = 49,
+    [4] = FAULT == REVISION_4_OF_53_FIELDS ? 53 : 52, [5] = 53, [6] = 55,
+    [7] = 55 /* planted */
+};
+
+static_assert(sizeof LATER_RESULT_ROWS / sizeof LATER_RESULT_ROWS[0] == 55, "revision 6 has all of them");
+
 static const struct row OLD_RESULT_ROWS[] = {
     { RESULT_NUMBER, 10 }, { IDENTIFIER_TEXT, 25 }, { PARAMETER_SET, 3 },
     { FAULT == BATCH_SIZE_FOR_COUNTER ? BATCH_SIZE : BATCH_COUNTER, 4 },
@@ -650,12 +697,18 @@ static const struct layout IDENTIFIER_2 = {
 static const struct layout RESULT_1 = { true, RESULT_ROWS, 23 };
 static const struct layout OLD_RESULT_1 = { true, OLD_RESULT_ROWS, 11 };
 
+/* The character that fills a field of which no value is read, or 0. */
+static char filling(enum sort sort)
+{
+    return sort == SPACES ? ' ' : sort == ZEROS ? '0' : sort == ONES ? '1' : 0;
+}
+
 static void add_field(struct frame *frame, const struct row *row, const uint8_t *const *sources)
 {
     const struct field *field = &FIELDS[row->name];
     const uint8_t *bytes = sources[field->source] + field->offset;
-    if (field->sort == SPACES)
-        add_filling(frame, FAULT == PARTS_ZERO_FILLED ? '0' : ' ', row->width);
+    if (filling(field->sort) != 0)
+        add_filling(frame, FAULT == PARTS_ZERO_FILLED ? '0' : filling(field->sort), row->width);
     else if (field->sort == NUMBER)
         add_digits(frame, row->width, little_endian(bytes, field->size));
     else
@@ -670,6 +723,45 @@ static void add_fields(struct frame *frame, const struct layout *layout,
         if (layout->numbered)
             add_digits(frame, 2, i + 1);
         add_field(frame, &layout->rows[i], sources);
+    }
+}
+
+/* A field of a later revision out of the data field of revision 1: as it stands there, with
+   zeros before it where it is wider now. */
+static void add_again(struct frame *frame, const struct row *row, const uint8_t *result)
+{
+    const struct row *told = RESULT_ROWS;
+    const uint8_t *bytes = result + 2; /* behind the first field's number */
+    for (; told->name != row->name; told++)
+        bytes += told->width + 2;
+    if (FAULT != JOB_FILLED_BEHIND)
+        add_filling(frame, '0', row->width - told->width);
+    add_bytes(frame, bytes, told->width);
+    if (FAULT == JOB_FILLED_BEHIND)
+        add_filling(frame, '0', row->width - told->width);
+}
+
+/* Planted: the tightening number, field 41, comes behind the two times, as in revision 1. */
+static unsigned in_place(unsigned i)
+{
+    return FAULT != NUMBER_LEFT_LAST || i < 40 || i > 45 ? i : i == 45 ? 40 : i + 1;
+}
+
+/* What a revision of 0061 tells of a result, which is held as the data field of revision 1. */
+static void add_result(struct frame *frame, unsigned revision, const uint8_t *result)
+{
+    if (revision == 1) {
+        add_bytes(frame, result, RESULT_BYTES);
+        return;
+    }
+    for (unsigned i = 0; i < LATER_RESULT_COUNTS[revision]; i++) {
+        const struct row *row = &LATER_RESULT_ROWS[in_place(i)];
+        char filled = filling(FIELDS[row->name].sort);
+        add_digits(frame, 2, i + 1);
+        if (filled != 0)
+            add_filling(frame, filled, row->width);
+        else
+            add_again(frame, row, result);
     }
 }
 
@@ -752,18 +844,28 @@ static bool gets(const struct session *session, enum kind kind)
     return session->phase == STARTED && session->subscription[kind].subscribed;
 }
 
-/* Puts out a copy of a notice: an identifier, or the data field of a result. */
+/* The revision in which a subscription's notices are told; only an open notice that is sent again
+   has a clock. */
+static unsigned told_in(const struct subscription *part, enum kind kind)
+{
+    bool in_1 = (FAULT == REPEATED_IN_REVISION_1 && part->clock > 0)
+        || (FAULT == FREE_IN_REVISION_1 && part->free);
+    return in_1 && kind == TIGHTENING ? 1 : part->revision;
+}
+
+/* Puts out a copy of a notice: an identifier, or a result. */
 static void send_notice(const struct state *state, unsigned s, enum kind kind,
                         const uint8_t *notice, struct output *output)
 {
     const struct subscription *part = &state->session[s].subscription[kind];
-    struct frame frame = begin_frame(kind == IDENTIFIER ? 52 : 61, part->revision,
+    unsigned revision = told_in(part, kind);
+    bool header_of_1 = FAULT == REVISION_1_IN_THE_HEADER && kind == TIGHTENING;
+    struct frame frame = begin_frame(kind == IDENTIFIER ? 52 : 61, header_of_1 ? 1 : revision,
                                      part->free ? '1' : '0');
     if (kind == IDENTIFIER)
-        add_fields(&frame, part->revision >= 2 ? &IDENTIFIER_2 : &IDENTIFIER_1, state->settings,
-                   notice);
+        add_fields(&frame, revision >= 2 ? &IDENTIFIER_2 : &IDENTIFIER_1, state->settings, notice);
     else
-        add_bytes(&frame, notice, RESULT_BYTES);
+        add_result(&frame, revision, notice);
     if (FAULT == STAMPED_WHEN_SENT && kind == TIGHTENING) { /* only now, where it is blank */
         uint8_t *identifier = frame.bytes + HEADER_BYTES + 39;
         if (all_spaces(identifier, TEXT_BYTES))
@@ -796,6 +898,17 @@ static bool lost(const struct state *state, unsigned s)
         && find_kept(state, decimal(digits, NUMBER_DIGITS)) == NULL;
 }
 
+/* Planted: the open result goes out in the revision of the last other session that is subscribed. */
+static void send_as_another(struct state *state, unsigned s, struct output *output)
+{
+    unsigned *revision = &state->session[s].subscription[TIGHTENING].revision, own = *revision;
+    for (unsigned other = 0; other < SESSIONS; other++)
+        if (other != s && gets(&state->session[other], TIGHTENING))
+            *revision = state->session[other].subscription[TIGHTENING].revision;
+    send_open(state, s, TIGHTENING, output);
+    *revision = own;
+}
+
 /* Ends the open notice and sends the one behind it, if there is one. */
 static void next_notice(struct state *state, unsigned s, enum kind kind, struct output *output)
 {
@@ -803,7 +916,11 @@ static void next_notice(struct state *state, unsigned s, enum kind kind, struct 
     drop_open(session, kind);
     while (FAULT == WAITING_LOST_BEHIND_64 && kind == TIGHTENING && lost(state, s))
         drop_open(session, kind);
-    if (session->subscription[kind].count > 0)
+    if (session->subscription[kind].count == 0)
+        return;
+    if (FAULT == WAITED_IN_ANOTHERS_REVISION && kind == TIGHTENING)
+        send_as_another(state, s, output);
+    else
         send_open(state, s, kind, output);
 }
 
@@ -1015,7 +1132,7 @@ static const struct rule RULES[] = {
     { MID_SUBSCRIBE_IDENTIFIER, 20, 20, FAULT == IDENTIFIER_REVISION_3 ? 3 : 2 },
     { MID_ACKNOWLEDGE_IDENTIFIER, 20, 20, REVISION_NOT_READ },
     { MID_UNSUBSCRIBE_IDENTIFIER, 20, 20, REVISION_NOT_READ },
-    { MID_SUBSCRIBE_TIGHTENING, 20, 20, 1 },
+    { MID_SUBSCRIBE_TIGHTENING, 20, 20, RESULT_REVISION_GREATEST },
     { MID_ACKNOWLEDGE_TIGHTENING, 20, 20, REVISION_NOT_READ },
     { MID_UNSUBSCRIBE_TIGHTENING, 20, 20, REVISION_NOT_READ },
     { MID_FETCH, HEADER_BYTES + NUMBER_DIGITS, HEADER_BYTES + NUMBER_DIGITS,
@@ -1073,6 +1190,8 @@ static bool read_header(const uint8_t *run, unsigned length, struct message *mes
         return false;
     if (!read_revision(run + 8, &message->revision))
         return false;
+    if (FAULT == REVISION_CUT_TO_8_BITS)
+        message->revision &= 0xff;
     uint8_t byte_12 = run[11];
     if (byte_12 != '0' && byte_12 != '1' && byte_12 != ' ' && FAULT != BYTE_12_NOT_READ)
         return false;
@@ -1155,7 +1274,11 @@ static void subscribe(struct session *session, unsigned s, enum kind kind,
         return;
     }
     part->subscribed = true;
-    part->revision = message->revision;
+    if (FAULT != REVISION_STICKS || part->revision == 0)
+        part->revision = message->revision;
+    if (FAULT == REVISION_OF_BOTH_KINDS)
+        for (unsigned both = 0; both < KINDS; both++)
+            session->subscription[both].revision = message->revision;
     part->free = message->free || (FAULT == FREE_FLAG_STICKS && part->free);
     send_accepted(output, s, message->mid);
 }
@@ -1171,6 +1294,8 @@ static void forget(struct subscription *part)
     }
     if (FAULT == FREE_FLAG_STICKS)
         part->free = before.free;
+    if (FAULT == REVISION_STICKS)
+        part->revision = before.revision;
 }
 
 static void unsubscribe(struct session *session, unsigned s, enum kind kind,
@@ -1424,11 +1549,11 @@ static uint64_t enter(const uint8_t *table, size_t table_len, size_t output_len,
 {
     if (table_len < TABLE_LEAST)
         return TABLE_SHORT;
-    if (FAULT == OUTPUT_BEFORE_TABLE && output_len < INDEPENDENT_OUTPUT_BYTES)
+    if (FAULT == OUTPUT_BEFORE_TABLE && output_len < OUTPUT_LEAST)
         return OUTPUT_SHORT;
     if (!load(table, state))
         return TABLE_NOT_WELL_FORMED;
-    if (output_len < INDEPENDENT_OUTPUT_BYTES)
+    if (output_len < OUTPUT_LEAST)
         return OUTPUT_SHORT;
     return DONE;
 }

@@ -262,6 +262,41 @@ def test_copies_seen_from_later():
     expect("from second 30 to 45", copies_in(draw(data, "--from", "30", "--to", "45")), [(1, 3, 4)])
 
 
+# ---- revisions
+
+
+def subscribed_in(revision):
+    return START + SUBSCRIBE.replace("0060001", "0060%03d" % revision)
+
+
+def test_revisions():
+    """A tightening reads the same in every revision of 0061, and so do its copies; the subscription says which revision it is of."""
+    for revision in openprotocol.RESULT_REVISIONS:
+        data = made(subscribed_in(revision) + 'tightening identifier="BODY 7" job=7 torque=4210 tightening_status=0\n' + TWENTY_TICKS)
+        text, words = draw(data), 'tightening 1, "BODY_7", 42.10 Nm, NOT OK'
+        expect("revision %d" % revision, labels(text)[4:8], [
+            "subscribe to tightenings" + (", revision %03d" % revision if revision > 1 else ""), "accepted: 0060",
+            '1: 42.10 Nm, NOT OK, identifier "BODY_7", taken by 0', "notice 1, copy 1 of 2: " + words])
+        expect("told at the end of it", told_at_the_end(text).startswith("notice 1 (0061 %s) to server 0, 2 copies" % words), True)
+    expect("one that there is not", labels(draw(made(subscribed_in(7))))[4:], [
+        "subscribe to tightenings, revision 007", "not accepted: 0060, error 97: revision not supported"])
+
+
+def test_numbers_of_revisions():
+    """A 0061 that tells of another tightening than the next is found out in every revision; one of a revision that has no layout here is
+    taken as it is."""
+    with tempfile.TemporaryDirectory() as folder:
+        for revision in openprotocol.RESULT_REVISIONS:
+            at = len("0 S ") + openprotocol.LAYOUTS[openprotocol.RESULT, revision].places["number"].start
+            wrong = script(folder, "%s | sed 's/^\\(.\\{%d\\}\\)0000000001/\\10000000002/'" % (program, at))
+            done = call(data=made(subscribed_in(revision) + "tightening\n"), replay=wrong)
+            expect("another number in revision %d" % revision,
+                   (done.returncode, done.stdout, "nothing in the journal explains" in done.stderr.decode()), (1, b"", True))
+        later = script(folder, "%s | sed 's/^0 S 02310061001/0 S 02310061010/'" % program)
+        done = call(data=made(SUBSCRIBED + "tightening\n"), replay=later)
+        expect("no layout", (done.returncode, labels(done.stdout.decode())[-1]), (0, "notice 1: revision 010"))
+
+
 # ---- what was lost
 
 ACKNOWLEDGE, NO_MESSAGE = b"00200062            \0", b"x\0"  # the second ends a run that was begun, whatever it is

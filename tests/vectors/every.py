@@ -4,6 +4,7 @@ Each case is house records and the lines that documents 01 and 02 ask for, recko
 their rules for one session that talks alone, and from 01's arithmetic of ticks for several."""
 
 import openprotocol
+import places
 from house_records import BYTES, GREATEST_NUMBER, NUMBER, OPEN, PAYLOADS, SCANNED, SETTINGS, TEXT, TICK, TIGHTENING, filled, record
 from openprotocol import ACCEPTED, IDENTIFIER, OLD_RESULT, REFUSED, RESULT, STARTED, write
 
@@ -14,7 +15,8 @@ SPACES = filled("")
 
 # Of each message: least and greatest length, greatest revision (none: not read).
 RULES = {1: (20, 20, 1), 3: (20, 20, None), 50: (21, 45, 1), 51: (20, 20, 2), 53: (20, 20, None), 54: (20, 20, None),
-         60: (20, 20, 1), 62: (20, 20, None), 63: (20, 20, None), 64: (30, 30, 1), 9999: (20, 20, None)}
+         60: (20, 20, 6), 62: (20, 20, None), 63: (20, 20, None), 64: (30, 30, 1), 9999: (20, 20, None)}
+RESULT_REVISIONS = range(1, 7)  # of 0061
 KEPT = 64  # tightenings
 SUBSCRIBED, NOT_SUBSCRIBED = {51: 6, 60: 9}, {54: 7, 63: 10}
 SUBSCRIPTION = {51: 51, 54: 51, 60: 60, 63: 60}
@@ -98,8 +100,34 @@ class Case:
         return "every.py: " + name, b"".join(self.records), "".join(line + "\n" for line in self.lines)
 
 
+class Steps(Case):
+    """Session 0, started, which talks alone; whoever writes the case says what it hears of results."""
+
+    def __init__(self, **named):
+        super().__init__()
+        self.settings = {**GOOD_SETTINGS, **named}
+        self.number = self.settings["last"]
+        self.give(SETTINGS, self.settings)
+        self.put(OPEN)
+        self.say(1)
+        self.expect(write(STARTED, self.settings))
+
+    def say(self, mid, *header):
+        self.put(BYTES, message(mid, *header) + b"\0")
+
+    def accepted(self, mid, *header):
+        self.say(mid, *header)
+        self.expect(write(ACCEPTED, {"mid": mid}))
+
+    def tighten(self, fields):
+        """What 0061 tells of it."""
+        self.number += 1
+        self.give(TIGHTENING, fields)
+        return {**self.settings, **fields, "number": self.number}
+
+
 class Alone(Case):
-    """Session 0, which talks alone, and what it hears."""
+    """Session 0, which talks alone, and what it hears, as the rules have it."""
 
     def __init__(self, granted=1, last=LAST):
         super().__init__(granted, last)
@@ -234,7 +262,11 @@ class Alone(Case):
 
 # ---- cases of one session
 
-FREE = (message(51, byte_12=b"1"), message(60, byte_12=b"1"))
+def subscribe_results(revision, byte_12=b"1"):
+    return message(60, b"%03d" % revision, byte_12)
+
+
+FREE = (message(51, byte_12=b"1"), subscribe_results(1))
 NEWEST = b"0000000000"  # asked for by its number
 
 
@@ -379,13 +411,75 @@ def near(item):
 
 
 def tool_numbers():
+    """In every revision of 0061."""
     case = Alone()
-    case.begin(*FREE)
+    case.begin(FREE[0])
     case.scan(filled("IN FORCE"))
-    for name, item in PAYLOADS[TIGHTENING].items.items():
-        for number in near(item) if item.sort == NUMBER else ():
-            case.tighten(tightening_fields(**{name: number}))
+    for revision in RESULT_REVISIONS:
+        case.send(subscribe_results(revision))
+        for name, item in PAYLOADS[TIGHTENING].items.items():
+            for number in near(item) if item.sort == NUMBER else ():
+                case.tighten(tightening_fields(**{name: number}))
+        case.send(message(63))
     return case.named("numbers of the tool at their limits")
+
+
+def telling_fields():
+    """Tightenings of which no two fields are alike, or of which all numbers are at one of their ends."""
+    numbers = [name for name, item in PAYLOADS[TIGHTENING].items.items() if item.sort == NUMBER]
+    limits = {name: PAYLOADS[TIGHTENING].items[name].greatest for name in numbers}
+    different = dict(
+        identifier=b"ABCDEFGHIJKLMNOPQRSTUVWXY", job=42, parameter_set=987, batch_size=1234, batch_counter=5678,
+        tightening_status=0, torque_status=1, angle_status=2, torque_min=123456, torque_max=234567, torque_target=345678, torque=456789,
+        angle_min=54321, angle_max=65432, angle_target=76543, angle=87654, batch_status=2)
+    times = dict(time=b"2026-11-17:09:10:11", change_time=b"1999-12-31:23:58:59")
+    others = dict(tightening_status=1, torque_status=2, angle_status=0, batch_status=1)
+    return [{**times, **different}, {**times, **different, **others}, {**times, **limits, "identifier": b"~" * 25},
+            {**times, **dict.fromkeys(numbers, 0), "identifier": b"0"}]
+
+
+def places_of_results():
+    """0061 in each revision, with each field where the documents print its place; at the end the number is the greatest that there is."""
+    tightenings = telling_fields()
+    times = 2 * len(RESULT_REVISIONS) * len(tightenings)
+    case = Steps(cell=9876, channel=54, name=b"NAME OF THE CONTROLLER 25", last=GREATEST_NUMBER - times)
+    for byte_12 in (b"0", b"1"):
+        for revision in RESULT_REVISIONS:
+            case.accepted(60, b"%03d" % revision, byte_12)
+            for fields in tightenings:
+                case.expect(places.frame(revision, byte_12, case.tighten(fields)))
+                case.say(62)
+            case.accepted(63)
+    return case.named("0061 at the documents' places")
+
+
+def subscribed_anew():
+    """From each revision to each: a result is open and one waits, the subscription is ended, and taken up again in the other."""
+    case = Steps()
+
+    def result(revision):
+        """The frame of the next tightening."""
+        return notice(RESULT, (revision, False), case.tighten(tightening_fields(identifier=b"T%d" % case.number, torque=case.number)))
+
+    for before in RESULT_REVISIONS:
+        for after in RESULT_REVISIONS:
+            case.accepted(60, b"%03d" % before, b"0")
+            case.expect(result(before))
+            result(before)  # waits, and is gone
+            case.accepted(63)
+            case.say(62)
+            result(after)  # nobody's
+            case.accepted(60, b"%03d" % after, b"0")
+            opened, waiting = result(after), result(after)
+            case.expect(opened)
+            for tick in range(20):
+                keep_alive(case, (0,) if tick % 14 == 0 else ())
+                case.put(TICK)
+            case.expect(opened)
+            case.say(62)
+            case.expect(waiting)
+            case.accepted(63)
+    return case.named("subscribed anew in another revision")
 
 
 def settings():
@@ -439,11 +533,11 @@ def record_kinds():
 
 # ---- cases of four sessions
 
-def four_subscribed(case, byte_12=b"0"):
-    """All four started and subscribed, to identifiers in revision 2."""
-    for s in range(4):
+def four_subscribed(case, revisions):
+    """All four started and subscribed, to identifiers in revision 2 and to results in these."""
+    for s, revision in enumerate(revisions):
         case.put(OPEN + s)
-        case.put(BYTES + s, b"".join(run + b"\0" for run in (message(1), message(51, b"002", byte_12), message(60, b"001", byte_12))))
+        case.put(BYTES + s, b"".join(run + b"\0" for run in (message(1), message(51, b"002", b"0"), subscribe_results(revision, b"0"))))
         case.expect(write(STARTED, GOOD_SETTINGS), s)
         case.expect(write(ACCEPTED, {"mid": 51}), s)
         case.expect(write(ACCEPTED, {"mid": 60}), s)
@@ -458,7 +552,7 @@ def keep_alive(case, sessions=range(4)):
 def fullest_output():
     """A 0050 that all four hear, a tightening to all four, and ticks with two copies to each."""
     case = Case()
-    four_subscribed(case)
+    four_subscribed(case, 4 * [6])
     case.put(BYTES + 3, message(50, data=b"I" * 25) + b"\0")
     case.expect(write(ACCEPTED, {"mid": 50}), 3)
     for s in range(4):
@@ -466,48 +560,49 @@ def fullest_output():
     fields = tightening_fields(identifier=b"T" * 25)
     case.give(TIGHTENING, fields)
     for s in range(4):
-        case.expect(result_frame((1, False), fields, fields["identifier"], LAST + 1), s)
+        case.expect(result_frame((6, False), fields, fields["identifier"], LAST + 1), s)
     for tick in range(1, 122):
         if tick % 14 == 0:
             keep_alive(case)
         case.put(TICK)
         for s in range(4 if tick in (20, 40, 60, 80, 100) else 0):
             case.expect(identifier_frame((2, False), b"I" * 25), s)
-            case.expect(result_frame((1, False), fields, fields["identifier"], LAST + 1), s)
+            case.expect(result_frame((6, False), fields, fields["identifier"], LAST + 1), s)
     return case.named("the fullest output of every call")
 
 
 def nothing_acknowledged():
-    """Eight tightenings and two identifiers held by each session, and 960 ticks: all are given up in a row."""
-    case = Case()
-    four_subscribed(case)
-    results = []
+    """Eight tightenings and two identifiers held by each session, and 960 ticks: all are given up in a row, each in its revision."""
+    case, revisions = Case(), (4, 1, 6, 2)
+    four_subscribed(case, revisions)
+    results = [[] for _ in revisions]
     for number in range(LAST + 1, LAST + 10):
         fields = tightening_fields(identifier=b"T%d" % number, torque=number)
         case.give(TIGHTENING, fields)
-        results.append(result_frame((1, False), fields, fields["identifier"], number))
-        for s in range(4 if number == LAST + 1 else 0):
-            case.expect(results[0], s)
+        for s, revision in enumerate(revisions):
+            results[s].append(result_frame((revision, False), fields, fields["identifier"], number))
+            if number == LAST + 1:
+                case.expect(results[s][0], s)
     identifiers = [identifier_frame((2, False), filled(text)) for text in (b"OPEN", b"REPLACED", b"WAITING")]
     for number, text in enumerate((b"OPEN", b"REPLACED", b"WAITING")):
         case.put(SCANNED, filled(text))
         for s in range(4 if number == 0 else 0):
             case.expect(identifiers[0], s)
-    queues = ([identifiers[0], identifiers[2]], results[:8])
+    waiting = [identifiers[0], identifiers[2]]
     for tick in range(1, 1000):
         if tick % 14 == 0:
             keep_alive(case)
         case.put(TICK)
         for s in range(4):
-            for queue in queues:
+            for queue in (waiting, results[s][:8]):
                 if tick % 20 == 0 and tick // 120 < len(queue):
                     case.expect(queue[tick // 120], s)
     return case.named("960 ticks with nothing acknowledged")
 
 
 BY_RULE = [message_numbers, header_bytes, revisions, downloads, downloads_not_granted, fetches, numbers_asked, numbers_asked_from_0,
-           numbers_asked_at_the_end, kept_values, tool_texts, tool_numbers, settings, record_lengths, record_kinds, fullest_output,
-           nothing_acknowledged]
+           numbers_asked_at_the_end, kept_values, tool_texts, tool_numbers, places_of_results, settings, record_lengths, record_kinds,
+           subscribed_anew, fullest_output, nothing_acknowledged]
 
 
 def cases():

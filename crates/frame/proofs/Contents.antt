@@ -1,23 +1,26 @@
 -- What the writer of each frame's data leaves is that frame's data.
 use mathlib.Core.Path.{_≡_, sym, ap, subst, _∙_}
-use Prim.Native.Nat.{ℕ, suc, _+_, _-_, _≤_, _<_}
+use Prim.Native.Nat.{ℕ, zero, suc, _+_, _-_, _≤_, _<_}
 use native.Mathlib.Omega.{arith}
 use mathlib.Core.Bool.{true, false}
-use mathlib.Core.List.{List, append-nil, _++_}
-use lib.ListN.{length, getD}
-use lib.Seq.{take-all}
+use mathlib.Core.List.{List, [], _∷_, append-nil, _++_}
+use lib.ListN.{length, getD, take, drop}
+use lib.Seq.{take-add, take-all}
 use Rattle.model.specs.Limits.{identifier-length}
 use Rattle.model.specs.Bytes.{digits}
 use Rattle.model.specs.Records.{scanned-items, tightening-items, result-items}
-use Rattle.model.specs.Layouts.{Layout, layouts-0052, layouts-0061, layout-at, first-of, controller-rows, identifier-rows, layout-0065}
-use Rattle.model.specs.Layouts.{characters, data-from, data-of, data-length}
+use Rattle.model.specs.Layouts.{Row, Layout, layouts-0052, layouts-0061, layout-at, first-of, controller-rows, identifier-rows}
+use Rattle.model.specs.Layouts.{layout-0065, result-rows, later-rows, older-counts, newest-count, later-count}
+use Rattle.model.specs.Layouts.{characters, data-from, data-of, data-length, rows-length}
 use Rattle.model.specs.Kinds.{identifiers, tightenings, kinds, kind-at}
+use Rattle.model.proofs.Revisions.{later-layout, count-grows}
 use Rattle.text.specs.Put.{Put, Written}
 use Rattle.text.proofs.Puts.{put-as}
 use Rattle.frame.specs.Places.{place-items, place-size}
-use Rattle.frame.specs.Layout.{Payloads, held, set-values, told-values, DataPut, FieldsPut, data-in}
+use Rattle.frame.specs.Layout.{Payloads, held, set-values, told-values, DataPut, FieldsPut, FixedPut, Room, later, added, data-in}
 use Rattle.frame.specs.declared.Content.{Content}
 use Rattle.frame.specs.declared.Content.the-variants.{Started, Refused, Accepted, Kept}
+use Rattle.frame.proofs.Fields.{length-append-rows}
 
 -- a kind is one or the other
 pub second-kind : (kind : ℕ) → kind < length kinds → (kind ≡ identifiers → ⊥) → kind ≡ tightenings
@@ -36,6 +39,47 @@ later-0052 : (revision : ℕ) → 2 ≤ revision → layout identifiers revision
 later-0052 revision h =
     let e : revision - 1 ≡ suc (revision - 2) = omega arith in ap (λ (k : ℕ). getD (layouts-0052 .older) k (layouts-0052 .newest)) e
 
+first-0061 : (revision : ℕ) → revision < 2 → layout tightenings revision ≡ first-of result-rows true 23
+first-0061 revision h =
+    let e : revision - 1 ≡ 0 = omega arith in ap (λ (k : ℕ). getD (layouts-0061 .older) k (layouts-0061 .newest)) e
+
+-- from revision 2 on: the fields of that one, and what is added
+later-0061 : (revision : ℕ) → 2 ≤ revision → layout tightenings revision ≡ record { numbered = true; rows = later 1 46 ++ added revision }
+later-0061 revision h =
+    let n = later-count revision in
+    let e : n ≡ 46 + (n - 46) = let l = count-grows 2 revision h in omega arith in
+    later-layout revision h
+    ∙ ap (λ (k : ℕ). first-of later-rows true k) e
+    ∙ ap (λ (rows : List Row). record { numbered = true; rows = rows }) (take-add 46 (n - 46) later-rows)
+
+-- ==== what is added: of an older revision no more, and above the newest no more than of that
+
+rows-fewer : (m n : ℕ) (rows : List Row) → m ≤ n → rows-length true (take m rows) ≤ rows-length true (take n rows)
+rows-fewer zero n rows h = omega arith
+rows-fewer (suc m) zero rows h = absurd (omega arith)
+rows-fewer (suc m) (suc n) [] h = omega arith
+rows-fewer (suc m) (suc n) (row ∷ rows) h = let r = rows-fewer m n rows (omega arith) in omega arith
+
+pub added-room : (older revision at size : ℕ) → older ≤ revision → Room (added revision) at size → Room (added older) at size
+added-room older revision at size h room =
+    let n = count-grows older revision h in
+    let fewer = rows-fewer (later-count older - 46) (later-count revision - 46) (drop 46 later-rows) (omega arith) in
+    omega (arith, fewer, room)
+
+module _ {o o′ : List ℕ} {at r : ℕ} (revision : ℕ) where
+  added-as : (count : ℕ) → later-count revision ≡ count → FixedPut 47 (later 47 (count - 46)) o at r o′
+      → FixedPut 47 (added revision) o at r o′
+  added-as count e w = subst (λ (k : ℕ). FixedPut 47 (later 47 (k - 46)) o at r o′) (sym e) w
+
+  -- of one that is another, as far as any is below 2
+  pub added-of : (same : ℕ) → revision - 2 ≡ same - 2 → FixedPut 47 (added same) o at r o′ → FixedPut 47 (added revision) o at r o′
+  added-of same e w = added-as (later-count same) (ap (λ (k : ℕ). getD older-counts k newest-count) e) w
+
+  pub added-newest : 6 ≤ revision → FixedPut 47 (added 6) o at r o′ → FixedPut 47 (added revision) o at r o′
+  added-newest h w =
+      let e : revision - 2 ≡ suc (suc (suc (suc (revision - 6)))) = omega arith in
+      added-as newest-count (ap (λ (k : ℕ). getD older-counts k newest-count) e) w
+
 -- how long the data of each is
 module _ {kind : ℕ} (revision : ℕ) where
   pub first-length : kind ≡ identifiers → revision < 2 → data-length (layout kind revision) ≡ identifier-length
@@ -44,8 +88,13 @@ module _ {kind : ℕ} (revision : ℕ) where
   pub later-length : kind ≡ identifiers → 2 ≤ revision → data-length (layout kind revision) ≡ data-length (layouts-0052 .newest)
   later-length e h = rw e (ap data-length (later-0052 revision h))
 
-  pub result-length : kind ≡ tightenings → data-length (layout kind revision) ≡ data-length (layouts-0061 .newest)
-  result-length e = rw e
+  pub result-length : kind ≡ tightenings → revision < 2 → data-length (layout kind revision) ≡ rows-length true result-rows
+  result-length e h = rw e (ap data-length (first-0061 revision h))
+
+  pub revised-length : kind ≡ tightenings → 2 ≤ revision
+      → data-length (layout kind revision) ≡ rows-length true (later 1 46) + rows-length true (added revision)
+  revised-length e h =
+      rw e (ap data-length (later-0061 revision h)) ∙ length-append-rows (later 1 46) (added revision)
 
 -- the data of a notice of that kind was written by that layout
 abbrev Wrote : Payloads → ℕ → Layout → List ℕ → ℕ → ℕ → List ℕ → Type 0
@@ -72,9 +121,13 @@ module _ (b : Payloads) {o o′ : List ℕ} {at r : ℕ} where
   unfolding data-from characters
   identifier-parts kind revision e h w = by-same e (ap (λ (k : ℕ). layout k revision) e ∙ later-0052 revision h) w
 
-  pub result-fields : (kind revision : ℕ) → kind ≡ tightenings
-      → FieldsPut (held result-items b) 1 (layouts-0061 .newest .rows) o at r o′ → Wrote b kind (layout kind revision) o at r o′
-  result-fields kind revision e w = by-same e (ap (λ (k : ℕ). layout k revision) e) w
+  pub result-fields : (kind revision : ℕ) → kind ≡ tightenings → revision < 2
+      → FieldsPut (held result-items b) 1 result-rows o at r o′ → Wrote b kind (layout kind revision) o at r o′
+  result-fields kind revision e h w = by-same e (ap (λ (k : ℕ). layout k revision) e ∙ first-0061 revision h) w
+
+  pub revised-fields : (kind revision : ℕ) → kind ≡ tightenings → 2 ≤ revision
+      → FieldsPut (held result-items b) 1 (later 1 46 ++ added revision) o at r o′ → Wrote b kind (layout kind revision) o at r o′
+  revised-fields kind revision e h w = by-same e (ap (λ (k : ℕ). layout k revision) e ∙ later-0061 revision h) w
 
   -- ==== replies
 

@@ -1,20 +1,22 @@
 -- Fields one behind the other, and the field of each sort of row.
-use mathlib.Core.Path.{_≡_, refl, sym, ap}
-use Prim.Native.Nat.{ℕ, _+_, _≤_}
+use mathlib.Core.Path.{_≡_, refl, sym, ap, subst}
+use Prim.Native.Nat.{ℕ, zero, suc, _+_, _≤_, _<_}
 use native.Mathlib.Nat.{add-zero}
 use native.Mathlib.Numerals.{add-one}
 use native.Mathlib.Omega.{arith}
 use mathlib.Core.Bool.{true}
 use mathlib.Core.List.{List, [], _∷_, _++_}
-use lib.ListN.{length, take, drop, length-drop}
+use lib.ListN.{length, take, drop, replicate, length-drop, length-replicate, replicate-append-replicate}
 use lib.Seq.{length-take-le}
-use Rattle.model.specs.Bytes.{digits, spaces}
+use Rattle.model.specs.Bytes.{digit-0, digits, spaces}
 use Rattle.model.specs.Records.{number-at, text-at}
-use Rattle.model.specs.Layouts.{Sources, source, Row, number, text, blank, known, characters, width-of, data-from, rows-length}
+use Rattle.model.specs.Layouts.{Sources, source, Row, number, text, blank, unreported, known, characters, width-of, data-from}
+use Rattle.model.specs.Layouts.{rows-length}
+use Rattle.model.specs.Frames.{nothing}
 use Rattle.model.proofs.ReadBack.{data-append}
 use Rattle.text.specs.Put.{Written}
 use Rattle.text.proofs.Puts.{put-then, put-as}
-use Rattle.frame.specs.Layout.{numbered, FieldsPut}
+use Rattle.frame.specs.Layout.{numbered, FieldsPut, FixedPut, unreported-rows}
 
 -- how long a part of a text is
 pub part-length : (l : List ℕ) (place width : ℕ) → place + width ≤ length l → length (take width (drop place l)) ≡ width
@@ -22,7 +24,7 @@ part-length l place width h = length-take-le width (drop place l) (rw length-dro
 
 -- ==== some rows and then others
 
-length-append-rows : (xs ys : List Row) → rows-length true (xs ++ ys) ≡ rows-length true xs + rows-length true ys
+pub length-append-rows : (xs ys : List Row) → rows-length true (xs ++ ys) ≡ rows-length true xs + rows-length true ys
 length-append-rows [] ys = omega arith
 length-append-rows (x ∷ xs) ys = let e = length-append-rows xs ys in omega arith
 
@@ -69,6 +71,57 @@ module _ (b : Sources) where
     unfolding characters
     blank-then width rows p q = field-then (blank width) rows refl refl p q
 
+    pub unreported-then : (width : ℕ) (rows : List Row) → Written o at (2 + width) (numbered n (replicate width digit-0)) r₁ o₁
+        → FieldsPut b (n + 1) rows o₁ r₁ r₂ o₂ → FieldsPut b n (unreported width ∷ rows) o at r₂ o₂
+    unfolding characters
+    unreported-then width rows p q = field-then (unreported width) rows refl refl p q
+
   pub fields-none : {o : List ℕ} {at : ℕ} (n : ℕ) → FieldsPut b n [] o at at o
   unfolding data-from
   fields-none {at = at} n = record { place = sym (add-zero at); put = record { output = refl; place = sym (add-zero at) } }
+
+  -- ==== four numbers of one width
+
+  pub four-numbers : (n width from i : ℕ) {o o₁ o₂ o₃ o₄ : List ℕ} {at r₁ r₂ r₃ r₄ v₁ v₂ v₃ v₄ : ℕ}
+      → v₁ ≡ number-at (source b from) i → Written o at (2 + width) (numbered n (digits width v₁)) r₁ o₁
+      → v₂ ≡ number-at (source b from) (i + 1) → Written o₁ r₁ (2 + width) (numbered (n + 1) (digits width v₂)) r₂ o₂
+      → v₃ ≡ number-at (source b from) (i + 2) → Written o₂ r₂ (2 + width) (numbered (n + 1 + 1) (digits width v₃)) r₃ o₃
+      → v₄ ≡ number-at (source b from) (i + 3) → Written o₃ r₃ (2 + width) (numbered (n + 1 + 1 + 1) (digits width v₄)) r₄ o₄
+      → FieldsPut b n
+      (number width from i ∷ number width from (i + 1) ∷ number width from (i + 2) ∷ number width from (i + 3) ∷ []) o at r₄ o₄
+  four-numbers n width from i e p f q g s h t =
+      number-then n width from i _ e p
+      (number-then (n + 1) width from (i + 1) _ f q
+      (number-then (n + 1 + 1) width from (i + 2) _ g s
+      (number-then (n + 1 + 1 + 1) width from (i + 3) [] h t (fields-none (n + 1 + 1 + 1 + 1)))))
+
+  -- ==== fields of one width that the tool does not report: one more behind so many
+
+  pub one-more : (n i width : ℕ) {o o₁ o₂ : List ℕ} {at r₁ r₂ : ℕ} → FieldsPut b n (unreported-rows i width) o at r₁ o₁
+      → Written o₁ r₁ (2 + width) (numbered (n + i) (replicate width digit-0)) r₂ o₂
+      → FieldsPut b n (unreported-rows (i + 1) width) o at r₂ o₂
+  one-more n i width {o} {o₁} {o₂} {at} {r₁} {r₂} p q =
+      let one = unreported-then (n + i) width [] q (fields-none (n + i + 1)) in
+      let e = length-replicate i (unreported width) in
+      subst (λ (rows : List Row). FieldsPut b n rows o at r₂ o₂) (replicate-append-replicate i 1 (unreported width))
+      (fields-then n (unreported-rows i width) (unreported width ∷ []) p
+      (subst (λ (k : ℕ). FieldsPut b (n + k) (unreported width ∷ []) o₁ r₁ r₂ o₂) (sym e) one))
+
+-- of any sources, and of each
+pub fixed : {n : ℕ} {rows : List Row} {o o′ : List ℕ} {at r : ℕ} → FixedPut n rows o at r o′ → (b : Sources) → FieldsPut b n rows o at r o′
+fixed h b = record { place = h .place; put = h .put b }
+
+pub of-each : {n : ℕ} {rows : List Row} {o o′ : List ℕ} {at r : ℕ} → ((b : Sources) → FieldsPut b n rows o at r o′)
+    → FixedPut n rows o at r o′
+of-each h = record { place = h nothing .place; put = λ b. h b .put }
+
+pub fixed-then : (n : ℕ) (xs ys : List Row) {o o₁ o₂ : List ℕ} {at r₁ r₂ : ℕ} → FixedPut n xs o at r₁ o₁
+    → FixedPut (n + length xs) ys o₁ r₁ r₂ o₂ → FixedPut n (xs ++ ys) o at r₂ o₂
+fixed-then n xs ys p q = of-each (λ b. fields-then b n xs ys (fixed p b) (fixed q b))
+
+-- what is left has room for one more
+pub room-left : (i count width : ℕ) → i < count
+    → rows-length true (unreported-rows i width) + (2 + width) ≤ rows-length true (unreported-rows count width)
+room-left i zero width h = absurd (omega arith)
+room-left zero (suc count) width h = omega arith
+room-left (suc i) (suc count) width h = let r = room-left i count width (omega arith) in omega arith

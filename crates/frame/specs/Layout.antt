@@ -1,13 +1,14 @@
 -- The data of the frames that we write, of values that stand as bytes. 01, "Frames we write".
-use Prim.Native.Nat.{ℕ, _+_, _≤_}
+use mathlib.Core.Path.{_≡_}
+use Prim.Native.Nat.{ℕ, _+_, _-_, _≤_}
 use mathlib.Core.Bool.{true}
 use mathlib.Core.List.{List, [], _++_}
-use lib.ListN.{length, take, drop}
+use lib.ListN.{length, take, drop, replicate}
 use Rattle.model.specs.Records.{Item, values, settings-items, tightening-items, tightening-length}
-use Rattle.model.specs.Layouts.{Sources, Row, Layout, label, data-from, data-of, data-length, rows-length, layout-at}
-use Rattle.model.specs.Layouts.{layout-0002, layout-0004, layout-0005, layout-0065, kept-rows, result-rows}
+use Rattle.model.specs.Layouts.{Sources, Row, unreported, Layout, label, data-from, data-of, data-length, rows-length, layout-at}
+use Rattle.model.specs.Layouts.{layout-0002, layout-0004, layout-0005, layout-0065, kept-rows, result-rows, later-rows, later-count}
 use Rattle.model.specs.Kinds.{kind-at}
-use Rattle.text.specs.Put.{Written}
+use Rattle.text.specs.Put.{Put, Written}
 use Rattle.frame.specs.Places.{place-items}
 use Rattle.frame.specs.declared.Content.{Content}
 use Rattle.frame.specs.declared.Content.the-variants.{Started, Refused, Accepted, Kept, Notice}
@@ -74,9 +75,29 @@ Room rows at size = at + rows-length true rows ≤ size
 abbrev pub Tellable : List Row → List ℕ → ℕ → ℕ → Type 0
 Tellable rows told at size = (tightening-length ≤ length told) × Room rows at size
 
--- of the rows of 0061 behind the controller's so many, from row i on, which counts from 0
+-- those of rows that tell nothing were written: whatever there is to tell
+pub record FixedPut (n : ℕ) (rows : List Row) (o : List ℕ) (at r : ℕ) (o′ : List ℕ) : Type 0 where
+  pub place : r ≡ at + rows-length true rows
+  pub put : (b : Sources) → Put o at (data-from true n rows b) r o′
+
+-- so many fields of one width that the tool does not report
+abbrev pub unreported-rows : ℕ → ℕ → List Row
+unreported-rows count width = replicate count (unreported width)
+
+-- there is room for them, and their numbers, from n on, have two digits
+abbrev pub RoomFrom : ℕ → List Row → ℕ → ℕ → Type 0
+RoomFrom n rows at size = (n + length rows ≤ 100) × Room rows at size
+
+-- of the rows of 0061 so many, from the field with number n on: of revision 1, and of those from 2 on
 abbrev pub results : ℕ → ℕ → List Row
-results i count = take count (drop i result-rows)
+results n count = take count (drop (n - 1) result-rows)
+
+abbrev pub later : ℕ → ℕ → List Row
+later n count = take count (drop (n - 1) later-rows)
+
+-- what a revision from 2 on has behind those of revision 2
+abbrev pub added : ℕ → List Row
+added revision = later 47 (later-count revision - 46)
 
 -- of the rows of 0065 those before the statuses, and those behind them
 abbrev pub kept-first : ℕ → List Row

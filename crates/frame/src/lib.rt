@@ -3,14 +3,14 @@ ghost use mathlib.Core.Path.{_≡_};
 ghost use mathlib.Core.Bool.{true, _||_};
 ghost use mathlib.Core.List.{_++_};
 ghost use Prim.Native.Nat.{_+_, _≤_, _<_};
-ghost use lib.ListN.{length, take, drop};
+ghost use lib.ListN.{length, take, drop, replicate};
 ghost use Rattle.model.specs.Limits.{header-length, identifier-length};
-ghost use Rattle.model.specs.Bytes.{space, is-digit, is-space, all, digits, spaces};
+ghost use Rattle.model.specs.Bytes.{space, digit-0, is-digit, is-space, all, digits, spaces};
 ghost use Rattle.model.specs.Runs.{is-flag as is-flag-byte, revision-of, is-message as is-message-run};
 ghost use Rattle.model.specs.Records.{record-head, payload-length, settings-of, settings-length, scanned-items};
 ghost use Rattle.model.specs.Records.{tightening-items, tightening-length, result-items};
-ghost use Rattle.model.specs.Layouts.{controller-rows, identifier-rows, layout-0065, layouts-0061};
-ghost use Rattle.model.specs.Kinds.{kind-at, copy-most, reply-most};
+ghost use Rattle.model.specs.Layouts.{controller-rows, identifier-rows, layout-0065, torque-rows, angle-rows, result-rows};
+ghost use Rattle.model.specs.Kinds.{kinds, kind-at, copy-most, reply-most};
 ghost use Rattle.model.specs.Events.{result-as};
 ghost use Rattle.model.specs.Frames.{frame-0002, frame-0004, frame-0005, frame-0065, event-frame, frame-record, close-record};
 ghost use Rattle.text.specs.Put.{Written, WrittenUpTo};
@@ -26,7 +26,12 @@ ghost use Rattle.frame.specs.Layout.{
   FieldsPut,
   Room,
   Tellable,
+  FixedPut,
+  unreported-rows,
+  RoomFrom,
   results,
+  later,
+  added,
   kept-first,
   kept-last,
 };
@@ -214,6 +219,9 @@ pub enum Content {
 
 const FIELD_DIGITS: usize = 2;
 
+// The unit of the torques.
+const NEWTON_METRES: u64 = 1;
+
 // A number in so many digits.
 fn put_number(out: &mut [u8], at: usize, field: u64, width: usize, n: u64) -> usize
     requires { ⌜ at + (2 + width) ≤ length (now out) ⌝ }
@@ -239,6 +247,29 @@ fn put_blank(out: &mut [u8], at: usize, field: u64, width: usize) -> usize
 {
     let at = text::put_digits(out, at, FIELD_DIGITS, field);
     text::fill(out, at, width, b' ')
+}
+
+// What the tool does not report, a number or a text: zeros.
+fn put_zeros(out: &mut [u8], at: usize, field: u64, width: usize) -> usize
+    requires { ⌜ at + (2 + width) ≤ length (now out) ⌝ }
+    ensures { λ r. ⌜ Written (now (out .entry)) at (2 + width) (numbered field (replicate width digit-0)) r (now (out .exit)) ⌝ }
+{
+    let at = text::put_digits(out, at, FIELD_DIGITS, field);
+    text::fill(out, at, width, b'0')
+}
+
+// So many of one width, the first of which has that number.
+fn put_unreported(out: &mut [u8], at: usize, field: u64, count: u64, width: usize) -> usize
+    requires { ⌜ RoomFrom field (unreported-rows count width) at (length (now out)) ⌝ }
+    ensures { λ r. ⌜ FixedPut field (unreported-rows count width) (now (out .entry)) at r (now (out .exit)) ⌝ }
+{
+    let mut at = at;
+    let mut i = 0;
+    while i < count {
+        at = put_zeros(out, at, field + i, width);
+        i += 1;
+    }
+    at
 }
 
 // ---- the data of each frame, field by field: of each number its digits, and in how many bytes it stands where
@@ -277,8 +308,8 @@ fn put_parts(out: &mut [u8], at: usize, told: &[u8]) -> usize
 
 // Of 0061 and 0065, statuses: tightening, torque, angle.
 fn put_statuses(out: &mut [u8], at: usize, field: u64, told: &[u8]) -> usize
-    requires { ⌜ (field < 97) × Tellable (results 5 3) (now told) at (length (now out)) ⌝ }
-    ensures { λ r. ⌜ FieldsPut (told-values tightening-items (now (told .entry))) field (results 5 3) (now (out .entry)) at r
+    requires { ⌜ (field < 97) × Tellable (results 9 3) (now told) at (length (now out)) ⌝ }
+    ensures { λ r. ⌜ FieldsPut (told-values tightening-items (now (told .entry))) field (results 9 3) (now (out .entry)) at r
         (now (out .exit)) ⌝ }
 {
     let at = put_number(out, at, field, 1, text::little(told, 32, 1));
@@ -286,10 +317,10 @@ fn put_statuses(out: &mut [u8], at: usize, field: u64, told: &[u8]) -> usize
     put_number(out, at, field + 2, 1, text::little(told, 34, 1))
 }
 
-// Of 0061: identifier, job, parameter set, batch size, batch counter.
+// Of 0061 in revision 1: identifier, job, parameter set, batch size, batch counter.
 fn put_batch(out: &mut [u8], at: usize, told: &[u8]) -> usize
-    requires { ⌜ Tellable (results 0 5) (now told) at (length (now out)) ⌝ }
-    ensures { λ r. ⌜ FieldsPut (told-values tightening-items (now (told .entry))) 4 (results 0 5) (now (out .entry)) at r
+    requires { ⌜ Tellable (results 4 5) (now told) at (length (now out)) ⌝ }
+    ensures { λ r. ⌜ FieldsPut (told-values tightening-items (now (told .entry))) 4 (results 4 5) (now (out .entry)) at r
         (now (out .exit)) ⌝ }
 {
     let at = put_text(out, at, 4, &told[0..IDENTIFIER_LENGTH]);
@@ -301,8 +332,8 @@ fn put_batch(out: &mut [u8], at: usize, told: &[u8]) -> usize
 
 // Torques: minimum, maximum, target, the torque.
 fn put_torques(out: &mut [u8], at: usize, told: &[u8]) -> usize
-    requires { ⌜ Tellable (results 8 4) (now told) at (length (now out)) ⌝ }
-    ensures { λ r. ⌜ FieldsPut (told-values tightening-items (now (told .entry))) 12 (results 8 4) (now (out .entry)) at r
+    requires { ⌜ Tellable torque-rows (now told) at (length (now out)) ⌝ }
+    ensures { λ r. ⌜ FieldsPut (told-values tightening-items (now (told .entry))) 12 torque-rows (now (out .entry)) at r
         (now (out .exit)) ⌝ }
 {
     let at = put_number(out, at, 12, 6, text::little(told, 35, 4));
@@ -313,8 +344,8 @@ fn put_torques(out: &mut [u8], at: usize, told: &[u8]) -> usize
 
 // Angles: minimum, maximum, target, the angle.
 fn put_angles(out: &mut [u8], at: usize, told: &[u8]) -> usize
-    requires { ⌜ Tellable (results 12 4) (now told) at (length (now out)) ⌝ }
-    ensures { λ r. ⌜ FieldsPut (told-values tightening-items (now (told .entry))) 16 (results 12 4) (now (out .entry)) at r
+    requires { ⌜ Tellable angle-rows (now told) at (length (now out)) ⌝ }
+    ensures { λ r. ⌜ FieldsPut (told-values tightening-items (now (told .entry))) 16 angle-rows (now (out .entry)) at r
         (now (out .exit)) ⌝ }
 {
     let at = put_number(out, at, 16, 5, text::little(told, 51, 4));
@@ -325,8 +356,8 @@ fn put_angles(out: &mut [u8], at: usize, told: &[u8]) -> usize
 
 // Time, time of the last change of the parameter set, batch status, tightening number.
 fn put_times(out: &mut [u8], at: usize, told: &[u8]) -> usize
-    requires { ⌜ (length (now told) ≡ payload-length result-items) × Room (results 16 4) at (length (now out)) ⌝ }
-    ensures { λ r. ⌜ FieldsPut (told-values result-items (now (told .entry))) 20 (results 16 4) (now (out .entry)) at r
+    requires { ⌜ (length (now told) ≡ payload-length result-items) × Room (results 20 4) at (length (now out)) ⌝ }
+    ensures { λ r. ⌜ FieldsPut (told-values result-items (now (told .entry))) 20 (results 20 4) (now (out .entry)) at r
         (now (out .exit)) ⌝ }
 {
     let at = put_text(out, at, 20, &told[67..86]);
@@ -335,10 +366,10 @@ fn put_times(out: &mut [u8], at: usize, told: &[u8]) -> usize
     put_number(out, at, 23, 10, text::little(told, 106, 4))
 }
 
-// 0061: the controller's fields, and a result's behind them.
+// 0061 in revision 1: the controller's fields, and a result's behind them.
 fn put_result(out: &mut [u8], at: usize, settings: &[u8], told: &[u8]) -> usize
-    requires { ⌜ ResultWhole (now settings) (now told) × Room (layouts-0061 .newest .rows) at (length (now out)) ⌝ }
-    ensures { λ r. ⌜ FieldsPut (held result-items (payloads (now (settings .entry)) (now (told .entry)))) 1 (layouts-0061 .newest .rows)
+    requires { ⌜ ResultWhole (now settings) (now told) × Room result-rows at (length (now out)) ⌝ }
+    ensures { λ r. ⌜ FieldsPut (held result-items (payloads (now (settings .entry)) (now (told .entry)))) 1 result-rows
         (now (out .entry)) at r (now (out .exit)) ⌝ }
 {
     let at = put_controller(out, at, settings);
@@ -347,6 +378,141 @@ fn put_result(out: &mut [u8], at: usize, settings: &[u8], told: &[u8]) -> usize
     let at = put_torques(out, at, told);
     let at = put_angles(out, at, told);
     put_times(out, at, told)
+}
+
+// 0061 from revision 2 on: identifier, job, parameter set, strategy, its options.
+fn put_later_program(out: &mut [u8], at: usize, told: &[u8]) -> usize
+    requires { ⌜ Tellable (later 4 5) (now told) at (length (now out)) ⌝ }
+    ensures { λ r. ⌜ FieldsPut (told-values tightening-items (now (told .entry))) 4 (later 4 5) (now (out .entry)) at r
+        (now (out .exit)) ⌝ }
+{
+    let at = put_text(out, at, 4, &told[0..IDENTIFIER_LENGTH]);
+    let at = put_number(out, at, 5, 4, text::little(told, 25, 1));
+    let at = put_number(out, at, 6, 3, text::little(told, 26, 2));
+    let at = put_unreported(out, at, 7, 1, 2);
+    put_unreported(out, at, 8, 1, 5)
+}
+
+// Batch size, batch counter; statuses: tightening, batch.
+fn put_later_batch(out: &mut [u8], at: usize, told: &[u8]) -> usize
+    requires { ⌜ Tellable (later 9 4) (now told) at (length (now out)) ⌝ }
+    ensures { λ r. ⌜ FieldsPut (told-values tightening-items (now (told .entry))) 9 (later 9 4) (now (out .entry)) at r
+        (now (out .exit)) ⌝ }
+{
+    let at = put_number(out, at, 9, 4, text::little(told, 28, 2));
+    let at = put_number(out, at, 10, 4, text::little(told, 30, 2));
+    let at = put_number(out, at, 11, 1, text::little(told, 32, 1));
+    put_number(out, at, 12, 1, text::little(told, 105, 1))
+}
+
+// Statuses: torque, angle; five that are not reported, and the error status.
+fn put_later_statuses(out: &mut [u8], at: usize, told: &[u8]) -> usize
+    requires { ⌜ Tellable (later 13 8) (now told) at (length (now out)) ⌝ }
+    ensures { λ r. ⌜ FieldsPut (told-values tightening-items (now (told .entry))) 13 (later 13 8) (now (out .entry)) at r
+        (now (out .exit)) ⌝ }
+{
+    let at = put_number(out, at, 13, 1, text::little(told, 33, 1));
+    let at = put_number(out, at, 14, 1, text::little(told, 34, 1));
+    let at = put_unreported(out, at, 15, 5, 1);
+    put_unreported(out, at, 20, 1, 10)
+}
+
+// Torques, as in revision 1, with other numbers.
+fn put_later_torques(out: &mut [u8], at: usize, told: &[u8]) -> usize
+    requires { ⌜ Tellable torque-rows (now told) at (length (now out)) ⌝ }
+    ensures { λ r. ⌜ FieldsPut (told-values tightening-items (now (told .entry))) 21 torque-rows (now (out .entry)) at r
+        (now (out .exit)) ⌝ }
+{
+    let at = put_number(out, at, 21, 6, text::little(told, 35, 4));
+    let at = put_number(out, at, 22, 6, text::little(told, 39, 4));
+    let at = put_number(out, at, 23, 6, text::little(told, 43, 4));
+    put_number(out, at, 24, 6, text::little(told, 47, 4))
+}
+
+// Angles, likewise.
+fn put_later_angles(out: &mut [u8], at: usize, told: &[u8]) -> usize
+    requires { ⌜ Tellable angle-rows (now told) at (length (now out)) ⌝ }
+    ensures { λ r. ⌜ FieldsPut (told-values tightening-items (now (told .entry))) 25 angle-rows (now (out .entry)) at r
+        (now (out .exit)) ⌝ }
+{
+    let at = put_number(out, at, 25, 5, text::little(told, 51, 4));
+    let at = put_number(out, at, 26, 5, text::little(told, 55, 4));
+    let at = put_number(out, at, 27, 5, text::little(told, 59, 4));
+    put_number(out, at, 28, 5, text::little(told, 63, 4))
+}
+
+// What the tool does not watch: rundown angle, current, selftap, prevail torque.
+fn put_unmonitored(out: &mut [u8], at: usize) -> usize
+    requires { ⌜ Room (later 29 12) at (length (now out)) ⌝ }
+    ensures { λ r. ⌜ FixedPut 29 (later 29 12) (now (out .entry)) at r (now (out .exit)) ⌝ }
+{
+    let at = put_unreported(out, at, 29, 3, 5);
+    let at = put_unreported(out, at, 32, 3, 3);
+    put_unreported(out, at, 35, 6, 6)
+}
+
+// Tightening number; job sequence number, sync number, the tool's serial number; the two times.
+fn put_later_end(out: &mut [u8], at: usize, told: &[u8]) -> usize
+    requires { ⌜ (length (now told) ≡ payload-length result-items) × Room (later 41 6) at (length (now out)) ⌝ }
+    ensures { λ r. ⌜ FieldsPut (told-values result-items (now (told .entry))) 41 (later 41 6) (now (out .entry)) at r
+        (now (out .exit)) ⌝ }
+{
+    let at = put_number(out, at, 41, 10, text::little(told, 106, 4));
+    let at = put_unreported(out, at, 42, 2, 5);
+    let at = put_unreported(out, at, 44, 1, 14);
+    let at = put_text(out, at, 45, &told[67..86]);
+    put_text(out, at, 46, &told[86..105])
+}
+
+// 0061 in revision 2: the controller's fields, and a result's behind them.
+fn put_later(out: &mut [u8], at: usize, settings: &[u8], told: &[u8]) -> usize
+    requires { ⌜ ResultWhole (now settings) (now told) × Room (later 1 46) at (length (now out)) ⌝ }
+    ensures { λ r. ⌜ FieldsPut (held result-items (payloads (now (settings .entry)) (now (told .entry)))) 1 (later 1 46)
+        (now (out .entry)) at r (now (out .exit)) ⌝ }
+{
+    let at = put_controller(out, at, settings);
+    let at = put_later_program(out, at, told);
+    let at = put_later_batch(out, at, told);
+    let at = put_later_statuses(out, at, told);
+    let at = put_later_torques(out, at, told);
+    let at = put_later_angles(out, at, told);
+    let at = put_unmonitored(out, at);
+    put_later_end(out, at, told)
+}
+
+// What revision 3 adds: the parameter set's name, the unit of the torques, the result type.
+fn put_unit(out: &mut [u8], at: usize) -> usize
+    requires { ⌜ Room (later 47 3) at (length (now out)) ⌝ }
+    ensures { λ r. ⌜ FixedPut 47 (later 47 3) (now (out .entry)) at r (now (out .exit)) ⌝ }
+{
+    let at = put_unreported(out, at, 47, 1, IDENTIFIER_LENGTH);
+    let at = put_number(out, at, 48, 1, NEWTON_METRES);
+    put_unreported(out, at, 49, 1, 2)
+}
+
+// What a revision from 2 on has behind the fields of revision 2: from 4 on the identifier's parts 2 to 4, from 5 on the customer's error
+// code, from 6 on the value of the prevail torque's compensation and the second error status.
+fn put_added(out: &mut [u8], at: usize, revision: u64) -> usize
+    requires { ⌜ Room (added revision) at (length (now out)) ⌝ }
+    ensures { λ r. ⌜ FixedPut 47 (added revision) (now (out .entry)) at r (now (out .exit)) ⌝ }
+{
+    if revision < 3 {
+        return at;
+    }
+    let at = put_unit(out, at);
+    if revision < 4 {
+        return at;
+    }
+    let at = put_unreported(out, at, 50, 3, IDENTIFIER_LENGTH);
+    if revision < 5 {
+        return at;
+    }
+    let at = put_unreported(out, at, 53, 1, 4);
+    if revision < 6 {
+        return at;
+    }
+    let at = put_unreported(out, at, 54, 1, 6);
+    put_unreported(out, at, 55, 1, 10)
 }
 
 // Of 0065: number, identifier, parameter set, batch counter.
@@ -395,7 +561,11 @@ fn put_notice(out: &mut [u8], at: usize, asked: Asked, settings: &[u8], told: &[
         }
         return put_parts(out, at, told);
     }
-    put_result(out, at, settings, told)
+    if asked.revision < 2 {
+        return put_result(out, at, settings, told);
+    }
+    let at = put_later(out, at, settings, told);
+    put_added(out, at, asked.revision)
 }
 
 // Any frame.
@@ -445,6 +615,14 @@ fn reply_heading(size: usize, mid: u64) -> Heading
     }
 }
 
+// The message number of a notice.
+fn notice_mid(kind: usize) -> u64
+    requires { ⌜ kind < length kinds ⌝ }
+    ensures { λ r. ⌜ r ≡ (kind-at kind) .notice ⌝ }
+{
+    if kind == model::IDENTIFIERS { 52 } else { 61 }
+}
+
 // Byte 12 of a notice.
 fn byte_12(no_acknowledge: bool) -> u8
     ensures { λ r. ⌜ r ≡ notice-byte-12 «no_acknowledge» ⌝ }
@@ -469,8 +647,8 @@ fn notice_heading(size: usize, mid: u64, asked: Asked) -> Heading
     }
 }
 
-// The header of a frame of so many bytes. The number, and the length of what has one length only, stand in an arm for each frame, so that
-// the compiler knows their digits.
+// The header of a frame of so many bytes. The number and the length of a reply stand in an arm for each, so that the compiler knows their
+// digits.
 fn put_header(out: &mut [u8], at: usize, content: Content, size: usize) -> usize
     requires { ⌜ Headable content size at (length (now out)) ⌝ }
     ensures { λ r. ⌜ Written (now (out .entry)) at header-length (heading-bytes (heading-of content)) r (now (out .exit)) ⌝ }
@@ -481,10 +659,8 @@ fn put_header(out: &mut [u8], at: usize, content: Content, size: usize) -> usize
         Content::Accepted(mid) => put_heading(out, at, reply_heading(24, 5)),
         Content::Kept(number) => put_heading(out, at, reply_heading(118, 65)),
         Content::Notice(asked) => {
-            if asked.kind == model::IDENTIFIERS {
-                return put_heading(out, at, notice_heading(size, 52, asked));
-            }
-            put_heading(out, at, notice_heading(size, 61, asked))
+            let mid = notice_mid(asked.kind);
+            put_heading(out, at, notice_heading(size, mid, asked))
         }
     }
 }

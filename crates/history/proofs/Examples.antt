@@ -15,8 +15,9 @@ use Rattle.model.specs.Kinds.{tightenings}
 use Rattle.model.specs.Events.{Result}
 use Rattle.model.specs.World.{begun}
 use Rattle.model.specs.Calls.{Call, start, open-session, hang-up-session, bytes, one-tick, tool, Lent}
-use Rattle.model.proofs.Text.{ascii, frame-text}
-use Rattle.model.proofs.Histories.{result-of-guide, a-tightening, scan, opened, hung-up, message, sends, tick, ticks, line4, told, outcome}
+use Rattle.model.proofs.Text.{_&_, ascii, frame-text}
+use Rattle.model.proofs.Histories.{result-of-guide, a-tightening, scan, opened, hung-up, message, sends, tick, ticks, line4, on, told}
+use Rattle.model.proofs.Histories.{outcome}
 use Rattle.watch.specs.Marks.{Mark, copies, T}
 use Rattle.history.specs.Turns.{Turn, turns}
 use Rattle.history.specs.Demand.{marks, past-after}
@@ -78,6 +79,17 @@ pub the-copies : map stood (19 ∷ 20 ∷ 99 ∷ 100 ∷ 120 ∷ 130 ∷ [])
     ≡ (19 ∷ 1 ∷ []) ∷ (20 ∷ 2 ∷ []) ∷ (99 ∷ 5 ∷ []) ∷ (100 ∷ 6 ∷ []) ∷ (120 ∷ 6 ∷ []) ∷ (120 ∷ 6 ∷ []) ∷ []
 unfolding outcome
 the-copies = refl
+
+-- and in each revision that session 0 may subscribe to (02, P4), of 100 ticks
+abbrev stood-in : String → List ℕ
+stood-in revision =
+    let beginning-so = map made (drop 1 on ++ sends 0 ("00200060" & revision & "_________") ∷ a-tightening ∷ []) in
+    let ms = marks-of (beginning-so ++ map made (stands 100)) in
+    T (drop 4 ms) ∷ copies 0 ms ∷ []
+
+pub the-copies-by-revision : map stood-in ("001" ∷ "002" ∷ "003" ∷ "004" ∷ "005" ∷ "006" ∷ []) ≡ replicate 6 (100 ∷ 6 ∷ [])
+unfolding outcome
+the-copies-by-revision = refl
 
 -- ==== 840: eight are taken, and none is acknowledged. The eighth goes out by that tick, and not by the one before
 

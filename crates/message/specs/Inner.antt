@@ -32,7 +32,7 @@ messages =
     ∷ row 51 20 20 1 2
     ∷ row 53 20 20 0 any
     ∷ row 54 20 20 0 any
-    ∷ row 60 20 20 1 1
+    ∷ row 60 20 20 1 6
     ∷ row 62 20 20 0 any
     ∷ row 63 20 20 0 any
     ∷ row 64 30 30 1 1

@@ -19,7 +19,7 @@ use Rattle.model.specs.Notices.{next-one, act}
 use Rattle.model.specs.Messages.{not-read, revisions, starts, stops, identifies, subscribes, unsubscribes, acknowledges, fetches}
 use Rattle.model.specs.Messages.{mirrors, entry, table}
 
--- 01, "What a message does"; 02, P2
+-- 01, "What a message does"; 02, P2 and P4
 pub the-table : table
     ≡ entry 0001 20 20 (revisions 1 1) starts
     ∷ entry 0003 20 20 not-read stops
@@ -27,7 +27,7 @@ pub the-table : table
     ∷ entry 0051 20 20 (revisions 1 2) (subscribes identifiers 06)
     ∷ entry 0053 20 20 not-read (acknowledges identifiers)
     ∷ entry 0054 20 20 not-read (unsubscribes identifiers 07)
-    ∷ entry 0060 20 20 (revisions 1 1) (subscribes tightenings 09)
+    ∷ entry 0060 20 20 (revisions 1 6) (subscribes tightenings 09)
     ∷ entry 0062 20 20 not-read (acknowledges tightenings)
     ∷ entry 0063 20 20 not-read (unsubscribes tightenings 10)
     ∷ entry 0064 30 30 (revisions 1 1) (fetches 15)
@@ -63,7 +63,7 @@ lengths ls = map (λ l. header-length + data-length l) (ls .older ++ ls .newest 
 
 pub lengths-by-revision : map (λ k. lengths (k .layouts)) kinds
     ≡ (45 ∷ 128 ∷ [])
-    ∷ (231 ∷ [])
+    ∷ (231 ∷ 385 ∷ 419 ∷ 500 ∷ 506 ∷ 526 ∷ [])
     ∷ []
 lengths-by-revision = refl
 

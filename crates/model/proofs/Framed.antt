@@ -7,13 +7,13 @@ use mathlib.Core.List.{List, [], _∷_, _++_}
 use mathlib.Core.Option.{Option, none, some}
 use native.Mathlib.Omega.{arith}
 use lib.Dec.{leb, eqb}
-use lib.ListN.{length, getD, take, length-append, length-replicate}
+use lib.ListN.{length, getD, take, replicate, length-append, length-replicate}
 use borrow.Author.Tests.{le-leb, leb-true}
 use Rattle.model.specs.Limits.{identifier-length, number-greatest}
 use Rattle.model.specs.Bytes.{NUL, space, digit-0, digit-1, is-digit, is-text, all, spaces, decimal, digits}
 use Rattle.model.specs.Records.{Value, counted, said, text-in, value-at, number-at, text-at, Settings, tightening-items}
-use Rattle.model.specs.Layouts.{Sources, settings, source, Row, number, text, blank, known, width-of, characters, label-length}
-use Rattle.model.specs.Layouts.{Layout, data-from, data-of, layout-0002, layout-0004, layout-0005, layout-0065}
+use Rattle.model.specs.Layouts.{Sources, settings, source, Row, number, text, blank, unreported, known, width-of, characters}
+use Rattle.model.specs.Layouts.{label-length, Layout, data-from, data-of, layout-0002, layout-0004, layout-0005, layout-0065}
 use Rattle.model.specs.Layouts.{Layouts, layout-at, layouts-0052, layouts-0061}
 use Rattle.model.specs.Kinds.{kind-at}
 use Rattle.model.specs.Events.{Result, Event, identified, tightened, kind-of, result-values, told-of}
@@ -92,9 +92,12 @@ unfolding digits
 nul-digits zero n = tt
 nul-digits (suc width) n = nul-append (digits width (n / 10)) ((0x30 + n % 10) ∷ []) (nul-digits width (n / 10)) (λ e. omega arith, tt)
 
+nul-replicate : (c : ℕ) → Shown c → (n : ℕ) → NoNUL (replicate n c)
+nul-replicate c h zero = tt
+nul-replicate c h (suc n) = (h, nul-replicate c h n)
+
 pub nul-spaces : (n : ℕ) → NoNUL (spaces n)
-nul-spaces zero = tt
-nul-spaces (suc n) = (λ e. omega arith, nul-spaces n)
+nul-spaces n = nul-replicate space (λ e. omega arith) n
 
 pub nul-text : (bs : List ℕ) → all is-text bs ≡ true → NoNUL bs
 nul-text [] h = tt
@@ -178,6 +181,9 @@ module _ (b : Sources) (h : Fits b) where
       (nul-digits width n, λ e. omega (arith, length-digits width n, leb-true width identifier-length e))
   field-fits (text width from i) = let f = fit-source from i in (f .no-NUL, λ e. f .short)
   field-fits (blank width) = (nul-spaces width, λ e. omega (arith, length-replicate width space, leb-true width identifier-length e))
+  field-fits (unreported width) =
+      let n = length-replicate width digit-0 in
+      (nul-replicate digit-0 (λ e. omega arith) width, λ e. omega (arith, n, leb-true width identifier-length e))
   field-fits (known width n) = (nul-digits width n, λ e. omega (arith, length-digits width n, leb-true width identifier-length e))
 
   data-fits : (numbered : Bool) (i : ℕ) (rows : List Row)

@@ -12,8 +12,8 @@ use Rattle.model.specs.Limits.{identifier-length, number-length, number-
 use Rattle.model.specs.Bytes.{space, digit-0, digit-1, all, digits}
 use Rattle.model.specs.Records.{Item, number as number-item, text as text-item, time, Value, counted, said, number-at, text-at}
 use Rattle.model.specs.Records.{Settings, settings-items, tightening-items, result-items, scanned-items}
-use Rattle.model.specs.Layouts.{Sources, settings, source, Row, number, text, blank, known, characters, Layout, data-from, data-of}
-use Rattle.model.specs.Layouts.{layout-0002, layout-0004, layout-0005, layout-0065, layouts-0052, layouts-0061}
+use Rattle.model.specs.Layouts.{Sources, settings, source, Row, number, text, blank, unreported, known, characters, Layout}
+use Rattle.model.specs.Layouts.{data-from, data-of, layout-0002, layout-0004, layout-0005, layout-0065, layouts-0052, layouts-0061}
 use Rattle.model.specs.Kinds.{kind-at}
 use Rattle.model.specs.Events.{Result, Event, identified, tightened, kind-of, told-of}
 use Rattle.model.specs.Frames.{header, frame, sources, nothing, frame-0002, frame-0004, frame-0005, kept-sources, frame-0065}
@@ -65,6 +65,7 @@ module _ (ss ts : List Item) (b : Sources) (s : all-within ss (b .settings) ≡ 
       (number-within (10 ^ w) (cond (eqb from settings) ss ts) (source b from) i (source-within from) f)
   fit-legible (text w from i) f = text-within w (cond (eqb from settings) ss ts) (source b from) i (source-within from) f
   fit-legible (blank w) f = refl
+  fit-legible (unreported w) f = refl
   fit-legible (known w n) f = f
 
   pub all-legible : (rows : List Row) → all (row-fits ss ts) rows ≡ true → all (legible b) rows ≡ true

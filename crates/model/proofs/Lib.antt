@@ -16,6 +16,7 @@ pub mod Cuts
 pub mod Erase
 pub mod Framed
 pub mod ReadBack
+pub mod Revisions
 pub mod Legible
 pub mod Clean
 pub mod Sent

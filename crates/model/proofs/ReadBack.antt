@@ -8,10 +8,10 @@ use mathlib.Core.List.{List, [], _∷_, _++_, map, append-assoc}
 use lib.ListN.{length, length-replicate}
 use lib.Seq.{take-at, drop-at}
 use borrow.Author.Tests.{ltb-true, eqb-true}
-use Rattle.model.specs.Bytes.{space, all, digits, decimal, decimal-from}
+use Rattle.model.specs.Bytes.{space, digit-0, all, digits, decimal, decimal-from}
 use Rattle.model.specs.Records.{counted, number-at, text-at}
-use Rattle.model.specs.Layouts.{Sources, source, Row, number, text, blank, known, width-of, characters, label-length, label}
-use Rattle.model.specs.Layouts.{data-from}
+use Rattle.model.specs.Layouts.{Sources, source, Row, number, text, blank, unreported, known, width-of, characters}
+use Rattle.model.specs.Layouts.{label-length, label, data-from}
 use Rattle.model.specs.FieldsRead.{read-field, read-fields, value-in, legible}
 use Rattle.model.proofs.Framed.{length-digits}
 
@@ -41,6 +41,7 @@ module _ (b : Sources) where
       let n = number-at (source b f) i in (length-digits w n, ap counted (decimal-digits w n (ltb-true n (10 ^ w) e)))
   field-back (text w f i) e = (eqb-true (length (text-at (source b f) i)) w e, refl)
   field-back (blank w) e = (length-replicate w space, refl)
+  field-back (unreported w) e = (length-replicate w digit-0, refl)
   field-back (known w n) e = (length-digits w n, ap counted (decimal-digits w n (ltb-true n (10 ^ w) e)))
 
   -- ==== all of them

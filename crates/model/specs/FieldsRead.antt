@@ -4,13 +4,13 @@ use mathlib.Core.Path.{_≡_}
 use mathlib.Core.Bool.{Bool, true, false, cond, _&&_}
 use mathlib.Core.List.{List, [], _∷_, map}
 use lib.Dec.{leb, eqb, ltb}
-use lib.ListN.{length, take, drop}
+use lib.ListN.{length, take, drop, replicate}
 use Rattle.model.specs.Limits.{header-length, time-length}
-use Rattle.model.specs.Bytes.{spaces, decimal}
+use Rattle.model.specs.Bytes.{digit-0, spaces, decimal}
 use Rattle.model.specs.Records.{Item, number as number-item, text as text-item, time, Value, counted, said, number-at, text-at}
 use Rattle.model.specs.Records.{Settings, settings-items, scanned-items, result-items}
-use Rattle.model.specs.Layouts.{Sources, settings, source, Row, number, text, blank, known, width-of, label-length, Layout}
-use Rattle.model.specs.Layouts.{layout-0002, layout-0004, layout-0005, layout-0065, layout-at}
+use Rattle.model.specs.Layouts.{Sources, settings, source, Row, number, text, blank, unreported, known, width-of, label-length}
+use Rattle.model.specs.Layouts.{Layout, layout-0002, layout-0004, layout-0005, layout-0065, layout-at}
 use Rattle.model.specs.Runs.{Message}
 use Rattle.model.specs.Kinds.{kind-at}
 use Rattle.model.specs.Events.{Result, Event, identified, tightened, kind-of, told-of}
@@ -22,6 +22,7 @@ abbrev pub read-field : Row → List ℕ → Value
 read-field (number width from i) cs = counted (decimal cs)
 read-field (text width from i) cs = said cs
 read-field (blank width) cs = said cs
+read-field (unreported width) cs = said cs
 read-field (known width n) cs = counted (decimal cs)
 
 -- the values of data that begins with these rows
@@ -36,6 +37,7 @@ abbrev pub value-in : Sources → Row → Value
 value-in b (number width from i) = counted (number-at (source b from) i)
 value-in b (text width from i) = said (text-at (source b from) i)
 value-in b (blank width) = said (spaces width)
+value-in b (unreported width) = said (replicate width digit-0)
 value-in b (known width n) = counted n
 
 -- which values its characters can say: a number that has no more digits, a text of the width
@@ -43,6 +45,7 @@ abbrev pub legible : Sources → Row → Bool
 legible b (number width from i) = ltb (number-at (source b from) i) (10 ^ width)
 legible b (text width from i) = eqb (length (text-at (source b from) i)) width
 legible b (blank width) = true
+legible b (unreported width) = true
 legible b (known width n) = ltb n (10 ^ width)
 
 -- ==== a frame, read by a layout; and what its rows have
@@ -104,6 +107,7 @@ abbrev pub row-fits : List Item → List Item → Row → Bool
 row-fits ss ts (number width from i) = passes-at (number-below (10 ^ width)) (cond (eqb from settings) ss ts) i
 row-fits ss ts (text width from i) = passes-at (text-of width) (cond (eqb from settings) ss ts) i
 row-fits ss ts (blank width) = true
+row-fits ss ts (unreported width) = true
 row-fits ss ts (known width n) = ltb n (10 ^ width)
 
 -- ==== values that are within their items: a number up to the greatest, a text of its length

@@ -45,7 +45,7 @@ a-kind subscribe notice acknowledge unsubscribe already not-subscribed room layo
 abbrev pub kinds : List Kind
 kinds =
     a-kind 0051 0052 0053 0054 06 07 the-newest layouts-0052 128
-    ∷ a-kind 0060 0061 0062 0063 09 10 (up-to tightenings-held) layouts-0061 231
+    ∷ a-kind 0060 0061 0062 0063 09 10 (up-to tightenings-held) layouts-0061 526
     ∷ []
 
 -- their places

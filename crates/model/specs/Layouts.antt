@@ -1,11 +1,11 @@
 -- 01, "Frames we write": the data of a frame by rows, a row for each field.
 use Prim.Native.Nat.{ℕ, suc, _+_, _-_}
 use mathlib.Core.Bool.{Bool, true, false, cond}
-use mathlib.Core.List.{List, [], _∷_, _++_}
+use mathlib.Core.List.{List, [], _∷_, _++_, map}
 use lib.Dec.{eqb}
-use lib.ListN.{length, getD, take}
+use lib.ListN.{length, getD, take, replicate}
 use Rattle.model.specs.Limits.{identifier-length, time-length, number-digits}
-use Rattle.model.specs.Bytes.{spaces, digits}
+use Rattle.model.specs.Bytes.{digit-0, spaces, digits}
 use Rattle.model.specs.Records.{Value, number-at, text-at}
 
 -- ==== what a frame is made of: the values of the settings, and those of what it tells
@@ -30,8 +30,10 @@ pub data Row : Type 0 where
   -- width; source, and which value of it
   number : ℕ → ℕ → ℕ → Row
   text : ℕ → ℕ → ℕ → Row
-  -- width
+  -- width; a text of spaces
   blank : ℕ → Row
+  -- width; what the tool does not report (02, P4)
+  unreported : ℕ → Row
   -- width; a number that no source has
   known : ℕ → ℕ → Row
 
@@ -39,13 +41,15 @@ abbrev pub width-of : Row → ℕ
 width-of (number width from i) = width
 width-of (text width from i) = width
 width-of (blank width) = width
+width-of (unreported width) = width
 width-of (known width n) = width
 
--- the field's characters
+-- the field's characters; `0` is each of what is not reported, be it a text
 unfoldable pub characters : Sources → Row → List ℕ
 characters b (number width from i) = digits width (number-at (source b from) i)
 characters b (text width from i) = text-at (source b from) i
 characters b (blank width) = spaces width
+characters b (unreported width) = replicate width digit-0
 characters b (known width n) = digits width n
 
 -- ==== a layout: its rows, and whether each field has its own number before it, in two digits
@@ -138,39 +142,117 @@ identifier-rows =
 abbrev pub layouts-0052 : Layouts
 layouts-0052 = record { older = first-of identifier-rows false 1 ∷ []; newest = first-of identifier-rows true 4 }
 
--- fields 04 to 23 of revision 1: a tightening's items in their order, and its number
+-- torques: minimum, maximum, target, the torque
+abbrev pub torque-rows : List Row
+torque-rows = number 6 told 8 ∷ number 6 told 9 ∷ number 6 told 10 ∷ number 6 told 11 ∷ []
+
+-- angles: minimum, maximum, target, the angle
+abbrev pub angle-rows : List Row
+angle-rows = number 5 told 12 ∷ number 5 told 13 ∷ number 5 told 14 ∷ number 5 told 15 ∷ []
+
+-- time, time of the last change of the parameter set
+abbrev pub time-rows : List Row
+time-rows = text time-length told 16 ∷ text time-length told 17 ∷ []
+
+-- revision 1 of 0061 (000, Table 21): the controller, a tightening's items in their order, and its number
 abbrev pub result-rows : List Row
 result-rows =
-    -- identifier, job, parameter set, batch size, batch counter
-    text identifier-length told 0
+    controller-rows
+    -- 04: identifier, job, parameter set, batch size, batch counter
+    ++ text identifier-length told 0
     ∷ number 2 told 1
     ∷ number 3 told 2
     ∷ number 4 told 3
     ∷ number 4 told 4
-    -- statuses: tightening, torque, angle
+    -- 09, statuses: tightening, torque, angle
     ∷ number 1 told 5
     ∷ number 1 told 6
     ∷ number 1 told 7
-    -- torques: minimum, maximum, target, the torque
-    ∷ number 6 told 8
-    ∷ number 6 told 9
-    ∷ number 6 told 10
-    ∷ number 6 told 11
-    -- angles: minimum, maximum, target, the angle
-    ∷ number 5 told 12
-    ∷ number 5 told 13
-    ∷ number 5 told 14
-    ∷ number 5 told 15
-    -- time, time of the last change of the parameter set, batch status, tightening number
-    ∷ text time-length told 16
-    ∷ text time-length told 17
-    ∷ number 1 told 18
+    -- 12, 16 and 20
+    ∷ torque-rows
+    ++ angle-rows
+    ++ time-rows
+    -- 22: batch status, tightening number
+    ++ number 1 told 18
     ∷ number 10 told 19
     ∷ []
 
--- behind those of the controller
-abbrev pub of-controller : List Row → Layout
-of-controller rows = record { numbered = true; rows = controller-rows ++ rows }
+-- the revisions from 2 on, of which each has the first so many of these fields (02, P4; 000, Tables 22 to 26)
+abbrev pub later-rows : List Row
+later-rows =
+    controller-rows
+    -- 04: identifier, job, parameter set, strategy, its options
+    ++ text identifier-length told 0
+    ∷ number 4 told 1
+    ∷ number 3 told 2
+    ∷ unreported 2
+    ∷ unreported 5
+    -- 09: batch size, batch counter
+    ∷ number 4 told 3
+    ∷ number 4 told 4
+    -- 11, statuses: tightening, batch, torque, angle
+    ∷ number 1 told 5
+    ∷ number 1 told 18
+    ∷ number 1 told 6
+    ∷ number 1 told 7
+    -- 15, statuses: rundown angle, current, selftap, prevail torque, its compensation; error status
+    ∷ unreported 1
+    ∷ unreported 1
+    ∷ unreported 1
+    ∷ unreported 1
+    ∷ unreported 1
+    ∷ unreported 10
+    -- 21 and 25
+    ∷ torque-rows
+    ++ angle-rows
+    -- 29, each minimum, maximum, the value: rundown angle, current, selftap, prevail torque
+    ++ unreported 5
+    ∷ unreported 5
+    ∷ unreported 5
+    ∷ unreported 3
+    ∷ unreported 3
+    ∷ unreported 3
+    ∷ unreported 6
+    ∷ unreported 6
+    ∷ unreported 6
+    ∷ unreported 6
+    ∷ unreported 6
+    ∷ unreported 6
+    -- 41: tightening number; job sequence number, sync number, the tool's serial number
+    ∷ number 10 told 19
+    ∷ unreported 5
+    ∷ unreported 5
+    ∷ unreported 14
+    -- 45
+    ∷ time-rows
+    -- 47, from revision 3 on: the parameter set's name, the unit of the torques (1 is Nm), result type
+    ++ unreported identifier-length
+    ∷ known 1 1
+    ∷ unreported 2
+    -- 50, from revision 4 on: the identifier's parts 2 to 4
+    ∷ unreported identifier-length
+    ∷ unreported identifier-length
+    ∷ unreported identifier-length
+    -- 53, from revision 5 on: the customer's error code
+    ∷ unreported 4
+    -- 54, from revision 6 on: the value of the prevail torque's compensation, error status 2
+    ∷ unreported 6
+    ∷ unreported 10
+    ∷ []
+
+-- how many fields have revisions 2 to 5, and the newest
+abbrev pub older-counts : List ℕ
+older-counts = 46 ∷ 49 ∷ 52 ∷ 53 ∷ []
+
+abbrev pub newest-count : ℕ
+newest-count = 55
 
 abbrev pub layouts-0061 : Layouts
-layouts-0061 = record { older = []; newest = of-controller result-rows }
+layouts-0061 = record {
+  older = first-of result-rows true 23 ∷ map (first-of later-rows true) older-counts;
+  newest = first-of later-rows true newest-count;
+}
+
+-- how many has a revision from 2 on (above the newest there is none)
+abbrev pub later-count : ℕ → ℕ
+later-count revision = getD older-counts (revision - 2) newest-count

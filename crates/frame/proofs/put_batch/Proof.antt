@@ -21,10 +21,10 @@ returns c =
     let s = a .before .before .before .before .before in
     let p = s .args .told .now in
     let x = told-values tightening-items p in
-    text-then x 4 25 told 0 (results 1 4) (part-length p 0 25 (omega arith)) refl (a .put-text .ensures)
-    (number-then x 5 2 told 1 (results 2 3) (b .before .little .ensures .0) (b .put-number .ensures)
-    (number-then x 6 3 told 2 (results 3 2) (d .before .little2 .ensures .0) (d .put-number2 .ensures)
-    (number-then x 7 4 told 3 (results 4 1) (e .before .little3 .ensures .0) (e .put-number3 .ensures)
+    text-then x 4 25 told 0 (results 5 4) (part-length p 0 25 (omega arith)) refl (a .put-text .ensures)
+    (number-then x 5 2 told 1 (results 6 3) (b .before .little .ensures .0) (b .put-number .ensures)
+    (number-then x 6 3 told 2 (results 7 2) (d .before .little2 .ensures .0) (d .put-number2 .ensures)
+    (number-then x 7 4 told 3 (results 8 1) (e .before .little3 .ensures .0) (e .put-number3 .ensures)
     (number-then x 8 4 told 4 [] (f .before .little4 .ensures .0) (f .put-number4 .ensures)
     (fields-none x 9)))))
 

@@ -16,7 +16,7 @@ returns c =
     let s = a .before .before .before .before in
     let x = told-values tightening-items (s .args .told .now) in
     fields-then x 1 (kept-first (s .args .number)) (drop 3 kept-rows) (a .put-kept-batch .ensures)
-    (fields-then x 5 (results 5 3) kept-last (b .put-statuses .ensures) (d .put-kept-end .ensures))
+    (fields-then x 5 (results 9 3) kept-last (b .put-statuses .ensures) (d .put-kept-end .ensures))
 
 pub put-kept-spec : {M : Type 1} → statement M
 put-kept-spec =

@@ -2,10 +2,13 @@
 use borrow.Author.Needs.{needs}
 use mathlib.Core.Path.{ap, _∙_}
 use native.Mathlib.Omega.{arith}
+use Rattle.model.specs.Records.{result-items}
+use Rattle.text.proofs.Puts.{put-length}
 use Rattle.frame.specs.Places.{place-size}
-use Rattle.frame.specs.Layout.{payloads, data-in}
-use Rattle.frame.proofs.Contents.{second-kind, first-length, later-length, result-length}
-use Rattle.frame.proofs.Contents.{identifier-alone, identifier-parts, result-fields}
+use Rattle.frame.specs.Layout.{payloads, held, later, added, data-in}
+use Rattle.frame.proofs.Fields.{fixed, fields-then}
+use Rattle.frame.proofs.Contents.{second-kind, first-length, later-length, result-length, revised-length}
+use Rattle.frame.proofs.Contents.{identifier-alone, identifier-parts, result-fields, revised-fields}
 use Rattle.frame.proofs.put_notice.Statement.{statement}
 use Rattle.frame.proofs.put_notice.Tie as tie
 
@@ -46,9 +49,9 @@ returns-2 c =
 
 put-result-requires : tie.Need-put-result-requires
 put-result-requires c κs =
-    let s = c .before .before .before .before .before .before in
-    let e = second-kind _ (s .pre .real) (c .before .if1 .left) in
-    let n = result-length (s .args .asked .revision) e in
+    let s = c .before .before .before .before .before .before .before .before in
+    let e = second-kind _ (s .pre .real) (c .before .before .before .if1 .left) in
+    let n = result-length (s .args .asked .revision) e (c .before .if3 .taken) in
     let room = s .pre .room in
     ((s .pre .whole .0, s .pre .whole .1 ∙ ap place-size e), omega arith)
 
@@ -56,12 +59,44 @@ returns-3 : tie.Need-returns-3
 unfolding data-in
 returns-3 c =
     let w = c .before .before in
-    let s = w .before .before .before .before .before .before .before in
+    let s = w .before .before .before .before .before .before .before .before .before in
     let a = s .args in
-    result-fields (payloads (a .settings .now) (a .told .now)) (a .asked .kind) (a .asked .revision)
-    (second-kind _ (s .pre .real) (w .before .before .if1 .left)) (w .put-result .ensures)
+    let e = second-kind _ (s .pre .real) (w .before .before .before .before .if1 .left) in
+    result-fields (payloads (a .settings .now) (a .told .now)) (a .asked .kind) (a .asked .revision) e (w .before .before .if3 .taken)
+    (w .put-result .ensures)
+
+put-later-requires : tie.Need-put-later-requires
+put-later-requires c κs =
+    let s = c .before .before .before .before .before .before .before .before in
+    let e = second-kind _ (s .pre .real) (c .before .before .before .if1 .left) in
+    let n = revised-length (s .args .asked .revision) e (c .before .if3 .left) in
+    let room = s .pre .room in
+    ((s .pre .whole .0, s .pre .whole .1 ∙ ap place-size e), omega (arith, n, room))
+
+put-added-requires : tie.Need-put-added-requires
+put-added-requires c κs =
+    let w = c .before .before .before in
+    let s = w .before .before .before .before .before .before .before .before .before in
+    let e = second-kind _ (s .pre .real) (w .before .before .before .before .if1 .left) in
+    let n = revised-length (s .args .asked .revision) e (w .before .before .if3 .left) in
+    let p = w .put-later .ensures in
+    omega (arith, n, s .pre .room, p .place, put-length (p .put))
+
+returns-4 : tie.Need-returns-4
+unfolding data-in
+returns-4 c =
+    let q = c .before .before in
+    let w = q .before .before .before .before in
+    let s = w .before .before .before .before .before .before .before .before .before in
+    let a = s .args in
+    let r = a .asked .revision in
+    let b = payloads (a .settings .now) (a .told .now) in
+    let e = second-kind _ (s .pre .real) (w .before .before .before .before .if1 .left) in
+    let x = held result-items b in
+    revised-fields b (a .asked .kind) r e (w .before .before .if3 .left)
+    (fields-then x 1 (later 1 46) (added r) (w .put-later .ensures) (fixed (q .put-added .ensures) x))
 
 pub put-notice-spec : {M : Type 1} → statement M
 put-notice-spec =
     tie.close (tie.spec copy-few-requires (λ c. search needs) returns put-parts-requires (λ c. search needs) returns-2
-    put-result-requires (λ c. search needs) returns-3)
+    put-result-requires (λ c. search needs) returns-3 put-later-requires put-added-requires (λ c. search needs) returns-4)

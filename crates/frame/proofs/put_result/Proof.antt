@@ -1,7 +1,7 @@
 -- `frame::put_result` meets its contract: the controller's fields, and those of a result.
 use borrow.Author.Needs.{needs}
 use Rattle.model.specs.Records.{result-items}
-use Rattle.model.specs.Layouts.{controller-rows, result-rows, characters, data-from}
+use Rattle.model.specs.Layouts.{controller-rows, characters, data-from}
 use Rattle.frame.specs.Layout.{payloads, held, results}
 use Rattle.frame.proofs.Fields.{fields-then}
 use Rattle.frame.proofs.put_result.Statement.{statement}
@@ -18,11 +18,11 @@ returns c =
     let a = b .before .before .before .before in
     let s = a .before .before .before .before .before in
     let x = held result-items (payloads (s .args .settings .now) (s .args .told .now)) in
-    fields-then x 1 controller-rows result-rows (a .put-controller .ensures)
-    (fields-then x 4 (results 0 5) (results 5 15) (b .put-batch .ensures)
-    (fields-then x 9 (results 5 3) (results 8 12) (d .put-statuses .ensures)
-    (fields-then x 12 (results 8 4) (results 12 8) (e .put-torques .ensures)
-    (fields-then x 16 (results 12 4) (results 16 4) (f .put-angles .ensures) (g .put-times .ensures)))))
+    fields-then x 1 controller-rows (results 4 20) (a .put-controller .ensures)
+    (fields-then x 4 (results 4 5) (results 9 15) (b .put-batch .ensures)
+    (fields-then x 9 (results 9 3) (results 12 12) (d .put-statuses .ensures)
+    (fields-then x 12 (results 12 4) (results 16 8) (e .put-torques .ensures)
+    (fields-then x 16 (results 16 4) (results 20 4) (f .put-angles .ensures) (g .put-times .ensures)))))
 
 pub put-result-spec : {M : Type 1} → statement M
 put-result-spec =

@@ -19,8 +19,8 @@ returns c =
     let s = a .before .before .before .before .before in
     let e : s .args .field + 1 + 1 ≡ s .args .field + 2 = omega arith in
     let x = told-values tightening-items (s .args .told .now) in
-    number-then x (s .args .field) 1 told 5 (results 6 2) (a .before .little .ensures .0) (a .put-number .ensures)
-    (number-then x (s .args .field + 1) 1 told 6 (results 7 1) (b .before .little2 .ensures .0) (b .put-number2 .ensures)
+    number-then x (s .args .field) 1 told 5 (results 10 2) (a .before .little .ensures .0) (a .put-number .ensures)
+    (number-then x (s .args .field + 1) 1 told 6 (results 11 1) (b .before .little2 .ensures .0) (b .put-number2 .ensures)
     (rw e (number-then x (s .args .field + 2) 1 told 7 [] (d .before .little3 .ensures .0) (d .put-number3 .ensures)
     (fields-none x (s .args .field + 2 + 1)))))
 

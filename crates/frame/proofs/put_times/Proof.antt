@@ -19,9 +19,9 @@ returns c =
     let s = a .before .before .before .before .before in
     let p = s .args .told .now in
     let x = told-values result-items p in
-    text-then x 20 19 told 16 (results 17 3) (part-length p 67 19 (omega arith)) refl (a .put-text .ensures)
-    (text-then x 21 19 told 17 (results 18 2) (part-length p 86 19 (omega arith)) refl (b .put-text2 .ensures)
-    (number-then x 22 1 told 18 (results 19 1) (d .before .little .ensures .0) (d .put-number .ensures)
+    text-then x 20 19 told 16 (results 21 3) (part-length p 67 19 (omega arith)) refl (a .put-text .ensures)
+    (text-then x 21 19 told 17 (results 22 2) (part-length p 86 19 (omega arith)) refl (b .put-text2 .ensures)
+    (number-then x 22 1 told 18 (results 23 1) (d .before .little .ensures .0) (d .put-number .ensures)
     (number-then x 23 10 told 19 [] (e .before .little2 .ensures .0) (e .put-number2 .ensures)
     (fields-none x 24))))
 

@@ -1,10 +1,9 @@
 -- `frame::put_torques` meets its contract: four numbers.
 use borrow.Author.Needs.{needs}
-use mathlib.Core.List.{[]}
 use Rattle.model.specs.Records.{tightening-items}
 use Rattle.model.specs.Layouts.{told}
-use Rattle.frame.specs.Layout.{told-values, results}
-use Rattle.frame.proofs.Fields.{number-then, fields-none}
+use Rattle.frame.specs.Layout.{told-values}
+use Rattle.frame.proofs.Fields.{four-numbers}
 use Rattle.frame.proofs.put_torques.Statement.{statement}
 use Rattle.frame.proofs.put_torques.Tie as tie
 
@@ -15,12 +14,9 @@ returns c =
     let b = d .before .before .before .before .before in
     let a = b .before .before .before .before .before in
     let s = a .before .before .before .before .before in
-    let x = told-values tightening-items (s .args .told .now) in
-    number-then x 12 6 told 8 (results 9 3) (a .before .little .ensures .0) (a .put-number .ensures)
-    (number-then x 13 6 told 9 (results 10 2) (b .before .little2 .ensures .0) (b .put-number2 .ensures)
-    (number-then x 14 6 told 10 (results 11 1) (d .before .little3 .ensures .0) (d .put-number3 .ensures)
-    (number-then x 15 6 told 11 [] (e .before .little4 .ensures .0) (e .put-number4 .ensures)
-    (fields-none x 16))))
+    four-numbers (told-values tightening-items (s .args .told .now)) 12 6 told 8 (a .before .little .ensures .0) (a .put-number .ensures)
+    (b .before .little2 .ensures .0) (b .put-number2 .ensures) (d .before .little3 .ensures .0) (d .put-number3 .ensures)
+    (e .before .little4 .ensures .0) (e .put-number4 .ensures)
 
 pub put-torques-spec : {M : Type 1} → statement M
 put-torques-spec =
