@@ -7,7 +7,7 @@ use mathlib.Core.Bool.{Bool, true, false}
 use mathlib.Core.List.{List, [], _∷_, _++_, map}
 use mathlib.Core.Option.{Option, none, some, Option·map as option-map}
 use lib.ListN.{length, drop, replicate}
-use Rattle.model.specs.Limits.{table-least, output-least, longest-wait}
+use Rattle.model.specs.Limits.{table-least, output-least, tightenings-held, longest-wait}
 use Rattle.model.specs.Bytes.{padded}
 use Rattle.model.specs.Runs.{empty-run, longer, read-run}
 use Rattle.model.specs.Records.{Settings, payload, settings-of}
@@ -96,7 +96,7 @@ the-copies-by-revision = refl
 abbrev of-the-eighth : ℕ → ℕ
 of-the-eighth n = copies 7 (all-of (replicate 7 a-tightening ++ stands n))
 
-pub the-longest-wait : map of-the-eighth ((longest-wait - 1) ∷ longest-wait ∷ []) ≡ 0 ∷ 1 ∷ []
+pub the-longest-wait : map of-the-eighth ((longest-wait tightenings-held - 1) ∷ longest-wait tightenings-held ∷ []) ≡ 0 ∷ 1 ∷ []
 unfolding outcome
 the-longest-wait = refl
 
