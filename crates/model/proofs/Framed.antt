@@ -45,6 +45,10 @@ module _ {A : Type 0} (P : A → Type 0) where
   every-take (suc n) [] h = tt
   every-take (suc n) (x ∷ xs) h = (h .0, every-take n xs (h .1))
 
+  pub every-replicate : (n : ℕ) (x : A) → P x → Every P (replicate n x)
+  every-replicate zero x h = tt
+  every-replicate (suc n) x h = (h, every-replicate n x h)
+
   pub every-at : (xs : List A) (i : ℕ) (d : A) → P d → Every P xs → P (getD xs i d)
   every-at [] i d h k = h
   every-at (x ∷ xs) zero d h k = k .0
