@@ -12,7 +12,7 @@ use Rattle.model.specs.Records.{Item, time, item-length, is-record, good-item, 
 use Rattle.model.specs.Records.{record-head, good-payload, good-record}
 use Rattle.text.proofs.Lists.{drop-next}
 use Rattle.record.specs.declared.Items.{Items}
-use Rattle.record.specs.declared.Items.the-variants.{Settings, Tightening, Scanned}
+use Rattle.record.specs.declared.Items.the-variants.{Settings, Tightening, Scanned, Alarm}
 use Rattle.record.specs.Items.{items-of, item-at, readable}
 
 -- ==== a record's head
@@ -34,6 +34,7 @@ pub all-readable : (items : Items) → all readable (items-of items) ≡ true
 all-readable Settings = refl
 all-readable Tightening = refl
 all-readable Scanned = refl
+all-readable Alarm = refl
 
 -- ==== a loop that tests an item a turn: what is left of the test is all of it
 

@@ -4,12 +4,12 @@ use mathlib.Core.Bool.{Bool, true}
 use mathlib.Core.List.{List}
 use lib.Dec.{leb}
 use lib.ListN.{getD}
-use Rattle.model.specs.Records.{number, text, time, settings-items, tightening-items, scanned-items}
+use Rattle.model.specs.Records.{number, text, time, settings-items, tightening-items, scanned-items, alarm-items}
 use Rattle.model.specs.Records.{Item as ModelItem}
 use Rattle.record.specs.declared.Item.{Item}
 use Rattle.record.specs.declared.Item.the-variants.{Number, Text, Time}
 use Rattle.record.specs.declared.Items.{Items}
-use Rattle.record.specs.declared.Items.the-variants.{Settings, Tightening, Scanned}
+use Rattle.record.specs.declared.Items.the-variants.{Settings, Tightening, Scanned, Alarm}
 
 abbrev pub item-of : Item → ModelItem
 item-of (Number size greatest) = number size greatest
@@ -20,6 +20,7 @@ abbrev pub items-of : Items → List ModelItem
 items-of Settings = settings-items
 items-of Tightening = tightening-items
 items-of Scanned = scanned-items
+items-of Alarm = alarm-items
 
 -- item k, from 0
 abbrev pub item-at : List ModelItem → ℕ → ModelItem

@@ -16,12 +16,15 @@ ghost use Rattle.model.specs.Records.{
   good-record as good-record-of,
   settings-items,
   tightening-items,
+  alarm-items,
   read-settings,
   read-tool,
 };
 ghost use Rattle.model.specs.Events.{identifier-of};
 ghost use Rattle.record.specs.Items.{item-of, item-at, items-of, readable};
 ghost use Rattle.record.specs.Tools.{settings-in, tool-in};
+use model::ALARM_LENGTH;
+use model::ALARM_RECORD_KIND;
 use model::IDENTIFIER_LENGTH;
 use model::NUMBER_GREATEST;
 use model::NUMBER_LENGTH;
@@ -75,6 +78,7 @@ enum Items {
     Settings,
     Tightening,
     Scanned,
+    Alarm,
 }
 
 fn settings_item(k: usize) -> Item
@@ -123,6 +127,19 @@ fn tightening_item(k: usize) -> Item
     }
 }
 
+fn alarm_item(k: usize) -> Item
+    requires { ⌜ k < length alarm-items ⌝ }
+    ensures { λ r. ⌜ item-of r ≡ item-at alarm-items k ⌝ }
+{
+    match k {
+        // error code, controller ready, tool ready, time
+        0 => Item::Text(4),
+        1 => Item::Number(1, 1),
+        2 => Item::Number(1, 1),
+        _ => Item::Time,
+    }
+}
+
 // How many items there are.
 fn count(items: Items) -> usize
     ensures { λ r. ⌜ r ≡ length (items-of items) ⌝ }
@@ -131,6 +148,7 @@ fn count(items: Items) -> usize
         Items::Settings => 5,
         Items::Tightening => 19,
         Items::Scanned => 1,
+        Items::Alarm => 4,
     }
 }
 
@@ -143,6 +161,7 @@ fn item_at(items: Items, k: usize) -> Item
         Items::Settings => settings_item(k),
         Items::Tightening => tightening_item(k),
         Items::Scanned => Item::Text(IDENTIFIER_LENGTH),
+        Items::Alarm => alarm_item(k),
     }
 }
 
@@ -242,6 +261,7 @@ pub enum RecordKind {
     Bad,
     Tightening,
     Scanned,
+    Alarm,
 }
 
 pub fn tool_record_kind(slice: &[u8]) -> RecordKind
@@ -262,6 +282,9 @@ pub fn tool_record_kind(slice: &[u8]) -> RecordKind
         Items::Scanned,
     ) {
         return RecordKind::Scanned;
+    }
+    if good_record(slice, ALARM_RECORD_KIND, ALARM_LENGTH, Items::Alarm) {
+        return RecordKind::Alarm;
     }
     RecordKind::Bad
 }

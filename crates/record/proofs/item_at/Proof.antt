@@ -32,6 +32,9 @@ item-at-spec =
     (λ c. search needs)
     (λ c κs. asked (c .enum-told2 .given .1) (c .before .before .pre))
     (λ c. search needs)
+    (λ c. search needs)
+    (λ c κs. asked (c .enum-told4 .given .1) (c .before .before .pre))
     (λ c. c .settings-item .ensures ∙ answered (c .before .enum-told .given .1) refl)
     (λ c. c .tightening-item .ensures ∙ answered (c .before .enum-told2 .given .1) refl)
-    returns-3)
+    returns-3
+    (λ c. c .alarm-item .ensures ∙ answered (c .before .enum-told4 .given .1) refl))
