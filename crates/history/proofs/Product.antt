@@ -7,9 +7,9 @@ use mathlib.Core.Option.{none}
 use native.Mathlib.Omega.{arith}
 use lib.Dec.{eqb}
 use lib.ListN.{length}
-use Rattle.model.specs.Limits.{session-count, tightenings-held}
+use Rattle.model.specs.Limits.{session-count, tightenings-held, alarms-held}
 use Rattle.model.specs.Records.{Settings, payload, settings-of}
-use Rattle.model.specs.Kinds.{tightenings}
+use Rattle.model.specs.Kinds.{tightenings, alarms}
 use Rattle.model.specs.World.{World, begun}
 use Rattle.model.specs.Calls.{Call, Answer as ModelAnswer, step}
 use Rattle.model.specs.Sights.{starts}
@@ -83,6 +83,11 @@ demand-3-of-the-product {t = t} {ms = ms} h o =
 pub tightenings-in-time : {slice : List ℕ} {size : ℕ} {ms : List Made} (h : Meets slice size ms) (s : ℕ) → s < session-count
     → InTime tightenings-held (marks (h .settings) s tightenings [] (turns-of (h .settings) size ms))
 tightenings-in-time h s u = h .in-time s u tightenings tightenings-held (omega arith) refl
+
+-- and a taken alarm within 360
+pub alarms-in-time : {slice : List ℕ} {size : ℕ} {ms : List Made} (h : Meets slice size ms) (s : ℕ) → s < session-count
+    → InTime alarms-held (marks (h .settings) s alarms [] (turns-of (h .settings) size ms))
+alarms-in-time h s u = h .in-time s u alarms alarms-held (omega arith) refl
 
 -- ==== the story of the server that came back, of any turns that meet demand 3
 
