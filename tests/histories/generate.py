@@ -570,9 +570,9 @@ class History:
             if self.chance(0.2):
                 self.event()
         self.watch(self.pick((0, 1, 5, 20, 21)))
-        for _ in range(self.between(0, 6)):
-            self.acknowledge(self.pick(chosen), 72 if self.chance(0.8) else None)
-            if self.chance(0.4):
+        for _ in range(self.between(0, 12)):
+            self.acknowledge(self.pick(chosen), 72 if self.chance(0.9) else None)
+            if self.chance(0.2):
                 self.alarm()
             if self.chance(0.1):
                 self.put(ALARM, self.bad_payload(ALARM))
