@@ -113,7 +113,7 @@ static void note(uint64_t number)
 
 /* ---- what is given to the calls, made before anything is measured */
 
-static uint8_t settings[37] = { 33, 0, 3, 0, 12, 0, 3, 1 }, tightening[110] = { 106, 0, 1, 0 }, alarm[29] = { 25, 0, 5, 0 };
+static uint8_t settings[37] = { 33, 0, 3, 0, 12, 0, 3, 1 }, tightening[110] = { 106, 0, 1, 0 }, tool_alarm[29] = { 25, 0, 5, 0 };
 static uint8_t flood[FLOOD], message_in_flood[FLOOD];
 
 static const char KEEP_ALIVE[] = "00209999001         ";
@@ -126,7 +126,7 @@ static void make_inputs(void)
     memcpy(tightening + 4, "BODY 4711", 9);
     memcpy(tightening + 71, "2026-11-15:10:20:30", 19);
     memcpy(tightening + 90, "2026-11-14:08:00:00", 19);
-    memcpy(alarm + 4, "E404\0\1" "2026-11-15:10:20:30", 25);
+    memcpy(tool_alarm + 4, "E404\0\1" "2026-11-15:10:20:30", 25);
     memset(flood, 'A', FLOOD);
     memset(message_in_flood, 'A', FLOOD);
     memcpy(message_in_flood, KEEP_ALIVE, sizeof KEEP_ALIVE);
@@ -168,7 +168,7 @@ static void record(unsigned i, const uint8_t *given, size_t length)
 }
 
 static void tighten(unsigned i) { record(i, tightening, sizeof tightening); }
-static void raise_alarm(unsigned i) { record(i, alarm, sizeof alarm); }
+static void raise_alarm(unsigned i) { record(i, tool_alarm, sizeof tool_alarm); }
 
 /* ---- the kinds of call: how the table gets into its state, and what is timed */
 
