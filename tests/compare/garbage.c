@@ -56,10 +56,11 @@ static bool kept_over_its_bound(const uint8_t *table);
 
 #ifdef PREFIX
 
-enum { USED = 12288, MARK_SIZE = 8, FIRST_SESSION = 8192, SESSION_SIZE = 1024, RUN_COUNT = 8, CONTROL_SIZE = 12, SHARED_SIZE = 81 };
+enum { USED = 12800, MARK_SIZE = 8, FIRST_SESSION = 8192, SESSION_SIZE = 1152, RUN_COUNT = 8, CONTROL_SIZE = 16, SHARED_SIZE = 81 };
 enum { LAST = 8, KEPT_COUNT = 12, MEMORY = 1024, PLACE = 106 };
-static const unsigned CONTROL[CONTROL_SIZE] = { 0, 1, RUN_COUNT, RUN_COUNT + 1, 56, 57, 58, 64, 128, 129, 130, 136 };
-static const unsigned SUBSCRIBED[KINDS] = { 56, 128 }, COUNT[KINDS] = { 58, 130 }, REVISION[KINDS] = { 64, 136 };
+static const unsigned CONTROL[CONTROL_SIZE] =
+    { 0, 1, RUN_COUNT, RUN_COUNT + 1, 56, 57, 58, 64, 128, 129, 130, 136, 1024, 1025, 1026, 1032 };
+static const unsigned SUBSCRIBED[KINDS] = { 56, 128, 1024 }, COUNT[KINDS] = { 58, 130, 1026 }, REVISION[KINDS] = { 64, 136, 1032 };
 
 /* A lane begins with form, clock and count. Of a session that is not started they are to be so too, though they have no meaning.
    Whatever its revision is, it is well formed. */
@@ -410,7 +411,8 @@ static void spoil_memory(void)
 /* Another value for a byte: near its own, at an edge of what controls and texts hold, or any. */
 static uint8_t another(uint8_t byte)
 {
-    static const uint8_t EDGES[] = { 0, 1, 2, 3, 6, 7, 8, 9, 14, 15, 16, 17, 31, 32, 39, 40, 63, 64, 65, 99, 100, 119, 120, 126, 127, 255 };
+    static const uint8_t EDGES[] = { 0, 1, 2, 3, 4, 5, 6, 7, 8, 9, 14, 15, 16, 17, 31, 32, 39, 40, 63, 64, 65, 99, 100, 119, 120, 126, 127,
+                                     255 };
     switch (roll(4)) {
     case 0:
         return (uint8_t)roll(256);

@@ -199,11 +199,11 @@ class History:
 
     def event(self):
         sort = self.random.random()
-        if sort < 0.5:
+        if sort < 0.58:
             self.tightening()
-        elif sort < 0.7:
+        elif sort < 0.71:
             self.alarm()
-        elif sort < 0.88:
+        elif sort < 0.87:
             self.scan()
         else:
             self.download(self.a_session())
@@ -959,7 +959,7 @@ class History:
                        lambda: self.put(self.pick((OPEN, HANG_UP, BYTES)) + self.between(0, 15))))()
 
     STRETCHES = (
-        (10, "long_watch"), (10, "steady"), (6, "flood"), (6, "identifiers"), (6, "alarms"), (9, "chatter"),
+        (10, "long_watch"), (10, "steady"), (6, "flood"), (6, "identifiers"), (5, "alarms"), (9, "chatter"),
         (6, "ladder"), (4, "bad_records"), (10, "lifecycle"), (7, "resubscribe"), (2.5, "long_run"),
         (7, "idle_edge"), (4, "time_out_in_step"), (4, "unstarted"), (1.5, "second_start"),
         (1.5, "numbers_end"), (2, "fullest"), (6, "old_results"), (3.5, "more_than_kept"), (4, "revisions"),

@@ -50,7 +50,7 @@ class Reached:
             return
         mid = int(run[4:8])
         self.seen["message numbers, of 10,000"].add(mid)
-        if mid in (51, 60):
+        if mid in (51, 60, 70):
             self.seen["revisions of 00%d, of 1,000" % mid].add(int(run[8:11]))
         if mid == 50:
             self.seen["byte values in 0050's data, of 255"].update(run[20:])

@@ -119,7 +119,7 @@ struct kind_rule {
     unsigned subscribed, not_subscribed;                  /* its errors */
     unsigned greatest_revision;
     unsigned held; /* by a session at most, the open one included */
-    bool replaced; /* where no more are held: the last one, by the newest */
+    bool replaced; /* where there is room for no more: the one that came last, by the newest */
     size_t at;     /* among the notices that a session holds */
     size_t bytes;  /* of one that is held */
 };
@@ -1479,8 +1479,10 @@ static enum kind kind_of(unsigned mid)
 
 static bool is_acknowledge(unsigned mid)
 {
-    return mid == MID_ACKNOWLEDGE_IDENTIFIER || mid == MID_ACKNOWLEDGE_TIGHTENING
-        || mid == MID_ACKNOWLEDGE_ALARM;
+    for (unsigned kind = 0; kind < KINDS; kind++)
+        if (mid == KIND_RULES[kind].acknowledge)
+            return true;
+    return false;
 }
 
 /* What a message does that has passed the tests of length and revision. */
