@@ -543,11 +543,11 @@ static void serve_history(const uint8_t *data, size_t size, uint32_t seed)
 
 static bool kinds_enough(void)
 {
+    static const char *const NAMES[KINDS] = { "identifiers", "results", "alarms" };
     bool enough = true;
     for (unsigned kind = 0; kind < KINDS; kind++) {
-        static const char *const NAMES[KINDS] = { "identifiers", "results", "alarms" };
-        printf("garbage: %lu calls over a count of %s above its bound in a started, subscribed session, %lu over a revision of theirs\n"
-               "that no subscription asks for\n", over_count[kind], NAMES[kind], odd_count[kind]);
+        printf("garbage: of %s, in a started, subscribed session: %lu calls over a count above its bound,\n"
+               "%lu over a revision that nobody asks for\n", NAMES[kind], over_count[kind], odd_count[kind]);
         enough = enough && over_count[kind] >= LEAST_OVER && odd_count[kind] >= LEAST_ODD;
     }
     return enough;

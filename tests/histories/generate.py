@@ -121,7 +121,7 @@ class History:
             last = self.pick((0, 0, 7, 99, 65535, 345674, 9999999, GREATEST_NUMBER - 200,
                               self.between(0, GREATEST_NUMBER)))
         if granted is None:
-            granted = 0 if self.chance(0.15) else 1
+            granted = 0 if self.chance(0.2) else 1
         cell = self.pick((0, 1, 12, 999, 1000, 9998, 9999))
         channel = self.pick((0, 1, 9, 10, 98, 99))
         return {"cell": cell, "channel": channel, "granted": granted, "name": self.text(), "last": last}
@@ -297,7 +297,7 @@ class History:
         data = (b"D%d-" % self.serial + self.text().replace(b" ", b"."))[:size]
         if self.chance(0.05):
             data = b" " * size
-        if self.chance(0.12):
+        if self.chance(0.16):
             data = self.odd_byte(data)
         self.send(s, message(50, self.pick(GOOD_REVISIONS), self.twelve(), self.rest(), data))
 
@@ -537,9 +537,9 @@ class History:
             if self.chance(0.2):
                 self.scan()
         self.watch(self.pick((0, 1, 5, 21)))
-        for _ in range(self.between(0, 12)):
+        for _ in range(self.between(0, 18)):
             self.acknowledge(self.pick(chosen), 62)
-            if self.chance(0.15):
+            if self.chance(0.1):
                 self.event()
             if self.chance(0.1):
                 self.tick()
@@ -882,11 +882,11 @@ class History:
         """The last number runs up to its end; bad records then too."""
         self.start(last=GREATEST_NUMBER - self.pick((0, 0, 1, 2, 3, 4)))
         self.bring_up_some()
-        for _ in range(self.between(4, 10)):
+        for _ in range(self.between(5, 12)):
             sort = self.random.random()
             if sort < 0.5:
                 self.tightening()
-            elif sort < 0.6:
+            elif sort < 0.58:
                 self.alarm()
             elif sort < 0.75:
                 self.put(TIGHTENING, self.bad_payload(TIGHTENING))

@@ -298,7 +298,7 @@ class Alarms:
             self.count("a record of kind 2 with an alarm's bytes gets 7", bool(fields) and fields["tool_ready"] < 2)
         elif not fields:
             self.count("an alarm gets 7 for its length")
-        elif payload.isascii() and payload.decode().isprintable() and not payload.startswith(b"E"):
+        elif payload.isascii() and payload.decode().isprintable() and b":" not in fields["time"]:
             self.count("a record of kind 5 with 25 bytes of text gets 7")
         else:
             ready = (fields["controller_ready"], fields["tool_ready"])
