@@ -5,11 +5,9 @@ import struct
 import sys
 import time
 
-payload = struct.pack(
-    "<4sBB19s",
-    (sys.argv[2:] or ["E404"])[0].encode("ascii").ljust(4),  # the error code, filled up with spaces
-    1, 0,                                                    # the controller is ready, the tool is not
-    time.strftime("%Y-%m-%d:%H:%M:%S").encode("ascii"))      # when
+code = sys.argv[2] if len(sys.argv) > 2 else "E404"
+payload = code.encode("ascii").ljust(4) + struct.pack("<BB", 1, 0)  # the error code; the controller is ready, the tool is not
+payload += time.strftime("%Y-%m-%d:%H:%M:%S").encode("ascii")  # when
 with socket.socket(socket.AF_UNIX) as host:
     host.settimeout(10)
     host.connect(sys.argv[1])
