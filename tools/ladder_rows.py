@@ -74,8 +74,9 @@ def alarm_name(fields):
 
 
 def alarm_words(fields):
-    return "%s, controller %sready, tool %sready" % (
-        alarm_name(fields), "" if fields["controller_ready"] else "not ", "" if fields["tool_ready"] else "not ")
+    """And by what is not ready."""
+    wanting = [what for what in ("controller", "tool") if not fields[what + "_ready"]]
+    return "%s, %s" % (alarm_name(fields), " and ".join(wanting) + " not ready" if wanting else "both ready")
 
 
 def tool_words(record_kind, payload, number=None, taken=None):
