@@ -101,7 +101,7 @@ def four_alarms_wait(place):
 @in_memory
 def an_alarm_that_is_not_acknowledged(place):
     """It is repeated byte for byte, six copies in all, each behind those of an identifier and a result that are as old, while keep-alives
-    go on; then the next is sent."""
+    go on; then the next is sent, and the log says that it is given up."""
     tick = harness.FAST_TICK
     host = place.host(tick=int(tick * 1000))
     tool = place.tool()
@@ -119,6 +119,10 @@ def an_alarm_that_is_not_acknowledged(place):
     equal([openprotocol.read(run).mid for run in runs], notices * 6 + [openprotocol.ALARM], "notices")
     equal(len(set(runs)), 4, "how many sorts of copies")
     equal(openprotocol.read(runs[-1]).fields, alarm_fields(2), "the next")
+    first, second = ('alarm "E00%d" of 2026-03-05:00:00:0%d' % (i, i) for i in (1, 2))
+    said = re.findall(r'Z session 0 [0-9.:]+(?: > 0071|:) (alarm .*)\n', host.log())
+    equal(said, [first] * 6 + [second, first + " given up: it was not acknowledged in 120 ticks"], "lines of the log")
+    equal([loss[1:3] for loss in Sort.losses(host)], [(1, "given up")], "results lost")
     place.finish(host, [server])
 
 
@@ -234,7 +238,7 @@ def alarms_that_are_bad(place):
     for i, data in enumerate(bad):
         equal(tool.give(data), "7 tool record bad", "answer to bad record %d" % i)
         equal(server.fence(), [], "what is sent for bad record %d" % i)
-    check("tool: alarm" not in host.log(), "a bad alarm is logged as one:\n%s", host.log())
+    check('alarm "' not in host.log(), "a bad alarm is logged as one:\n%s", host.log())
     equal(host.log().count("tool: refused, 7 tool record bad"), len(bad), "refusals logged")
     tool.alarm(alarm_fields(1), "0")
     server.expect_alarm(alarm_fields(1))
