@@ -75,7 +75,8 @@ class Play:
         mid = self.source.choice(SAID)
         data = b"NET" if mid == 50 else b"%010d" % self.source.randrange(self.number + 3) if mid == 64 else b""
         with contextlib.suppress(ConnectionError):
-            server.tell(mid, revision=b"00%c" % self.source.choice(b"11122567"), byte_12=b"%c" % self.source.choice(b"  1"), data=data)
+            revisions = b"1112" if mid == 70 else b"11122567"
+            server.tell(mid, revision=b"00%c" % self.source.choice(revisions), byte_12=b"%c" % self.source.choice(b"  1"), data=data)
 
     def fall_silent(self):
         """One of them says nothing more until the host closes it, while the others speak on."""
@@ -100,7 +101,7 @@ class Play:
         elif chance < 0.3:
             self.number += 1
             self.answers.append(self.tool.give(tightening_record(tightening_fields(self.number))))
-        elif chance < 0.35:
+        elif chance < 0.33:
             self.tool.give(identifier_record("CAR %d" % self.source.randrange(1000)))
         elif chance < 0.4:
             self.alarms += 1

@@ -113,7 +113,7 @@ def region_told(region):
 def the_status_and_the_table(place):
     """In a host's life at random the status tells of each session what the lent table holds, as it is kept beside a journal whose parts
     are of one call each; at its end too, when all were stopped and what the table still has of their subscriptions counts for nothing."""
-    play = Play(place, 9)
+    play = Play(place, 15)
     play.host = place.host("--status", place.path("status"), "--journal-size", 1, "--journal-keep", 2)
     play.tool = place.tool()
     held = alarms = 0
