@@ -132,6 +132,8 @@ FAULTS = [
      "else if (record_kind == SERIFLADDER_SETTINGS)"),
     ("an alarm that is sent in the log without its name", "log-lines-of-alarms", "links.c", 'memcmp(text + 4, "0071", 4) == 0',
      'memcmp(text + 4, "0076", 4) == 0'),
+    ("a fault of the demo's at another time", "the-demo", "demo.c", "write_time(now, time(NULL));\n    begin(SERIFLADDER_ALARM,",
+     "write_time(now, 0);\n    begin(SERIFLADDER_ALARM,"),
     ("an alarm's serial not kept", "alarms-with-a-serial", "calls.c", "if (number == SERIFLADDER_DONE && serial != NULL)",
      "if (number == SERIFLADDER_DONE && serial != NULL && record_kind != SERIFLADDER_ALARM)"),
     ("the number read at the end of every 0061", "log-lines-in-each-revision", "sessions.c",

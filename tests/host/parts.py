@@ -130,15 +130,15 @@ ASKS_FOR_THE_NEWEST = record(HANG_UP) + record(OPEN) + record(BYTES, message(ope
 def tables_of_an_earlier_map(place, earlier, without, told):
     """Has the parts of a host's life begin with a table as it was kept earlier: each gives what it gives from today's, but for what is left
     out of both. It is drawn, with what is told of the table there; and a host finds the last number in such a part, which an older state is
-    behind. Answers the last of the tables."""
+    behind. Answers the name of the last table, and what stood there before."""
     play = Play(place, 5)
     play.run(400, "--journal-size", 600, "--journal-keep", 1000)
     parts, kept, alarms = place.journal_parts(), [], 0
     check(len(parts) > 10, "only %d parts: this shows too little", len(parts))
     for part, path in enumerate(parts[1:], 2):
         table = "%s.%d.table" % (place.journal, part)
-        today = place.own_replayed(content(path), table)
-        of_today = lent_table.read(content(table))
+        today, was = place.own_replayed(content(path), table), content(table)
+        of_today = lent_table.read(was)
         kept.append(len(lent_table.kept(of_today)))
         alarms += sum(len(region.alarms().places) for region in lent_table.regions(of_today))
         with open(table, "wb") as file:
@@ -151,7 +151,7 @@ def tables_of_an_earlier_map(place, earlier, without, told):
     os.remove(place.state)
     place.refused(place.start(), 1, place.state, place.journal, "--state-behind", "that %d was" % play.number)
     place.said.append("%d tables" % (len(parts) - 1))
-    return table
+    return table, was
 
 
 @test
@@ -163,7 +163,7 @@ def tables_from_before(place):
         """Its sessions stood where tightenings are now."""
         return (table[:lent_table.MEMORY] + regions_without_alarms(table)).ljust(lent_table.FIRST_SIZE, b"\0")
 
-    table = tables_of_an_earlier_map(place, earlier, without_old_results, lambda kept: ", 0 tightenings kept")
+    table, _ = tables_of_an_earlier_map(place, earlier, without_old_results, lambda kept: ", 0 tightenings kept")
     equal(place.own_replayed(ASKS_FOR_THE_NEWEST, table)[-31:], b"0 S 00260004001_________006415\n", "the newest of none")
 
 
@@ -172,19 +172,19 @@ def tables_from_before(place):
 def tables_from_before_alarms(place):
     """From a table that was kept before there were alarms, of the same size and with the same mark, a part gives what it gives from
     today's, alarms aside, old results too; it is drawn, and a host finds the last number in such a part. With another map's number behind
-    it a table is none."""
+    it a table of today is none."""
     def earlier(table):
         return (table[:lent_table.SHARED] + regions_without_alarms(table)).ljust(lent_table.SIZE, b"\0")
 
-    table = tables_of_an_earlier_map(place, earlier, without_alarms, lambda kept: ", %d tightenings kept" % kept)
+    table, was = tables_of_an_earlier_map(place, earlier, without_alarms, lambda kept: ", %d tightenings kept" % kept)
     check(b"01180065" in place.own_replayed(ASKS_FOR_THE_NEWEST, table), "no old result is kept in %s", table)
-    for behind in (b"map 4\n", b"map 3", b"map 3\n\n", b"\0" * 6):
-        with open(table, "ab") as file:
-            file.truncate(lent_table.SIZE)
-            file.write(behind)
+    for behind, status in ((lent_table.MAP, 0), (b"map 4\n", 1), (b"map 3", 1), (b"map 3\n\n", 1), (b"\0" * 6, 1)):
+        with open(table, "wb") as file:
+            file.write(was[:lent_table.SIZE] + behind)
         for command in ([place.own_replay], [os.path.join(ROOT, "tools", "ladder"), "--replay", place.own_replay]):
             done = subprocess.run([*command, "--table", table], input=b"", capture_output=True, timeout=SECONDS, check=False)
-            check((done.returncode, done.stdout) == (1, b"") and b"is no table" in done.stderr, "%r behind a table: %r", behind, done)
+            said = b"is no table" in done.stderr
+            equal((done.returncode, said), (status, status == 1), "status of %s, with %r behind a table" % (command[0], behind))
 
 
 @test
