@@ -78,7 +78,8 @@ def fields(path, begin, pattern):
 def limits():
     """The numbers of document 01 by the names of the definitions: those that are given, and those that are reckoned from them."""
     given = re.findall(r"^([a-z-]+) = ([\d_]+)$", read("crates/model/specs/Limits.antt"), re.M)
-    reckoned = re.search(r"^pub the-reckoned : (.*) ∷ \[\]\s+≡ (.*) ∷ \[\]$", read("crates/model/proofs/Clauses.antt"), re.M)
+    clauses = read("crates/model/proofs/Clauses.antt").replace("\n    ", " ")
+    reckoned = re.search(r"^pub the-reckoned : (.*?) ∷ \[\] ≡ (.*?) ∷ \[\]$", clauses, re.M)
     return {name: int(number) for name, number in [*given, *zip(*(side.split(" ∷ ") for side in reckoned.groups()))]}
 
 
