@@ -114,7 +114,9 @@ struct answer call_record(const uint8_t *serial, const uint8_t *record, size_t l
         state_keep(++last);
     journal_record(journal_record_kind(record_kind), record + SERIFLADDER_RECORD_HEADER, length - SERIFLADDER_RECORD_HEADER);
     if (numbered)
-        sessions_result(last, answer.taken);
+        sessions_event((struct event){ .kind = RESULT, .number = last }, answer.taken);
+    else if (number == SERIFLADDER_DONE && record_kind == SERIFLADDER_ALARM)
+        sessions_event(alarm_brought(record + SERIFLADDER_RECORD_HEADER), answer.taken);
     carry_out(answer.written);
     return answer;
 }

@@ -1,4 +1,5 @@
-/* A simulated tool: it scans the identifier of a body, then tightens its bolts one after the other; a bolt that is not OK is done again. */
+/* A simulated tool: it scans the identifier of a body, then tightens its bolts one after the other; a bolt that is not OK is done again.
+   Now and then it has a fault. */
 #include "host.h"
 
 #include <stdio.h>
@@ -6,12 +7,15 @@
 #include <string.h>
 #include <time.h>
 
-enum { BOLTS = 4, TIME_LENGTH = 19, ONE_NOT_OK_IN = 8, PARAMETER_SET = 7 };
+enum { BOLTS = 4, ONE_NOT_OK_IN = 8, PARAMETER_SET = 7 };
+
+/* Each so many things that it does, and the first soon, so that it is seen. */
+enum { FAULT_EACH = 20, FIRST_FAULT = 3 };
 
 /* In hundredths of Nm, and in degrees. */
 enum { TORQUE_LEAST = 2250, TORQUE_MOST = 2750, TORQUE_TARGET = 2500, ANGLE_LEAST = 70, ANGLE_MOST = 110, ANGLE_TARGET = 90 };
 
-/* A tightening record, as it is filled from its front. */
+/* A record, as it is filled from its front; a tightening is the longest. */
 static struct {
     uint8_t bytes[SERIFLADDER_RECORD_HEADER + 106];
     size_t length;
@@ -53,6 +57,23 @@ static void write_time(char text[TIME_LENGTH + 1], time_t when)
 static unsigned between(unsigned least, unsigned most)
 {
     return least + (unsigned)rand() % (most - least + 1);
+}
+
+static void fault(void)
+{
+    static const struct {
+        const char *code;
+        bool controller_ready, tool_ready;
+    } FAULTS[] = { { "E404", true, false }, { "E217", true, true }, { "E501", false, false } };
+    unsigned which = between(0, sizeof FAULTS / sizeof FAULTS[0] - 1);
+    char now[TIME_LENGTH + 1];
+    write_time(now, time(NULL));
+    begin(SERIFLADDER_ALARM, CODE_LENGTH + 2 + TIME_LENGTH);
+    add_text(CODE_LENGTH, FAULTS[which].code);
+    add(1, FAULTS[which].controller_ready);
+    add(1, FAULTS[which].tool_ready);
+    add_text(TIME_LENGTH, now);
+    give();
 }
 
 static void scan(unsigned body)
@@ -107,10 +128,12 @@ static bool tighten(unsigned done)
 
 void demo_step(void)
 {
-    static unsigned body, done = BOLTS;
+    static unsigned body, done = BOLTS, steps;
     if (body == 0)
         srand((unsigned)time(NULL));
-    if (done == BOLTS) {
+    if (steps++ % FAULT_EACH == FIRST_FAULT) {
+        fault();
+    } else if (done == BOLTS) {
         scan(++body);
         done = 0;
     } else if (tighten(done)) {

@@ -16,6 +16,8 @@ enum {
     RECORD_GREATEST = SERIFLADDER_RECORD_HEADER + PAYLOAD_GREATEST,
     SETTINGS_RECORD = SERIFLADDER_RECORD_HEADER + 33,
     NAME_LENGTH = 25,          /* of a controller's name and of an identifier */
+    CODE_LENGTH = 4,           /* of an alarm's error code */
+    TIME_LENGTH = 19,
     WAITING_GREATEST = 65536,  /* so many bytes may wait for a peer that does not read */
     TOOL_CONNECTIONS = 8,      /* so many at once; a further one waits */
     LINKS_POLLED = 1 + SERIFLADDER_SESSIONS,
@@ -171,6 +173,11 @@ bool serial_known(const uint8_t serial[SERIAL_LENGTH], uint32_t *number, uint64_
 /* The kinds besides those of the library; a session's number is added. */
 enum { JOURNAL_OPEN = 16, JOURNAL_HANG_UP = 32, JOURNAL_BYTES = 48, JOURNAL_TICK = 64 };
 
+/* A table that is kept has a line behind it with the number of its map: with another map it has the same mark, and may have the same size.
+   The first map was of 16 KiB; the second had no lanes of alarms; both were kept without a line. */
+#define TABLE_MAP "map 3\n"
+enum { TABLE_MAP_LENGTH = sizeof TABLE_MAP - 1, TABLE_KEPT_SIZE = SERIFLADDER_TABLE_SIZE + TABLE_MAP_LENGTH };
+
 struct journal_options {
     const char *path;
     uint64_t size, keep; /* when a part is full, and how many are kept besides the one that is written */
@@ -207,7 +214,7 @@ struct replayed {
 /* Makes the calls of a journal over a table, the listener being told of them if there is one. */
 struct replayed replay_journal(int file, uint8_t table[SERIFLADDER_TABLE_SIZE], const struct listener *who);
 
-/* Reads a table that was kept, be it by a host from before tightenings were kept; false where the file is none. */
+/* Reads a table that was kept, be it by a host from before alarms or before tightenings were kept; false where the file is none. */
 bool table_read(int file, uint8_t table[SERIFLADDER_TABLE_SIZE]);
 bool table_is_formed(uint8_t table[SERIFLADDER_TABLE_SIZE]);
 
@@ -246,28 +253,51 @@ void links_limit(unsigned links_of_an_address);
 uint64_t links_refused(void); /* so many were closed at once */
 size_t links_waiting(unsigned session); /* so many bytes wait to be sent */
 
-/* ---- sessions.c: what each session is, and the results that it holds, told from what came and went */
+/* ---- sessions.c: what each session is, and the results and alarms that it holds, told from what came and went */
 
-struct session_state {
-    bool open, started, identifiers, results; /* the last two: subscribed to them */
-    bool acknowledges;                        /* results are held until they are acknowledged */
-    unsigned held;
-    uint32_t numbers[8]; /* of the results that are held, the one that is sent first */
+/* What a session is told of and may lose: a result, which its number names, or an alarm, which its code and its time do. */
+enum event_kind { RESULT, ALARM, EVENT_KINDS };
+struct event {
+    enum event_kind kind;
+    uint32_t number;
+    char code[CODE_LENGTH], time[TIME_LENGTH];
 };
 
-struct session_losses {
-    uint64_t not_taken, given_up, dropped; /* results */
+/* The alarm that a tool's record brings, from its payload, or that a 0071 tells of. */
+struct event alarm_brought(const uint8_t *payload);
+struct event alarm_told(const uint8_t *frame);
+
+/* How the log names an event: result 17, or alarm "E404" of 2026-01-31:12:34:56. */
+enum { EVENT_TEXT = 40 };
+void write_event(char text[EVENT_TEXT], const struct event *event);
+
+/* A session's results, or its alarms. */
+enum { HELD_GREATEST = 8 };
+struct lane {
+    bool subscribed;
+    bool acknowledges; /* they are held until they are acknowledged */
+    unsigned held;
+    struct event events[HELD_GREATEST]; /* that are held, the one that is sent first */
+};
+
+struct session_state {
+    bool open, started, identifiers; /* the last: subscribed to them */
+    struct lane lanes[EVENT_KINDS];
+};
+
+struct losses {
+    uint64_t not_taken, given_up, dropped;
 };
 
 void session_opened(unsigned session);
 void session_said(unsigned session, const uint8_t *message, size_t length); /* a message has come; `message` is its beginning */
 void session_sent(unsigned session, const uint8_t *frame, size_t length, bool waits); /* waits to be sent, or can't be */
 void session_ended(unsigned session, size_t waiting, const char *why); /* so many bytes were not given to the system yet */
-void sessions_result(uint32_t number, uint64_t taken);                 /* a tightening has that number, and these sessions took it */
+void sessions_event(struct event event, uint64_t taken);               /* the tool brought it, and these sessions took it */
 void sessions_ticked(void);
 void sessions_end(void); /* the host ends, in order or not */
 const struct session_state *session_state(unsigned session);
-const struct session_losses *session_losses(void);
+const struct losses *session_losses(enum event_kind kind);
 
 /* The number of a result, from its 0061, of whichever revision. */
 unsigned long result_number(const uint8_t *frame);

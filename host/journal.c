@@ -1,6 +1,6 @@
 /* The journal: every call as a house record, in the order of the calls. Parts that are full are FILE.1, FILE.2 and so on; they and then
    FILE, one behind the other, are one journal. The oldest parts are deleted. Beside the part FILE.7 stand
-     FILE.7.table  the lent table as it was when the part began, unless the part begins with a start;
+     FILE.7.table  the lent table as it was when the part began, and which map it has, unless the part begins with a start;
      FILE.7.times  lines with the bytes of the part so far and the time of day, one at each start and behind each 60th tick;
      FILE.7.cut    where the part ended within a record, the bytes of that.
    What stands beside FILE itself has from its beginning the number that FILE gets when it is put aside. */
@@ -158,6 +158,14 @@ static void note_time(void)
 
 /* ---- FILE and its parts */
 
+static void write_table(const uint8_t *table)
+{
+    static uint8_t kept[TABLE_KEPT_SIZE];
+    memcpy(kept, table, SERIFLADDER_TABLE_SIZE);
+    memcpy(kept + SERIFLADDER_TABLE_SIZE, TABLE_MAP, TABLE_MAP_LENGTH);
+    write_beside(TABLE, kept, sizeof kept);
+}
+
 /* Begins FILE anew. Where a table is given it is kept beside it; else a start comes first. */
 static void begin(const uint8_t *table)
 {
@@ -166,7 +174,7 @@ static void begin(const uint8_t *table)
         remove_beside(number, TIMES);
     }
     if (table != NULL)
-        write_beside(TABLE, table, SERIFLADDER_TABLE_SIZE);
+        write_table(table);
     file = open(journal.path, O_WRONLY | O_APPEND | O_CLOEXEC | (regular ? O_CREAT | O_EXCL : 0), file_mode);
     if (file < 0)
         cannot("opened");
@@ -343,7 +351,7 @@ static void look_at_disk(void)
     struct stat found;
     struct numbers there = numbers_there();
     char name[PATH_MAX];
-    uint64_t part = journal.size + SERIFLADDER_TABLE_SIZE, count = journal.keep + 1, taken = size;
+    uint64_t part = journal.size + TABLE_KEPT_SIZE, count = journal.keep + 1, taken = size;
     uint64_t more = part > INT64_MAX / count ? INT64_MAX : part * count;
     for (size_t i = 0; i < there.count * END_COUNT; i++) {
         part_name(name, there.of[i / END_COUNT], ENDS[i % END_COUNT]);

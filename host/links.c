@@ -131,8 +131,16 @@ static void send_waiting(struct link *link)
         link->failed = strerror(errno);
 }
 
+static void write_alarm(char *text, size_t size, const uint8_t *frame)
+{
+    char name[EVENT_TEXT];
+    struct event alarm = alarm_told(frame);
+    write_event(name, &alarm);
+    snprintf(text, size, " %s", name);
+}
+
 /* A line for a frame: of a 0004 with the message and its error, and with the number of a 0064 that is not kept, of a 0005 with the message,
-   and with the text of a 0050, of a 0061 and a 0065 with the result's number. */
+   and with the text of a 0050, of a 0061 and a 0065 with the result's number, of a 0071 with the alarm. */
 static void say_sent(const struct link *link, const uint8_t *frame)
 {
     const char *text = (const char *)frame, *data = text + HEADER;
@@ -149,6 +157,8 @@ static void say_sent(const struct link *link, const uint8_t *frame)
         snprintf(more, sizeof more, " number %lu", result_number(frame));
     else if (memcmp(text + 4, "0065", 4) == 0)
         snprintf(more, sizeof more, " old result, number %lu", number_at(frame + OLD_NUMBER, NUMBER_LENGTH));
+    else if (memcmp(text + 4, "0071", 4) == 0)
+        write_alarm(more, sizeof more, frame);
     say("session %td %s > %.4s%s", link - links, link->peer, text + 4, more);
 }
 

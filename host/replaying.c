@@ -92,14 +92,23 @@ struct replayed replay_journal(int file, uint8_t table[SERIFLADDER_TABLE_SIZE], 
 
 /* ---- a table that was kept */
 
-/* docs/TABLE.md: where the places of tightenings begin and, behind them, the sessions. In a table from before tightenings were kept the
-   sessions stood where the places are now. */
-enum { EARLIER_SIZE = 16384, KEPT_COUNT = 12, PLACES = 1024, REGIONS = 8192, REGIONS_SIZE = SERIFLADDER_SESSIONS * 1024 };
+/* docs/TABLE.md: where the places of tightenings begin and, behind them, the regions of the sessions, and how long one is. Before there
+   were alarms a region ended where their lane begins. In the first map the regions stood where the places of tightenings are now. */
+enum { FIRST_SIZE = 16384, KEPT_COUNT = 12, PLACES = 1024, REGIONS = 8192, REGION = 1152, EARLIER_REGION = 1024 };
 
-static void bring_up_to_date(uint8_t table[SERIFLADDER_TABLE_SIZE])
+/* Moves the regions of an earlier table from where they begin; of alarms, all that is zero, there is none and nobody is subscribed. */
+static void move_regions(uint8_t table[SERIFLADDER_TABLE_SIZE], size_t from)
+{
+    uint8_t regions[SERIFLADDER_SESSIONS][REGION] = { { 0 } };
+    for (unsigned s = 0; s < SERIFLADDER_SESSIONS; s++)
+        memcpy(regions[s], table + from + s * EARLIER_REGION, EARLIER_REGION);
+    memcpy(table + REGIONS, regions, sizeof regions);
+}
+
+static void bring_first_up_to_date(uint8_t table[SERIFLADDER_TABLE_SIZE])
 {
     table[KEPT_COUNT] = 0;
-    memmove(table + REGIONS, table + PLACES, REGIONS_SIZE);
+    move_regions(table, PLACES);
     memset(table + PLACES, 0, REGIONS - PLACES);
 }
 
@@ -112,13 +121,16 @@ bool table_is_formed(uint8_t table[SERIFLADDER_TABLE_SIZE])
 
 bool table_read(int file, uint8_t table[SERIFLADDER_TABLE_SIZE])
 {
-    uint8_t behind;
+    static uint8_t kept[TABLE_KEPT_SIZE + 1];
     size_t length = 0;
-    for (ssize_t got = 1; got > 0 && length < SERIFLADDER_TABLE_SIZE; length += got > 0 ? (size_t)got : 0)
-        got = read(file, table + length, SERIFLADDER_TABLE_SIZE - length);
-    if (length == EARLIER_SIZE)
-        bring_up_to_date(table);
-    else if (length != SERIFLADDER_TABLE_SIZE || read(file, &behind, 1) != 0)
+    for (ssize_t got = 1; got > 0 && length < sizeof kept; length += got > 0 ? (size_t)got : 0)
+        got = read(file, kept + length, sizeof kept - length);
+    memcpy(table, kept, SERIFLADDER_TABLE_SIZE);
+    if (length == FIRST_SIZE)
+        bring_first_up_to_date(table);
+    else if (length == SERIFLADDER_TABLE_SIZE)
+        move_regions(table, REGIONS);
+    else if (length != TABLE_KEPT_SIZE || memcmp(kept + SERIFLADDER_TABLE_SIZE, TABLE_MAP, TABLE_MAP_LENGTH) != 0)
         return false;
     return table_is_formed(table);
 }

@@ -21,7 +21,7 @@ enum {
 static struct kept {
     bool used;
     uint8_t serial[SERIAL_LENGTH];
-    uint32_t number; /* 0: an identifier's, which has none */
+    uint32_t number; /* 0: an identifier's or an alarm's, which has none */
     uint64_t taken;
 } kept[KEPT];
 static unsigned next;

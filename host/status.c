@@ -4,6 +4,7 @@
 #include <inttypes.h>
 #include <stdarg.h>
 #include <stdio.h>
+#include <string.h>
 #include <sys/socket.h>
 #include <unistd.h>
 
@@ -33,33 +34,55 @@ static const char *truth(bool value)
     return value ? "true" : "false";
 }
 
+/* A text in its quotation marks; what JSON does not take in one as it is has a backslash before it. */
+static void add_text(const char *text, size_t length)
+{
+    add("\"");
+    for (size_t i = 0; i < length; i++)
+        add("%s%c", strchr("\"\\", text[i]) == NULL ? "" : "\\", text[i]);
+    add("\"");
+}
+
 static void add_session(unsigned s)
 {
     const struct session_state *state = session_state(s);
+    const struct lane *results = &state->lanes[RESULT], *alarms = &state->lanes[ALARM];
     if (!state->open) {
         add("{\"session\":%u,\"phase\":\"closed\"}", s);
         return;
     }
     add("{\"session\":%u,\"phase\":\"%s\",\"peer\":\"%s\"", s, state->started ? "started" : "opened", links_peer(s));
-    add(",\"identifiers\":%s,\"results\":%s", truth(state->identifiers), truth(state->results));
-    add(",\"acknowledges\":%s", truth(state->acknowledges));
+    add(",\"identifiers\":%s,\"results\":%s", truth(state->identifiers), truth(results->subscribed));
+    add(",\"acknowledges\":%s", truth(results->acknowledges));
     add(",\"held\":[");
-    for (unsigned i = 0; i < state->held; i++)
-        add("%s%" PRIu32, i == 0 ? "" : ",", state->numbers[i]);
+    for (unsigned i = 0; i < results->held; i++)
+        add("%s%" PRIu32, i == 0 ? "" : ",", results->events[i].number);
+    add("],\"alarms\":%s,\"acknowledges_alarms\":%s", truth(alarms->subscribed), truth(alarms->acknowledges));
+    add(",\"held_alarms\":[");
+    for (unsigned i = 0; i < alarms->held; i++) {
+        add("%s", i == 0 ? "" : ",");
+        add_text(alarms->events[i].code, CODE_LENGTH);
+    }
     add("],\"bytes_waiting\":%zu}", links_waiting(s));
+}
+
+static void add_losses(const char *of, const struct losses *losses)
+{
+    add(",\"%s_not_taken\":%" PRIu64 ",\"%s_given_up\":%" PRIu64, of, losses->not_taken, of, losses->given_up);
+    add(",\"%s_dropped\":%" PRIu64, of, losses->dropped);
 }
 
 static void fill_line(void)
 {
-    const struct session_losses *losses = session_losses();
     line.length = 0;
     add("{\"last_number\":%" PRIu32 ",\"uptime_seconds\":%" PRId64 ",\"sessions\":[", last_number(), (now() - began) / SECOND);
     for (unsigned s = 0; s < SERIFLADDER_SESSIONS; s++) {
         add("%s", s == 0 ? "" : ",");
         add_session(s);
     }
-    add("],\"results_not_taken\":%" PRIu64 ",\"results_given_up\":%" PRIu64 ",\"results_dropped\":%" PRIu64, losses->not_taken,
-        losses->given_up, losses->dropped);
+    add("]");
+    add_losses("results", session_losses(RESULT));
+    add_losses("alarms", session_losses(ALARM));
     add(",\"links_refused\":%" PRIu64 ",\"tool_records_refused\":%" PRIu64, links_refused(), tool_refused());
     add(",\"journal_parts\":%" PRIu64 "}\n", journal_parts());
 }

@@ -55,9 +55,28 @@ static void write_done(char line[ANSWER_LINE], uint64_t taken, uint32_t number)
         snprintf(line + at, ANSWER_LINE - (size_t)at, ", number %u", number);
 }
 
+static void say_alarm(const uint8_t *payload, const char *taken)
+{
+    enum { CONTROLLER_READY = CODE_LENGTH, TOOL_READY };
+    char text[EVENT_TEXT];
+    struct event alarm = alarm_brought(payload);
+    write_event(text, &alarm);
+    say("tool: %s, controller %sready, tool %sready, %s", text, payload[CONTROLLER_READY] ? "" : "not ", payload[TOOL_READY] ? "" : "not ",
+        taken);
+}
+
+static void say_identifier(const char *text, size_t size, const char *taken)
+{
+    while (size > 0 && text[size - 1] == ' ')
+        size--;
+    say("tool: identifier \"%.*s\", %s", (int)size, text, taken);
+}
+
 void tool_record(const uint8_t *serial, const uint8_t *record, size_t length, char line[ANSWER_LINE])
 {
     char taken[TAKEN_TEXT];
+    const uint8_t *payload = record + SERIFLADDER_RECORD_HEADER;
+    unsigned record_kind = (unsigned)little(record + 2, 2);
     struct answer answer = call_record(serial, record, length);
     if (answer.number != SERIFLADDER_DONE) {
         snprintf(line, ANSWER_LINE, "%u %s", (unsigned)answer.number, meaning(answer.number));
@@ -65,18 +84,15 @@ void tool_record(const uint8_t *serial, const uint8_t *record, size_t length, ch
         refused += 1;
         return;
     }
-    bool numbered = little(record + 2, 2) == SERIFLADDER_TIGHTENING;
+    bool numbered = record_kind == SERIFLADDER_TIGHTENING;
     write_taken(taken, answer.taken);
     write_done(line, answer.taken, numbered ? last_number() : 0);
-    if (numbered) {
+    if (numbered)
         say("tool: tightening %u, %s", last_number(), taken);
-        return;
-    }
-    const char *text = (const char *)record + SERIFLADDER_RECORD_HEADER;
-    size_t size = length - SERIFLADDER_RECORD_HEADER;
-    while (size > 0 && text[size - 1] == ' ')
-        size--;
-    say("tool: identifier \"%.*s\", %s", (int)size, text, taken);
+    else if (record_kind == SERIFLADDER_ALARM)
+        say_alarm(payload, taken);
+    else
+        say_identifier((const char *)payload, length - SERIFLADDER_RECORD_HEADER, taken);
 }
 
 uint64_t tool_refused(void)

@@ -2,8 +2,10 @@
 
    The library holds no memory, no socket and no clock of its own. The host lends a table, which keeps the four sessions from call to
    call, and the last 64 tightenings, whoever took them, for which a line server may ask by number (0064); and an output, into which a call
-   writes what is to be sent. Each line server is told of tightenings in the revision of 0061 that it subscribed to, 1 to 6. docs/HOST.md
-   shows how a host drives the calls.
+   writes what is to be sent. Each line server is told of tightenings in the revision of 0061 that it subscribed to, 1 to 6, of identifiers
+   (0052) and of alarms (0071). docs/HOST.md shows how a host drives the calls.
+
+   Messages understood: 0001, 0003, 0050, 0051, 0053, 0054, 0060, 0062, 0063, 0064, 0070, 0072, 0073, 9999.
 
    What the caller owes:
    - every run of bytes is given as a pointer and its length, and the pointer is valid for that length (for a length of 0 too it is not
@@ -53,7 +55,8 @@ enum {
     SERIFLADDER_ANSWER_NUMBER = 0,
     SERIFLADDER_ANSWER_CONSUMED = 8, /* how many of the received bytes were consumed; 0 but for serifladder_bytes */
     SERIFLADDER_ANSWER_WRITTEN = 16, /* how many bytes of the output were written */
-    SERIFLADDER_ANSWER_TAKEN = 24    /* the sum of 2^s over the sessions s that took the event; 0 but for serifladder_record */
+    SERIFLADDER_ANSWER_TAKEN = 24    /* the sum of 2^s over the sessions s that took the event, be it a tightening, an identifier or an
+                                        alarm; 0 but for serifladder_record */
 };
 
 /* House records: a 2-byte length of the payload, a 2-byte kind, both little-endian, then the payload. */
@@ -63,7 +66,8 @@ enum { SERIFLADDER_RECORD_HEADER = 4 };
 enum {
     SERIFLADDER_TIGHTENING = 1, /* 106 bytes, for serifladder_record */
     SERIFLADDER_IDENTIFIER = 2, /* 25 bytes, for serifladder_record */
-    SERIFLADDER_SETTINGS = 3    /* 33 bytes, for serifladder_start */
+    SERIFLADDER_SETTINGS = 3,   /* 33 bytes, for serifladder_start */
+    SERIFLADDER_ALARM = 5       /* 25 bytes, for serifladder_record */
 };
 
 /* The kinds that a call writes to the output, one record behind the other, to be carried out in this order. */
@@ -97,8 +101,8 @@ uint64_t serifladder_bytes(uint8_t *table, size_t table_length, uint8_t *output,
 uint64_t serifladder_tick(uint8_t *table, size_t table_length, uint8_t *output, size_t output_length,
                           uint8_t *answer, size_t answer_length);
 
-/* The tool says a tightening or an identifier: exactly one house record. A tightening that is done has the next number, and is kept under
-   it. Answers 1 to 3, 7, 8. */
+/* The tool says a tightening, an identifier or an alarm: exactly one house record. A tightening that is done has the next number, and is
+   kept under it. An alarm has no number and is not kept, nor does it alter the identifier in force. Answers 1 to 3, 7, 8. */
 uint64_t serifladder_record(uint8_t *table, size_t table_length, uint8_t *output, size_t output_length,
                             const uint8_t *record, size_t record_length, uint8_t *answer, size_t answer_length);
 

@@ -11,6 +11,7 @@ The line form, one or more records a line:
     bytes S "00200001001         \\0"      further strings are joined; "x"*100 repeats
     scan "IDENTIFIER"
     tightening identifier="..." job=7 ...  by the names of house_records.py; what is not named is as usual there
+    alarm code="..." tool_ready=0 ...      so, too
     record KIND HEX                        any other record, by its kind and payload
     tail HEX                               bytes behind the last whole record
 
@@ -25,10 +26,10 @@ import itertools
 import re
 import sys
 
-from house_records import (BYTES, HANG_UP, NUMBER, OPEN, PAYLOADS, SCANNED, SETTINGS, TEXT, TICK, TIGHTENING, fields_of, record, record_of,
-                           split)
+from house_records import (ALARM, BYTES, HANG_UP, NUMBER, OPEN, PAYLOADS, SCANNED, SETTINGS, TEXT, TICK, TIGHTENING, fields_of, record,
+                           record_of, split)
 
-WORDS = {SETTINGS: "settings", SCANNED: "scan", TIGHTENING: "tightening"}  # with which a line of values begins
+WORDS = {SETTINGS: "settings", SCANNED: "scan", TIGHTENING: "tightening", ALARM: "alarm"}  # with which a line of values begins
 IN_ORDER = (SETTINGS, SCANNED)  # all values stand there, without their names
 
 STRING = r'"(?:[^"\\]|\\.)*"'

@@ -9,14 +9,14 @@ it by this.
 import struct
 from dataclasses import dataclass
 
-TIGHTENING, SCANNED, SETTINGS = 1, 2, 3
+TIGHTENING, SCANNED, SETTINGS, ALARM = 1, 2, 3, 5
 OPEN, HANG_UP, BYTES, TICK = 16, 32, 48, 64  # but for the tick of session 0: the session's number is added
 HEAD = struct.Struct("<HH")  # the length of the payload, and the kind
 PAYLOAD_LONGEST = 8192  # of what the test program reads
 GREATEST_NUMBER = 4294967295  # of a tightening
 
 NUMBER, TEXT, TIME = "number", "text", "time"  # sorts of items
-TEXT_SIZE, TIME_SIZE = 25, 19
+TEXT_SIZE, TIME_SIZE, CODE_SIZE = 25, 19, 4  # an alarm's code is a short text
 NUMBER_FORMS = {1: "B", 2: "H", 4: "I"}  # of struct, by their bytes
 
 
@@ -88,6 +88,12 @@ PAYLOADS = {
         Item("time", TIME, TIME_SIZE, usual=b"2024-01-02:03:04:05"),
         Item("change_time", TIME, TIME_SIZE, usual=b"2024-01-01:00:00:00"),
         Item("batch_status", NUMBER, 1, 2),
+    ),
+    ALARM: Payload(
+        Item("code", TEXT, CODE_SIZE, usual=b"E404"),
+        Item("controller_ready", NUMBER, 1, 1, usual=1),
+        Item("tool_ready", NUMBER, 1, 1, usual=1),
+        Item("time", TIME, TIME_SIZE, usual=b"2024-01-02:03:04:05"),
     ),
 }
 

@@ -91,7 +91,7 @@ def read_times(name):
 def read_table(path):
     """The lent table with which a journal begins."""
     with reading(path), open(path, "rb") as file:
-        data = file.read(lent_table.SIZE + 1)
+        data = file.read(lent_table.SIZE + len(lent_table.MAP) + 1)
     try:
         return lent_table.read(data)
     except ValueError:

@@ -8,7 +8,7 @@ from xml.sax.saxutils import escape, quoteattr
 
 import history
 from ladder_journal import count
-from ladder_rows import CONTROLLER, TIGHTENED, TOOL
+from ladder_rows import ALARMED, CONTROLLER, IDENTIFIER, TIGHTENED, TOOL
 
 COLUMNS = 140  # the most that a line has, be it of text or of SVG
 
@@ -228,6 +228,7 @@ def text_row(places, width, row):
 MARGIN, DAY_X, TIME_X, TOOL_X, APART = 24, 90, 84, 112, 108
 TO_LABELS, LABELS = 40, 600  # from the last rail, and how wide they are
 TOP, STEP, LEADING = 118, 23, 14  # where the rails begin, a row, a further line of a label
+BRACKETS = {TIGHTENED: 8, IDENTIFIER: 14, ALARMED: 20}  # so far beside its rail stands what joins the copies of a notice
 COLOURS = ("#1769aa", "#c4570a", "#12805c", "#7a4fb5", "#b3246f", "#7d6208", "#3f7d1e", "#0b7c8c")
 INK, GREY, PALE, FAINT, RED = "#222222", "#707070", "#c8c8c8", "#e8e8e8", "#c01818"
 THIN, THICK, DOTS = 1.2, 2.4, "2 3"
@@ -414,7 +415,7 @@ class Svg:
         for sent in self.copies.values():
             notice, x, first = sent[0]
             if len(sent) > 1:
-                out = x + (8 if notice.kind == TIGHTENED else 14)
+                out = x + BRACKETS[notice.kind]
                 way = "M%d,%d H%d V%d" % (x, first, out, sent[-1][2]) + "".join(" M%d,%d H%d" % (out, y, x) for _, _, y in sent[1:])
                 self.under.append(tag("path", d=way, fill="none", stroke=colour_of(notice), stroke_width=THICK))
 

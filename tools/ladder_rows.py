@@ -7,7 +7,7 @@ from functools import partial
 import history
 import lent_table
 import openprotocol
-from house_records import BYTES, HANG_UP, OPEN, SCANNED, SETTINGS, TICK, TIGHTENING, fields_of, filled
+from house_records import ALARM, BYTES, HANG_UP, OPEN, SCANNED, SETTINGS, TICK, TIGHTENING, fields_of, filled
 from ladder_journal import Fault, count
 
 REFUSALS = {
@@ -32,15 +32,19 @@ MESSAGES = {
     "0062": "acknowledge of a tightening",
     "0063": "unsubscribe from tightenings",
     "0064": "asks for an old tightening",
+    "0070": "subscribe to alarms",
+    "0072": "acknowledge of an alarm",
+    "0073": "unsubscribe from alarms",
     "9999": "keep alive",
 }
 
-IDENTIFIER, TIGHTENED = "0052", "0061"  # the kinds of notice, by their MIDs
+IDENTIFIER, TIGHTENED, ALARMED = "0052", "0061", "0071"  # the kinds of notice, by their MIDs
 FETCH, FETCHED = "0064", "0065"  # an old tightening is asked for by its number, and given as a reply: it is no notice
-SUBSCRIBES = {"0051": IDENTIFIER, "0060": TIGHTENED}
-UNSUBSCRIBES = {"0054": IDENTIFIER, "0063": TIGHTENED}
-ACKNOWLEDGES = {"0053": IDENTIFIER, "0062": TIGHTENED}
-MOST = {IDENTIFIER: 2, TIGHTENED: 8}  # notices of a kind that a session holds, the open one included
+SUBSCRIBES = {"0051": IDENTIFIER, "0060": TIGHTENED, "0070": ALARMED}
+UNSUBSCRIBES = {"0054": IDENTIFIER, "0063": TIGHTENED, "0073": ALARMED}
+ACKNOWLEDGES = {"0053": IDENTIFIER, "0062": TIGHTENED, "0072": ALARMED}
+MOST = {IDENTIFIER: 2, TIGHTENED: 8, ALARMED: 4}  # notices of a kind that a session holds, the open one included
+TOOLS = {SCANNED: ("identifier", IDENTIFIER), TIGHTENING: ("tightening", TIGHTENED), ALARM: ("alarm", ALARMED)}  # what a tool tells
 REPEATED, GIVEN_UP = 20, 120  # ticks after the first copy
 
 FETCHED_NUMBER = openprotocol.LAYOUTS[openprotocol.OLD_RESULT, 1].places["number"]
@@ -64,24 +68,43 @@ def verdict(status):
     return "OK" if status else "NOT OK"
 
 
-def tool_words(record_kind, payload, number=None, taken=()):
-    """What a tool record says; of one that was done its number too, and who took it."""
+def alarm_name(fields):
+    """By its code and its time: an alarm has no number."""
+    return "%s of %s" % (text_bytes(fields["code"]), history.quote(fields["time"])[1:-1])
+
+
+def alarm_words(fields):
+    """And by what is not ready."""
+    wanting = [what for what in ("controller", "tool") if not fields[what + "_ready"]]
+    return "%s, %s" % (alarm_name(fields), " and ".join(wanting) + " not ready" if wanting else "both ready")
+
+
+def tool_words(record_kind, payload, number=None, taken=None):
+    """What a tool record says; of one that was done its number too, and who took it, though of an identifier not that nobody did."""
     fields = fields_of(record_kind, payload)
     if not fields:
         words = "of kind %d, %s" % (record_kind, count(len(payload), "byte"))
     elif record_kind == SCANNED:
         words = text_bytes(payload)
+    elif record_kind == ALARM:
+        words = alarm_words(fields)
     else:
         own = fields["identifier"]
         words = "%s%s, %s%s" % ("" if number is None else "%d: " % number, torque(fields["torque"]), verdict(fields["tightening_status"]),
                                 ", identifier " + text_bytes(own) if own.strip(b" ") else "")
-    if taken or number is not None:
+    if taken or taken is not None and record_kind != SCANNED:
         words += ", taken by " + (" ".join(map(str, taken)) or "none")
     return words
 
 
 def tool_word(record_kind, payload):
-    return {SCANNED: "identifier", TIGHTENING: "tightening"}[record_kind] if fields_of(record_kind, payload) else "record"
+    return TOOLS[record_kind][0] if fields_of(record_kind, payload) else "record"
+
+
+def event_words(kind, event):
+    if kind == TIGHTENED:
+        return "tightening %d" % event
+    return "identifier " + text_bytes(event) if kind == IDENTIFIER else "alarm " + alarm_name(fields_of(ALARM, event))
 
 
 def start_words(payload):
@@ -134,6 +157,8 @@ def frame_words(frame):
         return "accepted: %04d" % fields["mid"]
     if mid == IDENTIFIER:
         return "identifier " + text_bytes(fields["identifier"].encode())
+    if mid == ALARMED:
+        return "alarm " + alarm_words({**fields, "code": fields["code"].encode(), "time": fields["time"].encode()})
     return "%stightening %d, %s, %s, %s" % ("old " if mid == FETCHED else "", fields["number"], text_bytes(fields["identifier"].encode()),
                                             torque(fields["torque"]), verdict(fields["tightening_status"]))
 
@@ -147,13 +172,13 @@ class Notice:
 
     session: int
     kind: str
-    event: object  # the number of a tightening, or the 25 bytes of an identifier
+    event: object  # the number of a tightening, or the payload of an identifier or an alarm
     number: int = 0
     frame: str = ""
     seconds: list = field(default_factory=list)  # of its copies
 
     def event_words(self):
-        return "tightening %d" % self.event if self.kind == TIGHTENED else "identifier " + text_bytes(self.event)
+        return event_words(self.kind, self.event)
 
     def words(self):
         """Of one that was sent: what its frame says."""
@@ -166,7 +191,11 @@ class Notice:
             return True
         if self.kind == TIGHTENED:
             return int(frame[layout.places["number"]]) == self.event
-        return frame[layout.places["identifier"]] == self.event.replace(b" ", b"_").decode("latin-1")
+        if self.kind == IDENTIFIER:
+            told, wanted = frame[layout.places["identifier"]], self.event
+        else:
+            told, wanted = frame[openprotocol.HEADER:], layout.write(fields_of(ALARM, self.event))
+        return told == wanted.replace(b" ", b"_").decode("latin-1")
 
     def lost_words(self, when):
         """How it was lost: a notice that is dropped goes out no more."""
@@ -212,7 +241,7 @@ class Books:
             if not subscription:
                 continue
             notices = subscription.notices
-            if len(notices) == MOST[kind] and kind == TIGHTENED:
+            if len(notices) == MOST[kind] and kind != IDENTIFIER:
                 not_taken.append(session)
                 continue
             if len(notices) == MOST[kind]:
@@ -290,11 +319,11 @@ class Lent:
 
     def lane(self, kind):
         """And the events of the notices that are held."""
-        if kind == IDENTIFIER:
-            lane = self.region.identifiers()
-            return lane, lane.places
-        lane = self.region.tightenings()
-        return lane, [lent_table.little(place[lent_table.NUMBER]) for place in lane.places]
+        if kind == TIGHTENED:
+            lane = self.region.tightenings()
+            return lane, [lent_table.little(place[lent_table.NUMBER]) for place in lane.places]
+        lane = self.region.identifiers() if kind == IDENTIFIER else self.region.alarms()
+        return lane, lane.places
 
     def subscription(self, kind):
         """With its notices, or None. The open one was sent before second 0, as often as its clock tells."""
@@ -494,14 +523,13 @@ class Ladder:
             self.take_tool(record_kind, payload, source)
 
     def take_tool(self, record_kind, payload, source):
-        number, event = None, payload
-        if record_kind == TIGHTENING:
+        number, event, (word, kind) = None, payload, TOOLS[record_kind]
+        if kind == TIGHTENED:
             number = event = self.last = self.last + 1
-        taken, not_taken, replaced = self.books.tell(TIGHTENED if record_kind == TIGHTENING else IDENTIFIER, event)
-        self.add(TOOL, CONTROLLER, tool_word(record_kind, payload), partial(tool_words, record_kind, payload, number, taken), source,
-                 concerns=(*taken, *not_taken))
+        taken, not_taken, replaced = self.books.tell(kind, event)
+        self.add(TOOL, CONTROLLER, word, partial(tool_words, record_kind, payload, number, taken), source, concerns=(*taken, *not_taken))
         for session in not_taken:
-            self.lose(session, "tightening %d: not taken; server %d has %d already" % (number, session, MOST[TIGHTENED]), number)
+            self.lose(session, "%s: not taken; server %d has %d already" % (event_words(kind, event), session, MOST[kind]), number)
         self.lose_all(replaced, "for a newer one")
 
     def take_bytes(self, session, part, source):

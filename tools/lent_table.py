@@ -3,18 +3,22 @@ Python reads it by this."""
 
 from dataclasses import dataclass
 
-from house_records import PAYLOADS, SCANNED, TIGHTENING
+from house_records import ALARM, PAYLOADS, SCANNED, TIGHTENING
 
 SIZE = 32768
+MAP = b"map 3\n"  # stands behind a table that the host keeps: the number of its map
 MARK = b"SERIFLAD"
 LAST = slice(8, 12)  # the last tightening number, in what is shared
 KEPT_COUNT = 12  # the byte that says how many tightenings are kept
 MEMORY, KEPT, PLACE = 1024, 64, PAYLOADS[TIGHTENING].size  # where their places begin, how many there are, the bytes of one
-SHARED, REGION = 8192, 1024  # bytes, of what is shared and of each session's region behind it
+SHARED, REGION = 8192, 1152  # bytes, of what is shared and of each session's region behind it
 SESSIONS = 4
 USED = SHARED + REGION * SESSIONS  # the bytes that have a meaning
 
-EARLIER_SIZE = 16384  # of a table from before tightenings were kept: its regions stand where their places are now
+# Tables that were kept earlier, without the number of their map, by their sizes: where their regions begin. A region had no lane of alarms.
+# Of the first map, from before tightenings were kept, the regions stand where the places of these are now.
+FIRST_SIZE, EARLIER_REGION = 16384, 1024
+EARLIER = {FIRST_SIZE: MEMORY, SIZE: SHARED}
 
 CLOSED, OPENED, STARTED = range(3)  # phases
 RUN_COUNT, RUN = slice(8, 10), slice(10, 55)  # the bytes that were received, and the first of them
@@ -22,7 +26,8 @@ RUN_COUNT, RUN = slice(8, 10), slice(10, 55)  # the bytes that were received, an
 NOT, PLAIN, ACKNOWLEDGED = range(3)  # forms of a subscription
 CONTROL = 16  # bytes of a lane before its places
 NUMBER = slice(PAYLOADS[TIGHTENING].size, PAYLOADS[TIGHTENING].size + 4)  # a result's, in its place, behind the payload
-LANES = IDENTIFIERS, TIGHTENINGS = (56, PAYLOADS[SCANNED].size), (128, NUMBER.stop)  # where a lane begins, and the bytes of a place in it
+# Where a lane begins, and the bytes of a place in it.
+LANES = IDENTIFIERS, TIGHTENINGS, ALARMS = (56, PAYLOADS[SCANNED].size), (128, NUMBER.stop), (1024, PAYLOADS[ALARM].size)
 
 
 def little(data):
@@ -30,14 +35,21 @@ def little(data):
 
 
 def read(data):
-    """The bytes that have a meaning of a table, or of an earlier one as they stand in one of today; ValueError where it is neither."""
-    if len(data) not in (SIZE, EARLIER_SIZE) or not data.startswith(MARK):
+    """The bytes that have a meaning of a table that was kept, or of an earlier one as they stand in one of today; ValueError where it is
+    neither."""
+    if not data.startswith(MARK) or len(data) not in EARLIER and data[SIZE:] != MAP:
         raise ValueError("it is no table")
-    table = bytearray(data[:USED])
-    if len(data) == EARLIER_SIZE:
-        table[KEPT_COUNT] = 0
-        table[MEMORY:MEMORY] = bytes(SHARED - MEMORY)
-    return bytes(table[:USED])
+    return brought_up_to_date(data) if len(data) in EARLIER else data[:USED]
+
+
+def brought_up_to_date(data):
+    """Of alarms, all that is zero, there is none and nobody is subscribed; nor is a tightening kept in a table of the first map."""
+    begin, shared = EARLIER[len(data)], bytearray(data[:SHARED])
+    if len(data) == FIRST_SIZE:
+        shared[KEPT_COUNT] = 0
+        shared[MEMORY:] = bytes(SHARED - MEMORY)
+    at = range(begin, begin + EARLIER_REGION * SESSIONS, EARLIER_REGION)
+    return bytes(shared) + b"".join(data[each:each + EARLIER_REGION].ljust(REGION, b"\0") for each in at)
 
 
 def last_number(table):
@@ -81,6 +93,9 @@ class Region:
 
     def tightenings(self):
         return self.lane(*TIGHTENINGS)
+
+    def alarms(self):
+        return self.lane(*ALARMS)
 
     def lane(self, at, size):
         """What the lanes of a session that is not started hold has no meaning; nor has what one holds that asks no acknowledge."""

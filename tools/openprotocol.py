@@ -9,7 +9,7 @@ read into named fields, or written of them, by layouts.
 
 from dataclasses import dataclass
 
-from house_records import NUMBER, TEXT, TEXT_SIZE, TIME_SIZE, filled
+from house_records import CODE_SIZE, NUMBER, TEXT, TEXT_SIZE, TIME_SIZE, filled
 
 HEADER = 20
 
@@ -19,6 +19,7 @@ DOWNLOAD_IDENTIFIER = 50
 SUBSCRIBE_IDENTIFIERS, IDENTIFIER, ACKNOWLEDGE_IDENTIFIER, UNSUBSCRIBE_IDENTIFIERS = 51, 52, 53, 54
 SUBSCRIBE_RESULTS, RESULT, ACKNOWLEDGE_RESULT, UNSUBSCRIBE_RESULTS = 60, 61, 62, 63
 FETCH_RESULT, OLD_RESULT = 64, 65  # an old one, by its number
+SUBSCRIBE_ALARMS, ALARM, ACKNOWLEDGE_ALARM, UNSUBSCRIBE_ALARMS = 70, 71, 72, 73
 KEEP_ALIVE = 9999
 
 NEWEST = 0  # asked for as a number: the newest result that is kept
@@ -34,6 +35,8 @@ ERRORS = {
     8: "an identifier over the net is not granted",
     9: "already subscribed to results",
     10: "not subscribed to results",
+    11: "already subscribed to alarms",
+    12: "not subscribed to alarms",
     NOT_KEPT: "no such result is kept",
     96: "already started",
     NO_SUCH_REVISION: "revision not supported",
@@ -214,6 +217,13 @@ LAYOUTS = {
         Row(NUMBER, 5, "angle"),
         Row(TEXT, TIME_SIZE, "time"),
         Row(NUMBER, 1, "batch_status"),
+    ),
+    (ALARM, 1): Layout(
+        NUMBERED,
+        Row(TEXT, CODE_SIZE, "code"),
+        Row(NUMBER, 1, "controller_ready"),
+        Row(NUMBER, 1, "tool_ready"),
+        Row(TEXT, TIME_SIZE, "time"),
     ),
     (KEEP_ALIVE, 1): Layout(PLAIN),
 }

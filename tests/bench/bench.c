@@ -113,7 +113,8 @@ static void note(uint64_t number)
 
 /* ---- what is given to the calls, made before anything is measured */
 
-static uint8_t settings[37] = { 33, 0, 3, 0, 12, 0, 3, 1 }, tightening[110] = { 106, 0, 1, 0 }, flood[FLOOD], message_in_flood[FLOOD];
+static uint8_t settings[37] = { 33, 0, 3, 0, 12, 0, 3, 1 }, tightening[110] = { 106, 0, 1, 0 }, tool_alarm[29] = { 25, 0, 5, 0 };
+static uint8_t flood[FLOOD], message_in_flood[FLOOD];
 
 static const char KEEP_ALIVE[] = "00209999001         ";
 
@@ -125,6 +126,7 @@ static void make_inputs(void)
     memcpy(tightening + 4, "BODY 4711", 9);
     memcpy(tightening + 71, "2026-11-15:10:20:30", 19);
     memcpy(tightening + 90, "2026-11-14:08:00:00", 19);
+    memcpy(tool_alarm + 4, "E404\0\1" "2026-11-15:10:20:30", 25);
     memset(flood, 'A', FLOOD);
     memset(message_in_flood, 'A', FLOOD);
     memcpy(message_in_flood, KEEP_ALIVE, sizeof KEEP_ALIVE);
@@ -160,10 +162,13 @@ static void tick(unsigned i)
     note(LIBRARIES[i].tick(table[i], TABLE, output[i], OUTPUT, answer[i], ANSWER));
 }
 
-static void tighten(unsigned i)
+static void record(unsigned i, const uint8_t *given, size_t length)
 {
-    note(LIBRARIES[i].record(table[i], TABLE, output[i], OUTPUT, tightening, sizeof tightening, answer[i], ANSWER));
+    note(LIBRARIES[i].record(table[i], TABLE, output[i], OUTPUT, given, length, answer[i], ANSWER));
 }
+
+static void tighten(unsigned i) { record(i, tightening, sizeof tightening); }
+static void raise_alarm(unsigned i) { record(i, tool_alarm, sizeof tool_alarm); }
 
 /* ---- the kinds of call: how the table gets into its state, and what is timed */
 
@@ -183,6 +188,7 @@ static void prepare_closed(unsigned i) { start(i); }
 static void prepare_started(unsigned i) { all_started(i, NULL); }
 static void prepare_identifiers(unsigned i) { all_started(i, "002000510011        "); }
 static void prepare_results(unsigned i) { all_started(i, "002000600011        "); }
+static void prepare_alarms(unsigned i) { all_started(i, "002000700011        "); }
 
 /* As many as are kept, numbers 1 to 64; nobody listens. */
 static void prepare_kept(unsigned i)
@@ -209,11 +215,9 @@ static void prepare_revisions(unsigned i)
     SEND(i, 3, "002000600061        ");
 }
 
-/* A copy is due on every session at the next tick. */
-static void due(unsigned i, const char *subscription)
+/* Copies of what is open now are due at the next tick. */
+static void grow_old(unsigned i)
 {
-    all_started(i, subscription);
-    tighten(i);
     for (unsigned k = 0; k < 19; k++) {
         tick(i);
         for (uint64_t s = 0; s < SESSIONS; s++)
@@ -221,8 +225,30 @@ static void due(unsigned i, const char *subscription)
     }
 }
 
+/* A result's copy is due on every session. */
+static void due(unsigned i, const char *subscription)
+{
+    all_started(i, subscription);
+    tighten(i);
+    grow_old(i);
+}
+
 static void prepare_due(unsigned i) { due(i, "00200060001         "); }
 static void prepare_due_6(unsigned i) { due(i, "00200060006         "); }
+
+/* A copy of each kind, the longest that there are. */
+static void prepare_due_all(unsigned i)
+{
+    all_started(i, "00200051002         ");
+    for (uint64_t s = 0; s < SESSIONS; s++) {
+        SEND(i, s, "00200060006         ");
+        SEND(i, s, "00200070001         ");
+    }
+    SEND(i, 1, "00290050001         BODY 4712");
+    tighten(i);
+    raise_alarm(i);
+    grow_old(i);
+}
 
 static void run_start(unsigned i) { start(i); }
 
@@ -241,6 +267,7 @@ static void run_newest(unsigned i) { SEND(i, 1, "00300064001         0000000000"
 static void run_oldest(unsigned i) { SEND(i, 1, "00300064001         0000000001"); }
 static void run_tick(unsigned i) { tick(i); }
 static void run_tighten(unsigned i) { tighten(i); }
+static void run_alarm(unsigned i) { raise_alarm(i); }
 
 struct call_kind {
     const char *name;
@@ -263,8 +290,10 @@ static const struct call_kind CALL_KINDS[] = {
     { "tick, nothing open", prepare_started, run_tick, 12, 0 },
     { "tick, copies due on four sessions", prepare_due, run_tick, 1, 4 * 236 },
     { "tick, copies due on four, revision 6", prepare_due_6, run_tick, 1, 4 * 531 },
+    { "tick, copies of three kinds due on four", prepare_due_all, run_tick, 1, 4 * (133 + 531 + 58) },
     { "tool record to four sessions", prepare_results, run_tighten, 8, 4 * 236 },
     { "tool record, revisions 1, 2, 5 and 6", prepare_revisions, run_tighten, 8, 236 + 390 + 511 + 531 },
+    { "tool record, an alarm to four sessions", prepare_alarms, run_alarm, 8, 4 * 58 },
     { "tool record to nobody, none kept", prepare_started, run_tighten, 8, 0 },
     { "tool record to nobody, 64 kept", prepare_kept, run_tighten, 8, 0 },
 };

@@ -1,6 +1,7 @@
 /* A peer for speed: what the bench holds the product's time against. Each call works in place on the lent table, which is a struct; a frame
-   is built once for all sessions; a held result is kept as the bytes that are sent in revision 1; an 0061's are made where the memory keeps
-   them, and an 0065, or an 0061 of a later revision, is put together out of those; bytes are tested and copied a word at a time.
+   is built once for all sessions; a held result or alarm is kept as the bytes that are sent, a result's in revision 1; an 0061's are made
+   where the memory keeps them, and an 0065, or an 0061 of a later revision, is put together out of those; bytes are tested and copied a
+   word at a time.
 
    A table is well formed when its mark stands and every count is within its range. It stands any bytes as a table. */
 #include "peer.h"
@@ -20,6 +21,7 @@ enum {
     GIVE_UP_TICKS = 120,
     RESULTS_HELD = 8,
     IDENTIFIERS_HELD = 2,
+    ALARMS_HELD = 4,
     RESULTS_KEPT = 64,
 
     RUN_KEPT = 45,
@@ -33,8 +35,10 @@ enum {
     ALIKE = 64,         /* so much of it, fields 01 to 04, stands in every revision */
     LONGEST = 526,      /* 0061 revision 6 */
     OLD_RESULT = 98,    /* that of 0065 */
+    ALARM = 33,         /* that of 0071 */
     DIGITS = 10,        /* of a result's number, there and in 0064 */
-    PARTS = 81          /* parts 2 to 4 of 0052 revision 2 */
+    PARTS = 81,         /* parts 2 to 4 of 0052 revision 2 */
+    CONTROL = 11        /* of a session, in the table */
 };
 
 /* The numbers that a call answers. */
@@ -46,7 +50,7 @@ enum {
 /* ---- the table */
 
 enum phase { CLOSED, OPENED, STARTED };
-enum kind { IDENTIFIERS, TIGHTENINGS };
+enum kind { IDENTIFIERS, TIGHTENINGS, ALARMS, KINDS };
 enum asked { NOTHING, ACKNOWLEDGES, NO_ACKNOWLEDGE };
 
 /* The table's bytes, wherever they lie. */
@@ -59,17 +63,18 @@ struct IN_TABLE lane {
 
 struct IN_TABLE control {
     uint8_t phase, idle;
-    struct lane lane[2];
+    struct lane lane[KINDS];
 };
 
 struct IN_TABLE session {
     struct control control;
-    uint8_t revision[2]; /* of the subscriptions */
-    uint8_t first;      /* the place of the open result: the results go round */
-    uint16_t run_count; /* of bytes since the last NUL, at most RUN_GREATEST + 1 */
+    uint8_t revision[KINDS]; /* of the subscriptions */
+    uint8_t first[KINDS];    /* the place of the open result, and of the open alarm: they go round */
+    uint16_t run_count;      /* of bytes since the last NUL, at most RUN_GREATEST + 1 */
     uint8_t run[RUN_KEPT];
     uint8_t identifiers[IDENTIFIERS_HELD][TEXT];
     uint8_t results[RESULTS_HELD][RESULT];
+    uint8_t alarms[ALARMS_HELD][ALARM];
 };
 
 struct IN_TABLE table {
@@ -84,7 +89,7 @@ struct IN_TABLE table {
 };
 
 static_assert(sizeof(struct table) <= TABLE_BYTES, "the table fits what is lent");
-static_assert(sizeof(struct control) == 8, "a session's control is a word");
+static_assert(sizeof(struct control) == CONTROL, "a session's control is read as two words");
 
 static const uint64_t MARK = UINT64_C(0x53454144444c4149);
 
@@ -311,6 +316,26 @@ static uint8_t *put_identifier(uint8_t *at, unsigned s, const struct session *se
     return at + length + 1;
 }
 
+static uint8_t *put_alarm(uint8_t *at, unsigned s, const struct session *session, const uint8_t *alarm)
+{
+    at = put_record(at, HEADER + ALARM + 1, 256 + s);
+    memcpy(at, "00530071001         ", HEADER);
+    at[11] = byte_12(&session->control.lane[ALARMS]);
+    memcpy(at + HEADER, alarm, ALARM);
+    at[HEADER + ALARM] = 0;
+    return at + HEADER + ALARM + 1;
+}
+
+/* The data field of 0071, made once when the alarm comes. */
+static void make_alarm(uint8_t *alarm, const uint8_t *payload)
+{
+    memcpy(alarm, "01    02 03 04", 14);
+    memcpy(alarm + 2, payload, 4);
+    alarm[8] = digit(payload[4]);
+    alarm[11] = digit(payload[5]);
+    memcpy(alarm + 14, payload + 6, TIME);
+}
+
 /* The data field of 0061, made once when the tightening comes. The field numbers stand in the bytes that it begins with. */
 static void make_result(uint8_t *result, const struct table *table, const uint8_t *payload, const uint8_t *identifier)
 {
@@ -365,15 +390,25 @@ static uint8_t *put_old_result(uint8_t *at, unsigned s, const uint8_t *result)
 
 /* ---- notices */
 
-static const uint8_t *open_notice(const struct session *session, enum kind kind)
+static const uint8_t HELD[KINDS] = { IDENTIFIERS_HELD, RESULTS_HELD, ALARMS_HELD }, SIZES[KINDS] = { TEXT, RESULT, ALARM };
+
+/* Where a notice is held, so many behind the open one. */
+static inline uint8_t *held(struct session *session, enum kind kind, unsigned behind)
 {
-    return kind == IDENTIFIERS ? session->identifiers[0] : session->results[session->first];
+    unsigned place = (session->first[kind] + behind) % HELD[kind];
+    return kind == IDENTIFIERS ? session->identifiers[behind] : kind == TIGHTENINGS ? session->results[place] : session->alarms[place];
 }
 
-static inline uint8_t *put_open(uint8_t *at, unsigned s, const struct session *session, enum kind kind)
+static inline uint8_t *put_notice(uint8_t *at, unsigned s, const struct session *session, enum kind kind, const uint8_t *notice)
 {
-    const uint8_t *notice = open_notice(session, kind);
-    return kind == IDENTIFIERS ? put_identifier(at, s, session, notice) : put_result(at, s, session, notice);
+    return kind == IDENTIFIERS ? put_identifier(at, s, session, notice)
+           : kind == TIGHTENINGS ? put_result(at, s, session, notice)
+           : put_alarm(at, s, session, notice);
+}
+
+static inline uint8_t *put_open(uint8_t *at, unsigned s, struct session *session, enum kind kind)
+{
+    return put_notice(at, s, session, kind, held(session, kind, 0));
 }
 
 /* Ends the open notice and sends the one behind it, if there is one. */
@@ -385,7 +420,7 @@ static uint8_t *next_notice(uint8_t *at, unsigned s, struct session *session, en
     if (kind == IDENTIFIERS)
         memcpy(session->identifiers[0], session->identifiers[1], TEXT);
     else
-        session->first = (session->first + 1) % RESULTS_HELD;
+        session->first[kind] = (session->first[kind] + 1) % HELD[kind];
     return lane->count > 0 ? put_open(at, s, session, kind) : at;
 }
 
@@ -419,18 +454,27 @@ static uint8_t *identified(uint8_t *at, struct table *table, const uint8_t *iden
     return at;
 }
 
-/* Holds a result where there is room; it goes out at once where none was open. */
-static uint8_t *offer_result(uint8_t *at, unsigned s, struct session *session, const uint8_t *result, uint64_t *taken)
+/* Holds a result or an alarm where there is room; it goes out at once where none was open. */
+static inline uint8_t *offer(uint8_t *at, unsigned s, struct session *session, enum kind kind, const uint8_t *notice, uint64_t *taken)
 {
-    struct lane *lane = &session->control.lane[TIGHTENINGS];
+    struct lane *lane = &session->control.lane[kind];
     if (lane->asked != NO_ACKNOWLEDGE) {
-        if (lane->count == RESULTS_HELD)
+        if (lane->count == HELD[kind])
             return at;
-        memcpy(session->results[(session->first + lane->count) % RESULTS_HELD], result, RESULT);
+        memcpy(held(session, kind, lane->count), notice, SIZES[kind]);
         lane->count += 1;
     }
     *taken |= 1u << s;
-    return lane->count > 1 ? at : put_result(at, s, session, result);
+    return lane->count > 1 ? at : put_notice(at, s, session, kind, notice);
+}
+
+/* Hands it to all who asked. */
+static inline uint8_t *offer_all(uint8_t *at, struct table *table, enum kind kind, const uint8_t *notice, uint64_t *taken)
+{
+    for (unsigned s = 0; s < SESSIONS; s++)
+        if (gets(&table->sessions[s], kind))
+            at = offer(at, s, &table->sessions[s], kind, notice, taken);
+    return at;
 }
 
 /* The result is made in its number's place, which was the oldest's. */
@@ -440,10 +484,14 @@ static uint8_t *tightened(uint8_t *at, struct table *table, const uint8_t *paylo
     table->kept_count += table->kept_count < RESULTS_KEPT;
     uint8_t *result = table->kept[table->last % RESULTS_KEPT];
     make_result(result, table, payload, is_spaces(payload) ? table->in_force : payload);
-    for (unsigned s = 0; s < SESSIONS; s++)
-        if (gets(&table->sessions[s], TIGHTENINGS))
-            at = offer_result(at, s, &table->sessions[s], result, taken);
-    return at;
+    return offer_all(at, table, TIGHTENINGS, result, taken);
+}
+
+static uint8_t *alarmed(uint8_t *at, struct table *table, const uint8_t *payload, uint64_t *taken)
+{
+    uint8_t alarm[ALARM];
+    make_alarm(alarm, payload);
+    return offer_all(at, table, ALARMS, alarm, taken);
 }
 
 /* ---- messages */
@@ -486,11 +534,12 @@ static bool read_header(struct message *message)
 
 static uint8_t *subscribe(uint8_t *at, unsigned s, struct session *session, enum kind kind, const struct message *message)
 {
+    static const uint8_t REVISIONS[KINDS] = { 2, 6, 1 }, SUBSCRIBED[KINDS] = { 6, 9, 11 };
     struct lane *lane = &session->control.lane[kind];
-    if (message->revision > (kind == IDENTIFIERS ? 2 : 6))
+    if (message->revision > REVISIONS[kind])
         return refuse_message(at, s, message->bytes + 4, 97);
     if (lane->asked != NOTHING)
-        return refuse_message(at, s, message->bytes + 4, kind == IDENTIFIERS ? 6 : 9);
+        return refuse_message(at, s, message->bytes + 4, SUBSCRIBED[kind]);
     lane->asked = message->bytes[11] == '1' ? NO_ACKNOWLEDGE : ACKNOWLEDGES;
     session->revision[kind] = (uint8_t)message->revision;
     return accept(at, s, message->bytes + 4);
@@ -498,9 +547,10 @@ static uint8_t *subscribe(uint8_t *at, unsigned s, struct session *session, enum
 
 static uint8_t *unsubscribe(uint8_t *at, unsigned s, struct session *session, enum kind kind, const uint8_t *mid)
 {
+    static const uint8_t NOT_SUBSCRIBED[KINDS] = { 7, 10, 12 };
     struct lane *lane = &session->control.lane[kind];
     if (lane->asked == NOTHING)
-        return refuse_message(at, s, mid, kind == IDENTIFIERS ? 7 : 10);
+        return refuse_message(at, s, mid, NOT_SUBSCRIBED[kind]);
     *lane = (struct lane){ 0 };
     return accept(at, s, mid);
 }
@@ -571,6 +621,10 @@ static uint8_t *plain_message(uint8_t *at, unsigned s, struct session *session, 
         return subscribe(at, s, session, TIGHTENINGS, message);
     case 63:
         return unsubscribe(at, s, session, TIGHTENINGS, message->bytes + 4);
+    case 70:
+        return subscribe(at, s, session, ALARMS, message);
+    case 73:
+        return unsubscribe(at, s, session, ALARMS, message->bytes + 4);
     default:
         return put_mirrored(at, s, message->bytes);
     }
@@ -591,9 +645,11 @@ static uint8_t *message_when_started(uint8_t *at, unsigned s, struct table *tabl
         return acknowledge(at, s, session, IDENTIFIERS, message);
     case 62:
         return acknowledge(at, s, session, TIGHTENINGS, message);
+    case 72:
+        return acknowledge(at, s, session, ALARMS, message);
     case 64:
         return fetch(at, s, table, message);
-    case 3: case 51: case 54: case 60: case 63: case 9999:
+    case 3: case 51: case 54: case 60: case 63: case 70: case 73: case 9999:
         if (message->length != HEADER)
             return refuse_message(at, s, mid, 1);
         return plain_message(at, s, session, number, message);
@@ -671,7 +727,9 @@ static uint8_t *tick_session(uint8_t *at, unsigned s, struct session *session)
         clear_session(session, CLOSED);
         return put_record(at, 0, 512 + s);
     }
-    return tick_lane(tick_lane(at, s, session, IDENTIFIERS), s, session, TIGHTENINGS);
+    at = tick_lane(at, s, session, IDENTIFIERS);
+    at = tick_lane(at, s, session, TIGHTENINGS);
+    return tick_lane(at, s, session, ALARMS);
 }
 
 /* ---- the calls */
@@ -694,13 +752,17 @@ static bool is_formed(const struct table *table)
 {
     static const struct control LIMITS = {
         STARTED, IDLE_LIMIT - 1,
-        { { NO_ACKNOWLEDGE, GIVE_UP_TICKS - 1, IDENTIFIERS_HELD }, { NO_ACKNOWLEDGE, GIVE_UP_TICKS - 1, RESULTS_HELD } }
+        { { NO_ACKNOWLEDGE, GIVE_UP_TICKS - 1, IDENTIFIERS_HELD }, { NO_ACKNOWLEDGE, GIVE_UP_TICKS - 1, RESULTS_HELD },
+          { NO_ACKNOWLEDGE, GIVE_UP_TICKS - 1, ALARMS_HELD } }
     };
+    const uint8_t *limits = (const uint8_t *)&LIMITS;
     uint64_t bad = (table->mark ^ MARK) | (table->kept_count > RESULTS_KEPT) | (table->kept_count > table->last);
     for (unsigned s = 0; s < SESSIONS; s++) {
         const struct session *session = &table->sessions[s];
-        bad |= above(word(&session->control), word(&LIMITS));
-        bad |= session->first >= RESULTS_HELD || session->run_count > RUN_GREATEST + 1;
+        const uint8_t *control = (const uint8_t *)&session->control;
+        bad |= above(word(control), word(limits)) | above(word(control + CONTROL - 8), word(limits + CONTROL - 8));
+        bad |= session->first[TIGHTENINGS] >= RESULTS_HELD || session->first[ALARMS] >= ALARMS_HELD;
+        bad |= session->run_count > RUN_GREATEST + 1;
     }
     return bad == 0;
 }
@@ -751,7 +813,7 @@ uint64_t peer_start(uint8_t *lent, size_t table_length, const uint8_t *settings,
     table->kept_count = 0;
     for (unsigned s = 0; s < SESSIONS; s++) {
         clear_session(&table->sessions[s], CLOSED);
-        table->sessions[s].first = 0;
+        memset(table->sessions[s].first, 0, KINDS);
     }
     return reply(answer, DONE, 0, 0, 0);
 }
@@ -826,6 +888,11 @@ static bool is_tightening(const uint8_t *payload)
     return good;
 }
 
+static bool is_alarm(const uint8_t *payload)
+{
+    return no_text(four(payload) | UINT64_C(0x2020202000000000)) == 0 && payload[4] <= 1 && payload[5] <= 1 && is_time(payload + 6);
+}
+
 uint64_t peer_record(uint8_t *lent, size_t table_length, uint8_t *output, size_t output_length,
                      const uint8_t *record, size_t record_length, uint8_t *answer, size_t answer_length)
 {
@@ -840,6 +907,8 @@ uint64_t peer_record(uint8_t *lent, size_t table_length, uint8_t *output, size_t
         return refuse(answer, number);
     if (record_length == RECORD_HEADER + TEXT && four(record) == (TEXT | 2 << 16) && is_text(payload)) {
         end = identified(output, table, payload, &taken);
+    } else if (record_length == RECORD_HEADER + 25 && four(record) == (25 | 5 << 16) && is_alarm(payload)) {
+        end = alarmed(output, table, payload, &taken);
     } else {
         if (record_length != RECORD_HEADER + 106 || four(record) != (106 | 1 << 16) || !is_tightening(payload))
             return refuse(answer, RECORD_BAD);

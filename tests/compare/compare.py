@@ -28,14 +28,14 @@ import generate  # noqa: E402
 import history  # noqa: E402
 import run as vectors  # noqa: E402
 from house_records import HEAD, record, split  # noqa: E402
-from openprotocol import ACCEPTED, IDENTIFIER, RESULT, longest  # noqa: E402
+from openprotocol import ACCEPTED, ALARM, IDENTIFIER, RESULT, longest  # noqa: E402
 
 SECONDS = 60  # more than any history needs
 EQUAL, DIFFERENT, BROKEN = "equal", "different", "broken"
 
 # The fullest outputs that the rules allow: so many of the longest frames of these numbers, each with its NUL, in a record each.
 FULLEST = {what: sum(HEAD.size + longest(mid) + 1 for mid in mids) for what, mids in {
-    "received bytes": [ACCEPTED] + 4 * [IDENTIFIER], "tick": 4 * [IDENTIFIER, RESULT], "tool record": 4 * [RESULT]}.items()}
+    "received bytes": [ACCEPTED] + 4 * [IDENTIFIER], "tick": 4 * [IDENTIFIER, RESULT, ALARM], "tool record": 4 * [RESULT]}.items()}
 
 
 def run(command, data):

@@ -10,8 +10,8 @@
    be touched lie behind all that is lent, and before the table. The product's calls are made over a twin of the table too,
    which has something else where a table has no meaning: in the lanes of sessions that are not started, and in the places
    of the memory that keep nothing. They answer and write the same. Exit status 0: all so, and what is to be met was met often
-   enough: a count over its bound in a started, subscribed session and in the memory, a revision there that no 0060 asks for, a
-   session with such lanes that started, and an 0065 out of a memory with such places. */
+   enough: a count over its bound in a started, subscribed session and in the memory, a revision there that no subscription asks for,
+   both of each kind of notice, a session with such lanes that started, and an 0065 out of a memory with such places. */
 #define _DEFAULT_SOURCE /* MAP_ANONYMOUS */
 #include "../independent/independent.h"
 
@@ -37,17 +37,17 @@ enum {
     OUTPUT = INDEPENDENT_OUTPUT_BYTES,
     ANSWER = INDEPENDENT_ANSWER_BYTES,
     SESSIONS = 4,
-    KINDS = 2,
+    KINDS = 3,
     CALLS_ASIDE = 4,
     PAGE = 4096,
-    LEAST_OVER = 1000, /* calls over a table with a count over its bound in a started, subscribed session, or in the memory */
-    LEAST_ODD = 1000,  /* calls over one in which such a session has a revision of results that no 0060 asks for */
+    LEAST_OVER = 1000, /* calls over a table with a count of a kind over its bound in a started, subscribed session, or in the memory */
+    LEAST_ODD = 1000,  /* calls over one in which such a session has a revision of that kind that no subscription asks for */
     LEAST_NEAR = 5000, /* calls over an altered table that is well formed */
     LEAST_OLD = 300,   /* of these, answered by an 0065 */
     LEAST_TWIN = 100   /* sessions that started where the twin had other lanes, and 0065 where its memory had other places */
 };
 
-static const unsigned HELD_AT_MOST[KINDS] = { 2, 8 }, REVISION_AT_MOST[KINDS] = { 2, 6 }, KEPT_AT_MOST = 64;
+static const unsigned HELD_AT_MOST[KINDS] = { 2, 8, 4 }, REVISION_AT_MOST[KINDS] = { 2, 6, 1 }, KEPT_AT_MOST = 64;
 
 /* ---- where a table's control stands, and which tables are well formed */
 
@@ -56,10 +56,11 @@ static bool kept_over_its_bound(const uint8_t *table);
 
 #ifdef PREFIX
 
-enum { USED = 12288, MARK_SIZE = 8, FIRST_SESSION = 8192, SESSION_SIZE = 1024, RUN_COUNT = 8, CONTROL_SIZE = 12, SHARED_SIZE = 81 };
+enum { USED = 12800, MARK_SIZE = 8, FIRST_SESSION = 8192, SESSION_SIZE = 1152, RUN_COUNT = 8, CONTROL_SIZE = 16, SHARED_SIZE = 81 };
 enum { LAST = 8, KEPT_COUNT = 12, MEMORY = 1024, PLACE = 106 };
-static const unsigned CONTROL[CONTROL_SIZE] = { 0, 1, RUN_COUNT, RUN_COUNT + 1, 56, 57, 58, 64, 128, 129, 130, 136 };
-static const unsigned SUBSCRIBED[KINDS] = { 56, 128 }, COUNT[KINDS] = { 58, 130 }, REVISION[KINDS] = { 64, 136 };
+static const unsigned CONTROL[CONTROL_SIZE] =
+    { 0, 1, RUN_COUNT, RUN_COUNT + 1, 56, 57, 58, 64, 128, 129, 130, 136, 1024, 1025, 1026, 1032 };
+static const unsigned SUBSCRIBED[KINDS] = { 56, 128, 1024 }, COUNT[KINDS] = { 58, 130, 1026 }, REVISION[KINDS] = { 64, 136, 1032 };
 
 /* A lane begins with form, clock and count. Of a session that is not started they are to be so too, though they have no meaning.
    Whatever its revision is, it is well formed. */
@@ -119,11 +120,13 @@ static void alter_lanes(uint8_t *session, unsigned (*any_below)(unsigned))
 
 #else
 
-enum { USED = 13528, MARK_SIZE = 8, FIRST_SESSION = 66, SESSION_SIZE = 1797, RUN_COUNT = 2, CONTROL_SIZE = 14, SHARED_SIZE = 66 };
-enum { LAST = 37, KEPT_COUNT = 7254, OLDEST = 7255, MEMORY = 7256, PLACE = 98 };
-enum { TEXT = 25, RESULT = 211 };
-static const unsigned CONTROL[CONTROL_SIZE] = { 0, 1, RUN_COUNT, RUN_COUNT + 1, 49, 50, 51, 52, 53, 54, 55, 56, 57, 58 };
-static const unsigned SUBSCRIBED[KINDS] = { 49, 54 }, COUNT[KINDS] = { 52, 57 }, REVISION[KINDS] = { 51, 56 };
+enum { USED = 14076, MARK_SIZE = 8, FIRST_SESSION = 66, SESSION_SIZE = 1934, RUN_COUNT = 2, CONTROL_SIZE = 19, SHARED_SIZE = 66 };
+enum { LAST = 37, KEPT_COUNT = 7802, OLDEST = 7803, MEMORY = 7804, PLACE = 98 };
+enum { TEXT = 25 };
+static const unsigned CONTROL[CONTROL_SIZE] =
+    { 0, 1, RUN_COUNT, RUN_COUNT + 1, 49, 50, 51, 52, 53, 54, 55, 56, 57, 58, 59, 60, 61, 62, 63 };
+static const unsigned SUBSCRIBED[KINDS] = { 49, 54, 59 }, COUNT[KINDS] = { 52, 57, 62 }, REVISION[KINDS] = { 51, 56, 61 };
+static const unsigned NOTICES[KINDS] = { 64, 114, 1802 }, NOTICE[KINDS] = { TEXT, 211, 33 }; /* where they begin, and the bytes of one */
 
 static bool is_text(const uint8_t *bytes, size_t count)
 {
@@ -152,9 +155,10 @@ static bool session_formed(const uint8_t *session)
     if (session[0] == 0 && (session[1] > 0 || run > 0))
         return false;
     for (unsigned kind = 0; kind < KINDS; kind++)
-        if (!subscription_formed(session + SUBSCRIBED[kind], kind, session[0] == 2))
+        if (!subscription_formed(session + SUBSCRIBED[kind], kind, session[0] == 2)
+            || !is_text(session + NOTICES[kind], NOTICE[kind] * session[COUNT[kind]]))
             return false;
-    return is_text(session + 59, TEXT * session[COUNT[0]]) && is_text(session + 109, RESULT * session[COUNT[1]]);
+    return true;
 }
 
 /* Until all places are used the oldest stands in the first. */
@@ -185,22 +189,21 @@ static bool table_formed(const uint8_t *table)
     return shared_formed(table);
 }
 
-static bool count_over_its_bound(const uint8_t *table)
+static bool count_over_its_bound(const uint8_t *table, unsigned kind)
 {
     for (unsigned s = 0; s < SESSIONS; s++) {
         const uint8_t *session = table + FIRST_SESSION + s * SESSION_SIZE;
-        for (unsigned kind = 0; kind < KINDS; kind++)
-            if (session[0] == 2 && session[SUBSCRIBED[kind]] != 0 && session[COUNT[kind]] > HELD_AT_MOST[kind])
-                return true;
+        if (session[0] == 2 && session[SUBSCRIBED[kind]] != 0 && session[COUNT[kind]] > HELD_AT_MOST[kind])
+            return true;
     }
     return false;
 }
 
-static bool revision_odd(const uint8_t *table)
+static bool revision_odd(const uint8_t *table, unsigned kind)
 {
     for (unsigned s = 0; s < SESSIONS; s++) {
-        const uint8_t *session = table + FIRST_SESSION + s * SESSION_SIZE, revision = session[REVISION[1]];
-        if (session[0] == 2 && session[SUBSCRIBED[1]] != 0 && (revision < 1 || revision > REVISION_AT_MOST[1]))
+        const uint8_t *session = table + FIRST_SESSION + s * SESSION_SIZE, revision = session[REVISION[kind]];
+        if (session[0] == 2 && session[SUBSCRIBED[kind]] != 0 && (revision < 1 || revision > REVISION_AT_MOST[kind]))
             return true;
     }
     return false;
@@ -211,7 +214,7 @@ static bool revision_odd(const uint8_t *table)
 static uint8_t *table, *output, *answer, *given; /* what is lent */
 static uint8_t before[TABLE], output_before[OUTPUT], kept[TABLE];
 static uint64_t dice;
-static unsigned long numbers[11], aside_count, over_count, kept_over_count, odd_count, near_count, old_count;
+static unsigned long numbers[11], aside_count, over_count[KINDS], kept_over_count, odd_count[KINDS], near_count, old_count;
 
 static unsigned roll(unsigned below)
 {
@@ -318,8 +321,8 @@ static struct asked a_message(uint64_t session)
 {
     static const char *const MESSAGES[] = {
         "00200001001         ", "00200051002         ", "002000600010        ", "002000600060        ",
-        "00200062            ", "00200053            ", "00209999            ",
-        "00300050            ABCDEFGHIJ", "00200003            ", "00200063            ", "0020",
+        "00200062            ", "00200053            ", "00209999            ", "002000700010        ", "00200072            ",
+        "00300050            ABCDEFGHIJ", "00200003            ", "00200063            ", "00200073            ", "0020",
     };
     bool starts = table[FIRST_SESSION + session * SESSION_SIZE] == 1 && roll(4) > 0;
     const char *text = MESSAGES[starts ? 0 : roll(sizeof MESSAGES / sizeof *MESSAGES)];
@@ -342,10 +345,17 @@ static struct asked a_scan(void)
     return (struct asked){ RECORD, 0, record, sizeof record };
 }
 
+static struct asked an_alarm(void)
+{
+    static uint8_t record[29] = { 25, 0, 5, 0, 'E', '4', '0', '4', 1, 0 };
+    memcpy(record + 10, "2024-01-02:03:04:05", 19);
+    return (struct asked){ RECORD, 0, record, sizeof record };
+}
+
 static struct asked any_call(void)
 {
     uint64_t session = roll(4);
-    switch (roll(10)) {
+    switch (roll(12)) {
     case 0:
         return (struct asked){ OPEN, session, NULL, 0 };
     case 1:
@@ -355,9 +365,12 @@ static struct asked any_call(void)
     case 3:
         return a_scan();
     case 4:
-        return a_fetch();
+        return an_alarm();
     case 5:
     case 6:
+        return a_fetch();
+    case 7:
+    case 8:
         return (struct asked){ TICK, 0, NULL, 0 };
     default:
         return a_message(session);
@@ -376,11 +389,11 @@ static void spoil_run(uint8_t *session)
         session[RUN_COUNT + 2 + roll(45)] = 0;
 }
 
-/* A revision of results at an edge. */
+/* A revision of a kind at an edge, mostly one of results, which have the most. */
 static void spoil_revision(uint8_t *session)
 {
     static const uint8_t REVISIONS[] = { 0, 1, 2, 3, 4, 5, 6, 7, 8, 255 };
-    session[REVISION[1]] = REVISIONS[roll(sizeof REVISIONS)];
+    session[REVISION[roll(2) ? 1 : roll(KINDS)]] = REVISIONS[roll(sizeof REVISIONS)];
 }
 
 /* A count of the memory at an edge, or what stands behind it (the independent one's place of the oldest), or a last number that
@@ -398,7 +411,8 @@ static void spoil_memory(void)
 /* Another value for a byte: near its own, at an edge of what controls and texts hold, or any. */
 static uint8_t another(uint8_t byte)
 {
-    static const uint8_t EDGES[] = { 0, 1, 2, 3, 6, 7, 8, 9, 14, 15, 16, 17, 31, 32, 39, 40, 63, 64, 65, 99, 100, 119, 120, 126, 127, 255 };
+    static const uint8_t EDGES[] = { 0, 1, 2, 3, 4, 5, 6, 7, 8, 9, 14, 15, 16, 17, 31, 32, 39, 40, 63, 64, 65, 99, 100, 119, 120, 126, 127,
+                                     255 };
     switch (roll(4)) {
     case 0:
         return (uint8_t)roll(256);
@@ -501,9 +515,11 @@ static void aside(const struct asked *asked)
     begin_twin();
     for (unsigned i = 0; i < CALLS_ASIDE; i++) {
         struct asked call = i == 0 && asked->what != START ? *asked : any_call();
-        over_count += count_over_its_bound(table);
+        for (unsigned kind = 0; kind < KINDS; kind++) {
+            over_count[kind] += count_over_its_bound(table, kind);
+            odd_count[kind] += revision_odd(table, kind);
+        }
         kept_over_count += kept_over_its_bound(table);
-        odd_count += revision_odd(table);
         near_count += table_formed(table);
         aside_count += 1;
         checked_call(&call);
@@ -525,6 +541,18 @@ static void serve_history(const uint8_t *data, size_t size, uint32_t seed)
     }
 }
 
+static bool kinds_enough(void)
+{
+    static const char *const NAMES[KINDS] = { "identifiers", "results", "alarms" };
+    bool enough = true;
+    for (unsigned kind = 0; kind < KINDS; kind++) {
+        printf("garbage: of %s, in a started, subscribed session: %lu calls over a count above its bound,\n"
+               "%lu over a revision that nobody asks for\n", NAMES[kind], over_count[kind], odd_count[kind]);
+        enough = enough && over_count[kind] >= LEAST_OVER && odd_count[kind] >= LEAST_ODD;
+    }
+    return enough;
+}
+
 int main(void)
 {
     table = fenced(TABLE);
@@ -532,10 +560,9 @@ int main(void)
     answer = fenced(ANSWER);
     given = fenced(2 * PAYLOAD_GREATEST);
     serve_input(serve_history);
-    printf("garbage: %lu calls over altered tables: %lu of them well formed, %lu with a count over its bound in a\n"
-           "started, subscribed session, %lu with one in the memory, %lu with a revision of results other than 1 to 6,\n"
+    printf("garbage: %lu calls over altered tables: %lu of them well formed, %lu with a count over its bound in the memory,\n"
            "%lu answered by an 0065; in all %lu done, %lu answered 2, %lu answered 5 or 6, no crash\n",
-           aside_count, near_count, over_count, kept_over_count, odd_count, old_count, numbers[0], numbers[2], numbers[5] + numbers[6]);
-    return !twins_enough() || over_count < LEAST_OVER || kept_over_count < LEAST_OVER || odd_count < LEAST_ODD
-        || near_count < LEAST_NEAR || old_count < LEAST_OLD;
+           aside_count, near_count, kept_over_count, old_count, numbers[0], numbers[2], numbers[5] + numbers[6]);
+    bool enough = kinds_enough();
+    return !twins_enough() || !enough || kept_over_count < LEAST_OVER || near_count < LEAST_NEAR || old_count < LEAST_OLD;
 }

@@ -6,7 +6,8 @@
 
 A document, be it the README, tests/README or one of docs/*.md, has a count in front of its name, 36<!-- gate-edits -->, and a table between
 the lines <!-- begin NAME --> and <!-- end NAME -->. The name of a count is one of counts() below, a number of document 01 as the model's
-definitions name it (840<!-- longest-wait -->), or a file whose lines are counted (56<!-- crates/frame/proofs/Answers.antt -->).
+definitions name it (120<!-- given-up-at -->, 840<!-- longest-wait tightenings-held -->), or a file whose lines are counted
+(56<!-- crates/frame/proofs/Answers.antt -->).
 
 Besides it is told which table is derived and stands nowhere, and what is left out: a crate or a document by README, a file of the tests by
 tests/README, a public function by PROVED.
@@ -32,7 +33,7 @@ from check import read  # noqa: E402
 from edits import item  # noqa: E402
 from compare import FULLEST  # noqa: E402
 
-COUNT = re.compile(r"(\d[\d,]*)<!-- ([\w./-]+) -->")
+COUNT = re.compile(r"(\d[\d,]*)<!-- ([\w./ -]+) -->")
 TABLE = re.compile(r"(?<=<!-- begin )([a-z-]+)( -->\n)(.*?)(?=<!-- end \1 -->\n)", re.S)
 
 
@@ -77,7 +78,8 @@ def fields(path, begin, pattern):
 def limits():
     """The numbers of document 01 by the names of the definitions: those that are given, and those that are reckoned from them."""
     given = re.findall(r"^([a-z-]+) = ([\d_]+)$", read("crates/model/specs/Limits.antt"), re.M)
-    reckoned = re.search(r"^pub the-reckoned : (.*) ∷ \[\] ≡ (.*) ∷ \[\]$", read("crates/model/proofs/Clauses.antt"), re.M)
+    clauses = read("crates/model/proofs/Clauses.antt").replace("\n    ", " ")
+    reckoned = re.search(r"^pub the-reckoned : (.*?) ∷ \[\] ≡ (.*?) ∷ \[\]$", clauses, re.M)
     return {name: int(number) for name, number in [*given, *zip(*(side.split(" ∷ ") for side in reckoned.groups()))]}
 
 

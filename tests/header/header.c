@@ -5,7 +5,7 @@
 #include <stdio.h>
 #include <string.h>
 
-enum { MARK = 0xA5, TIGHTENING_PAYLOAD = 106, IDENTIFIER_PAYLOAD = 25, SETTINGS_PAYLOAD = 33 };
+enum { MARK = 0xA5, TIGHTENING_PAYLOAD = 106, IDENTIFIER_PAYLOAD = 25, SETTINGS_PAYLOAD = 33, ALARM_PAYLOAD = 25 };
 
 /* Each one byte longer than it has to be; that byte must stay. */
 static uint8_t table[SERIFLADDER_TABLE_SIZE + 1], output[SERIFLADDER_OUTPUT_SIZE + 1], answer[SERIFLADDER_ANSWER_SIZE + 1];
@@ -93,6 +93,16 @@ static uint64_t tighten(size_t length)
     return serifladder_record(TABLE, OUTPUT, record, length, ANSWER);
 }
 
+static uint64_t alarmed(unsigned record_kind)
+{
+    uint8_t record[SERIFLADDER_RECORD_HEADER + ALARM_PAYLOAD];
+    write_header(record, ALARM_PAYLOAD, record_kind);
+    memcpy(record + 4, "E404", 4);
+    record[8] = 1;
+    memcpy(record + 10, "2008-06-02:10:14:26", 19);
+    return serifladder_record(TABLE, OUTPUT, record, sizeof record, ANSWER);
+}
+
 /* A byte less than the header's size is refused with the number that is named there. */
 static void sizes(void)
 {
@@ -135,6 +145,27 @@ static void revisions(void)
     expect_answer("a tightening", tighten(SERIFLADDER_RECORD_HEADER + TIGHTENING_PAYLOAD), SERIFLADDER_DONE, 0,
                   SERIFLADDER_RECORD_HEADER + frame, 1);
     expect_record("0061 in revision 6", SERIFLADDER_FRAME, frame);
+}
+
+/* Four alarms are taken and one is sent, a fifth is not taken; an acknowledge sends the next. */
+static void alarms(void)
+{
+    static const char STARTED[] = "00200001001         ", ALARMS[] = "00200070001         ", ACKNOWLEDGE[] = "00200072001         ";
+    const uint64_t frame = 53 + 1; /* with its NUL */
+    expect("the start", start(0, UINT32_MAX), SERIFLADDER_DONE);
+    expect("an open", serifladder_open(TABLE, OUTPUT, 1, ANSWER), SERIFLADDER_DONE);
+    expect("0001", bytes(1, STARTED, sizeof STARTED), SERIFLADDER_DONE);
+    expect_answer("an alarm to nobody", alarmed(SERIFLADDER_ALARM), SERIFLADDER_DONE, 0, 0, 0);
+    expect_answer("0070", bytes(1, ALARMS, sizeof ALARMS), SERIFLADDER_DONE, sizeof ALARMS, SERIFLADDER_RECORD_HEADER + 25, 0);
+    expect_answer("an alarm", alarmed(SERIFLADDER_ALARM), SERIFLADDER_DONE, 0, SERIFLADDER_RECORD_HEADER + frame, 2);
+    expect_record("0071", SERIFLADDER_FRAME + 1, frame);
+    expect("its bytes", memcmp(output + SERIFLADDER_RECORD_HEADER, "005300710010        01E404021030042008-06-02:10:14:26", frame), 0);
+    for (unsigned more = 2; more <= 4; more++)
+        expect_answer("an alarm that waits", alarmed(SERIFLADDER_ALARM), SERIFLADDER_DONE, 0, 0, 2);
+    expect_answer("a fifth", alarmed(SERIFLADDER_ALARM), SERIFLADDER_DONE, 0, 0, 0);
+    expect_answer("an alarm as an identifier", alarmed(SERIFLADDER_IDENTIFIER), SERIFLADDER_TOOL_RECORD_BAD, 0, 0, 0);
+    expect_answer("0072", bytes(1, ACKNOWLEDGE, sizeof ACKNOWLEDGE), SERIFLADDER_DONE, sizeof ACKNOWLEDGE,
+                  SERIFLADDER_RECORD_HEADER + frame, 0);
 }
 
 /* The calls in a short history, on the highest session. */
@@ -182,6 +213,7 @@ int main(void)
     sizes();
     history();
     revisions();
+    alarms();
     expect("behind the table", table[SERIFLADDER_TABLE_SIZE], MARK);
     expect("behind the output", output[SERIFLADDER_OUTPUT_SIZE], MARK);
 #ifdef __cplusplus

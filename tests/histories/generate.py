@@ -19,21 +19,24 @@ import sys
 
 sys.path.insert(0, os.path.join(os.path.dirname(os.path.abspath(__file__)), "..", "..", "tools"))
 
-from house_records import (BYTES, GREATEST_NUMBER, HANG_UP, NUMBER, OPEN, PAYLOAD_LONGEST, PAYLOADS, SCANNED, SETTINGS,  # noqa: E402
-                           TEXT, TICK, TIGHTENING, record)
+from house_records import (ALARM, BYTES, CODE_SIZE, GREATEST_NUMBER, HANG_UP, NUMBER, OPEN, PAYLOAD_LONGEST, PAYLOADS,  # noqa: E402
+                           SCANNED, SETTINGS, TEXT, TICK, TIGHTENING, record)
 from openprotocol import message  # noqa: E402
 
 LONG_EVERY = 25  # of as many seeds one gives a history three times as long, in which a whole queue is given up
 
-KNOWN = (1, 3, 50, 51, 53, 54, 60, 62, 63, 64, 9999)
-OTHERS = (0, 2, 4, 5, 6, 10, 49, 52, 55, 59, 61, 65, 66, 70, 71, 72, 73, 100, 999, 1001,
+KNOWN = (1, 3, 50, 51, 53, 54, 60, 62, 63, 64, 70, 72, 73, 9999)
+OTHERS = (0, 2, 4, 5, 6, 10, 49, 52, 55, 59, 61, 65, 66, 69, 71, 71, 74, 75, 75, 76, 77, 77, 78, 79, 100, 999, 1001,
           1234, 5000, 5001, 5100, 6000, 9990, 9998)
+SUBSCRIBES, ACKNOWLEDGES = (51, 60, 70), (53, 62, 72)  # to identifiers, results and alarms
+UNSUBSCRIBES = {51: 54, 60: 63, 70: 73}
 REVISIONS = (b"001", b"000", b"   ", b"002", b"003", b"006", b"007", b"010", b"011", b"100", b"101",
              b"200", b"257", b"999")
 GOOD_REVISIONS = (b"001", b"001", b"000", b"   ")
 RESULT_REVISIONS = (b"001", b"002", b"003", b"004", b"005", b"006")  # that 0060 may ask for
 TOO_HIGH = {51: (b"003", b"003", b"004", b"257", b"258", b"999"),
-            60: (b"007", b"007", b"007", b"008", b"009", b"010", b"257", b"258", b"262", b"998", b"999")}
+            60: (b"007", b"007", b"007", b"008", b"009", b"010", b"257", b"258", b"262", b"998", b"999"),
+            70: (b"002", b"002", b"002", b"003", b"006", b"257", b"999")}
 BAD_REVISIONS = (b"0  ", b"  1", b"00 ", b" 01", b"1  ", b"0 1", b"00a", b"/00", b"00:", b"-01",
                  b"\xb0\xb01", b"  \x1f")
 NO_DIGITS = (0x20, 0x2F, 0x3A, 0x3B, 0x3C, 0x3D, 0x3E, 0x3F, 0x2B, 0x2D, 0x41, 0xB0, 0x1F)
@@ -118,7 +121,7 @@ class History:
             last = self.pick((0, 0, 7, 99, 65535, 345674, 9999999, GREATEST_NUMBER - 200,
                               self.between(0, GREATEST_NUMBER)))
         if granted is None:
-            granted = 0 if self.chance(0.15) else 1
+            granted = 0 if self.chance(0.2) else 1
         cell = self.pick((0, 1, 12, 999, 1000, 9998, 9999))
         channel = self.pick((0, 1, 9, 10, 98, 99))
         return {"cell": cell, "channel": channel, "granted": granted, "name": self.text(), "last": last}
@@ -156,18 +159,31 @@ class History:
             return self.pick((0, 1, 9, 10, greatest // 10, greatest - 1, greatest))
         return self.between(0, greatest)
 
+    def code(self):
+        """Of an alarm: mostly another than those before it."""
+        self.serial += 1
+        if self.chance(0.15):
+            return bytes(self.pick((0x20, 0x7E, self.between(0x20, 0x7E))) for _ in range(CODE_SIZE))
+        return b"E%03d" % (self.serial % 1000)
+
     def value(self, item):
+        if item.sort == TEXT and item.size == CODE_SIZE:
+            return self.code()
         if item.sort == TEXT:
             return b"" if self.chance(0.5) else self.text()
         if item.sort == NUMBER:
             return self.number(item.greatest) if item.greatest > 9 else self.between(0, item.greatest)
         return self.time()
 
-    def tightening_fields(self):
-        return {name: self.value(item) for name, item in PAYLOADS[TIGHTENING].items.items()}
+    def fields(self, record_kind):
+        """Of a tool record."""
+        return {name: self.value(item) for name, item in PAYLOADS[record_kind].items.items()}
 
     def tightening_payload(self):
-        return PAYLOADS[TIGHTENING].pack(self.tightening_fields())
+        return PAYLOADS[TIGHTENING].pack(self.fields(TIGHTENING))
+
+    def alarm_payload(self):
+        return PAYLOADS[ALARM].pack(self.fields(ALARM))
 
     def tightening(self):
         self.put(TIGHTENING, self.tightening_payload())
@@ -178,10 +194,16 @@ class History:
     def scan(self):
         self.put(SCANNED, self.text())
 
+    def alarm(self):
+        self.put(ALARM, self.alarm_payload())
+
     def event(self):
-        if self.chance(0.65):
+        sort = self.random.random()
+        if sort < 0.58:
             self.tightening()
-        elif self.chance(0.6):
+        elif sort < 0.71:
+            self.alarm()
+        elif sort < 0.87:
             self.scan()
         else:
             self.download(self.a_session())
@@ -250,7 +272,7 @@ class History:
         """One that a subscription may ask for: of results all six, and revision 1 in each way of writing it."""
         if mid == 60 and self.chance(0.75):
             return self.pick(RESULT_REVISIONS)
-        return self.pick(GOOD_REVISIONS if mid == 60 else GOOD_REVISIONS + (b"002", b"002"))
+        return self.pick(GOOD_REVISIONS + (b"002", b"002") if mid == 51 else GOOD_REVISIONS)
 
     def subscribe(self, s, mid, free=None):
         if free is None:
@@ -262,8 +284,12 @@ class History:
             self.send(s, message(mid, self.pick(TOO_HIGH[mid]), twelve, self.rest()))
         self.send(s, message(mid, self.good_revision(mid), twelve, self.rest()))
 
+    def unsubscribe(self, s, mid):
+        """What that message subscribed to."""
+        self.send(s, message(UNSUBSCRIBES[mid], self.pick(REVISIONS), self.twelve()))
+
     def acknowledge(self, s, mid=None):
-        mid = mid or self.pick((62, 62, 53))
+        mid = mid or self.pick(ACKNOWLEDGES + (62,))
         self.send(s, message(mid, self.pick(REVISIONS), self.twelve(), self.rest()))
 
     def download(self, s):
@@ -271,7 +297,7 @@ class History:
         data = (b"D%d-" % self.serial + self.text().replace(b" ", b"."))[:size]
         if self.chance(0.05):
             data = b" " * size
-        if self.chance(0.12):
+        if self.chance(0.16):
             data = self.odd_byte(data)
         self.send(s, message(50, self.pick(GOOD_REVISIONS), self.twelve(), self.rest(), data))
 
@@ -312,11 +338,11 @@ class History:
         elif sort < 0.7:
             self.send(s, message(self.other_number(), self.any_revision(), self.twelve()))
         elif sort < 0.8:
-            self.subscribe(s, self.pick((51, 60)))
+            self.subscribe(s, self.pick(SUBSCRIBES))
         elif sort < 0.9:
             self.send(s, message(1, self.pick(REVISIONS), data=b"x" * self.between(0, 2)))
         else:
-            self.send(s, message(self.pick((53, 62)), data=b"x" * self.between(1, 3)))
+            self.send(s, message(self.pick(ACKNOWLEDGES), data=b"x" * self.between(1, 3)))
 
     def any_message(self, s):
         """A message with every part near an edge."""
@@ -379,9 +405,10 @@ class History:
     # ---- bad records
 
     def bad_value(self, item, value):
-        """A number out of its range, mostly by one, or a wrong byte in a text or a time."""
+        """A number out of its range, mostly by one, or as a digit, or a wrong byte in a text or a time."""
         if item.sort == NUMBER:
-            return self.pick((item.greatest + 1, item.greatest + 1, (1 << 8 * item.size) - 1))
+            return self.pick((item.greatest + 1, item.greatest + 1, (1 << 8 * item.size) - 1,
+                              ord("0") + value if item.greatest < 10 else item.greatest + 1))
         text = bytearray(item.packed(value))
         where = self.between(0, item.size - 1)
         if item.sort == TEXT:
@@ -392,7 +419,7 @@ class History:
 
     def bad_payload(self, record_kind):
         """With one of the fields bad, or of another size where that is the last number of the settings, which can't be bad."""
-        fields = self.settings_fields() if record_kind == SETTINGS else self.tightening_fields()
+        fields = self.settings_fields() if record_kind == SETTINGS else self.fields(record_kind)
         name = self.pick(list(fields))
         if name == "last":
             return self.wrong_size(PAYLOADS[record_kind].pack(fields))
@@ -405,7 +432,7 @@ class History:
         return bytes(payload[:-1]) if self.chance(0.5) else bytes(payload) + b" "
 
     def bad_record(self):
-        sort = self.between(0, 9)
+        sort = self.between(0, 11)
         if sort <= 3:
             self.put(TIGHTENING, self.bad_payload(TIGHTENING))
         elif sort == 4:
@@ -414,21 +441,23 @@ class History:
             self.put(SCANNED, self.bad_value(PAYLOADS[SCANNED].items["identifier"], self.text()))
         elif sort == 6:
             payload = self.tightening_payload()
-            self.put(self.pick((TIGHTENING, SCANNED, SETTINGS)),
-                     self.wrong_size(self.pick((payload, self.text(), self.settings()))))
+            self.put(self.pick((TIGHTENING, SCANNED, SETTINGS, ALARM)),
+                     self.wrong_size(self.pick((payload, self.text(), self.settings(), self.alarm_payload()))))
         elif sort == 7:  # a kind that no call takes, with a good payload of another
-            record_kind = self.pick((0, 4, 5, 15, 65, 80, 255, 256, 257, 512, 769, 65535, 258, 259))
-            self.put(record_kind, self.pick((b"", self.text(), self.settings(), self.tightening_payload())))
-        elif sort == 8:  # a good payload under another kind's number
-            self.put(TIGHTENING, self.text())
-            self.put(SCANNED, self.tightening_payload())
+            record_kind = self.pick((0, 4, 6, 15, 65, 80, 255, 256, 257, 512, 769, 65535, 258, 259, 261))
+            self.put(record_kind, self.pick((b"", self.text(), self.settings(), self.tightening_payload(), self.alarm_payload())))
+        elif sort == 8:  # a good payload under another kind's number; those of identifiers and alarms are equally long
+            self.put(self.pick((TIGHTENING, ALARM)), self.text())
+            self.put(SCANNED, self.pick((self.tightening_payload(), self.alarm_payload())))
+        elif sort <= 10:
+            self.put(ALARM, self.bad_payload(ALARM))
         else:  # sessions that there are not
             s = self.between(4, 15)
             self.put(self.pick((OPEN, HANG_UP, BYTES)) + s, self.pick((b"", b"00200001")))
 
     # ---- stretches
 
-    def bring_up(self, s, free=None, kinds=(51, 60)):
+    def bring_up(self, s, free=None, kinds=SUBSCRIBES):
         """Opens, starts and subscribes as far as the session is believed not to be."""
         session = self.sessions[s]
         if not session.up:
@@ -508,9 +537,9 @@ class History:
             if self.chance(0.2):
                 self.scan()
         self.watch(self.pick((0, 1, 5, 21)))
-        for _ in range(self.between(0, 12)):
+        for _ in range(self.between(0, 18)):
             self.acknowledge(self.pick(chosen), 62)
-            if self.chance(0.15):
+            if self.chance(0.1):
                 self.event()
             if self.chance(0.1):
                 self.tick()
@@ -531,6 +560,35 @@ class History:
                 self.tightening()
             else:
                 self.tick()
+
+    def alarms(self):
+        """Alarms past four, some drained, some refused; then the subscription ends in one way or another, and is taken up again."""
+        self.manner = self.pick(("whole", "whole", "cut"))
+        chosen = self.bring_up_some(False if self.chance(0.8) else None)
+        for _ in range(self.between(2, 7)):
+            self.alarm()
+            if self.chance(0.2):
+                self.event()
+        self.watch(self.pick((0, 1, 5, 20, 21)))
+        for _ in range(self.between(0, 12)):
+            self.acknowledge(self.pick(chosen), 72 if self.chance(0.9) else None)
+            if self.chance(0.2):
+                self.alarm()
+            if self.chance(0.1):
+                self.put(ALARM, self.bad_payload(ALARM))
+        s = self.pick(chosen)
+        self.flush(s)
+        if self.chance(0.4):
+            self.unsubscribe(s, 70)
+            if self.chance(0.3):
+                self.alarm()
+            self.subscribe(s, 70)
+        elif self.chance(0.6):
+            self.pick((self.hang_up, self.stop))(s)
+            self.bring_up(s)
+        if self.chance(0.5):
+            self.alarm()
+        self.watch(self.pick((0, 3, 15, 21)))
 
     def chatter(self):
         """All sorts of messages, many of them refused or dropped."""
@@ -561,7 +619,7 @@ class History:
             self.bring_up(s)
         elif not self.sessions[s].up:
             self.open(s)
-        mid = self.pick((1, 3, 50, 50, 51, 53, 54, 60, 62, 63, 64, 64, 9999))
+        mid = self.pick(KNOWN + (50, 64))
         for _ in range(self.between(3, 9)):
             size = self.pick((0, 0, 1, 2, 24, 25, 26, 26))
             data = self.data(size) if mid != 64 or self.chance(0.2) else (self.asked_digits() * 2)[:self.pick((9, 10, 10, 11))]
@@ -623,15 +681,14 @@ class History:
         for _ in range(self.between(1, 4)):
             self.event()
         self.watch(self.pick((0, 0, 3, 12)))
-        for on, off in ((51, 54), (60, 63)):
+        for mid in SUBSCRIBES:
             if self.chance(0.6):
-                self.send(s, message(off, self.pick(REVISIONS), self.twelve()))
-                if self.chance(0.3):
-                    self.send(s, message(off, self.pick(REVISIONS)))
+                for _ in range(2 if self.chance(0.3) else 1):
+                    self.unsubscribe(s, mid)
                 if self.chance(0.3):
                     self.event()
                 if self.chance(0.85):
-                    self.subscribe(s, on)
+                    self.subscribe(s, mid)
         self.event()
         self.watch(self.pick((0, 4, 18, 21)))
         self.event()
@@ -702,7 +759,7 @@ class History:
         self.hang_up(s)
         self.bring_up(s, False)
         for _ in range(self.between(1, 3)):
-            self.pick((self.tightening, self.scan))()
+            self.pick((self.tightening, self.scan, self.alarm))()
         due = self.pick((20, 20, 20, 40, 60, 120))
         for _ in range(due - 15):
             if self.sessions[s].silent >= 10:
@@ -718,13 +775,13 @@ class History:
         self.event()
 
     def all_anew(self, revisions):
-        """All four links made anew, subscribed to identifiers in revision 2 and to tightenings in these, with acknowledges."""
+        """All four links made anew, subscribed to identifiers in revision 2, to tightenings in these, and to alarms, with acknowledges."""
         self.manner = "whole"
         for s, revision in enumerate(revisions):
             self.hang_up(s)
             self.open(s)
             self.begin(s)
-            self.send(s, message(51, b"002") + message(60, revision))
+            self.send(s, message(51, b"002") + message(60, revision) + message(70))
 
     def some_revisions(self):
         """For each of the four sessions one; mostly no two are alike."""
@@ -733,14 +790,15 @@ class History:
         return self.random.sample(RESULT_REVISIONS, 4)
 
     def fullest(self):
-        """As much output as a call can have: a 0050 and a tightening that go to all, and two copies to each."""
+        """As much output as a call can have: a 0050, a tightening and an alarm that go to all, and three copies to each."""
         self.all_anew(4 * [b"006"])
         self.send(self.between(0, 3), message(50, data=self.text().replace(b" ", b".")))
         self.tightening()
+        self.alarm()
         self.watch(self.pick((19, 20, 20, 21, 41)))
         if self.chance(0.3):
             for s in range(4):
-                self.acknowledge(s, self.pick((53, 62)))
+                self.acknowledge(s)
 
     def revisions(self):
         """Results in several revisions at once: sent, sent again, and sent when they have waited; one subscription changes on the way."""
@@ -763,22 +821,24 @@ class History:
 
     def change_revision(self, s):
         """Results unsubscribed and subscribed to anew, mostly in another revision; between the two one may come."""
-        self.send(s, message(63, self.pick(REVISIONS), self.twelve()))
+        self.unsubscribe(s, 60)
         if self.chance(0.3):
             self.tightening()
         self.subscribe(s, 60)
 
     def all_given_up(self):
-        """Eight tightenings and two identifiers, none of them acknowledged: one after the other is given up."""
+        """Eight tightenings, two identifiers and four alarms, none of them acknowledged: one after the other is given up."""
         self.all_anew(self.some_revisions())
         for _ in range(self.between(8, 10)):
             self.tightening()
         for _ in range(self.between(1, 3)):
             self.scan()
+        for _ in range(self.between(4, 5)):
+            self.alarm()
         for tick in range(self.pick((840, 841, 960, 965))):
             if tick % 13 == 0:
                 for s in range(4):
-                    self.send(s, message(62, data=b"x"))
+                    self.send(s, message(self.pick(ACKNOWLEDGES), data=b"x"))
             self.tick()
 
     def unstarted(self):
@@ -797,7 +857,7 @@ class History:
             elif sort < 0.8:
                 self.near_miss(s)
             elif sort < 0.95:
-                self.send(s, message(self.pick((9999, 60, 51, 3, 62, 1234))))
+                self.send(s, message(self.pick((9999, 60, 51, 70, 3, 62, 72, 1234))))
             else:
                 self.event()
         self.flush(s)
@@ -822,10 +882,12 @@ class History:
         """The last number runs up to its end; bad records then too."""
         self.start(last=GREATEST_NUMBER - self.pick((0, 0, 1, 2, 3, 4)))
         self.bring_up_some()
-        for _ in range(self.between(4, 10)):
+        for _ in range(self.between(5, 12)):
             sort = self.random.random()
-            if sort < 0.6:
+            if sort < 0.5:
                 self.tightening()
+            elif sort < 0.58:
+                self.alarm()
             elif sort < 0.75:
                 self.put(TIGHTENING, self.bad_payload(TIGHTENING))
             elif sort < 0.85:
@@ -843,11 +905,13 @@ class History:
         """What is kept is asked for while more comes, the identifier in force changes, and links are lost and made again."""
         self.manner = self.pick(("whole", "whole", "joined", "cut"))
         s = self.between(0, 3)
-        self.bring_up(s, kinds=self.pick(((), (60,), (51, 60))))
+        self.bring_up(s, kinds=self.pick(((), (60,), SUBSCRIBES)))
         for _ in range(self.between(6, 16)):
             sort = self.random.random()
-            if sort < 0.2:
+            if sort < 0.17:
                 self.tightening()
+            elif sort < 0.2:
+                self.alarm()
             elif sort < 0.3:
                 self.scan()
             elif sort < 0.34:
@@ -895,7 +959,7 @@ class History:
                        lambda: self.put(self.pick((OPEN, HANG_UP, BYTES)) + self.between(0, 15))))()
 
     STRETCHES = (
-        (10, "long_watch"), (10, "steady"), (6, "flood"), (6, "identifiers"), (9, "chatter"),
+        (10, "long_watch"), (10, "steady"), (6, "flood"), (6, "identifiers"), (5, "alarms"), (9, "chatter"),
         (6, "ladder"), (4, "bad_records"), (10, "lifecycle"), (7, "resubscribe"), (2.5, "long_run"),
         (7, "idle_edge"), (4, "time_out_in_step"), (4, "unstarted"), (1.5, "second_start"),
         (1.5, "numbers_end"), (2, "fullest"), (6, "old_results"), (3.5, "more_than_kept"), (4, "revisions"),

@@ -4,8 +4,8 @@
     reached.py PROGRAM [--count N] [--first-seed N]
 
 What was sent is read off the records. What a tick gave up, in which revisions results went out,
-and how 0060 and 0064 were answered, is read off the lines of a test program, which is given a
-hang-up of session 15 behind each record: 'R 4' ends its lines."""
+how 0060, 0064 and 0070 to 0073 were answered, and what became of alarms, is read off the lines of a
+test program, which is given a hang-up of session 15 behind each record: 'R 4' ends its lines."""
 
 import argparse
 import collections
@@ -13,13 +13,15 @@ import re
 import subprocess
 
 import generate  # which puts tools on the path
-from house_records import BYTES, GREATEST_NUMBER, HANG_UP, OPEN, PAYLOADS, SCANNED, SETTINGS, TICK, TIGHTENING, fields_of, record, split
+from house_records import (ALARM, BYTES, GREATEST_NUMBER, HANG_UP, OPEN, PAYLOADS, SCANNED, SETTINGS, TICK, TIGHTENING, fields_of, record,
+                           split)
 from openprotocol import LAYOUTS, RESULT
 
 MARKER = record(HANG_UP + 15)
 NO_DIGITS = b"/:;<=>?"
 GIVEN_UP_WHOLE = 7  # of eight held seven are sent when the one before them is given up, within 840 ticks
 KEPT = 64  # tightenings
+ALARMS_HELD, GIVEN_UP_AFTER = 4, 120  # by a session; ticks of one that is open
 
 
 def result_in(line):
@@ -48,7 +50,7 @@ class Reached:
             return
         mid = int(run[4:8])
         self.seen["message numbers, of 10,000"].add(mid)
-        if mid in (51, 60):
+        if mid in (51, 60, 70):
             self.seen["revisions of 00%d, of 1,000" % mid].add(int(run[8:11]))
         if mid == 50:
             self.seen["byte values in 0050's data, of 255"].update(run[20:])
@@ -79,7 +81,7 @@ class Reached:
         newest, in_a_row, whole = {}, collections.Counter(), False
         for record_kind, _, lines in groups:
             for line in lines:
-                found = re.match(r"(\d) S \d{4}(0052|0061)", line)
+                found = re.match(r"(\d) S \d{4}(0052|0061|0071)", line)
                 if not found:
                     continue
                 queue = found.groups()
@@ -88,6 +90,7 @@ class Reached:
                 elif newest.get(queue) != line:
                     in_a_row[queue] += 1
                     self.times["a notice given up and the next sent"] += 1
+                    self.times["an alarm given up and the next sent"] += queue[1] == "0071"
                     self.times["the second in a row given up"] += in_a_row[queue] == 2
                     whole = whole or in_a_row[queue] == GIVEN_UP_WHOLE
                 newest[queue] = line
@@ -256,6 +259,128 @@ class Revisions:
         self.times["results subscribed to anew in another revision, some had waited"] += before not in (0, revision) and waiting
 
 
+class Alarms:
+    """What became of a history's alarms. `times` counts it. How many a session holds is counted along: by records, lines and 0072."""
+
+    def __init__(self, times):
+        self.times = times
+        self.begin(0)
+
+    def begin(self, last):
+        self.last = last
+        self.sent = collections.defaultdict(bytes)
+        self.free = {}  # by session that is subscribed: whether no acknowledge is asked
+        self.held, self.clock = collections.Counter(), collections.Counter()
+
+    def count(self, what, how_often=True):
+        self.times[what] += how_often
+
+    def record(self, record_kind, payload, lines):
+        done = not any(line.startswith("R ") for line in lines)
+        if record_kind == SETTINGS and done:
+            self.begin(fields_of(record_kind, payload)["last"])
+        self.last += record_kind == TIGHTENING and done
+        if record_kind in (ALARM, SCANNED) and "R 7" in lines:
+            self.bad(record_kind, payload)
+        elif record_kind == ALARM and done:
+            self.alarm(lines)
+        elif HANG_UP <= record_kind < BYTES and done:
+            self.ended(record_kind - HANG_UP, "a hang-up")
+        elif record_kind == TICK:
+            self.tick(lines)
+        elif BYTES <= record_kind < BYTES + 4:
+            self.bytes(record_kind - BYTES, payload, lines)
+
+    def bad(self, record_kind, payload):
+        """A bad record of kind 5, or of kind 2 with an alarm's payload."""
+        fields = fields_of(ALARM, payload)
+        if record_kind == SCANNED:
+            self.count("a record of kind 2 with an alarm's bytes gets 7", bool(fields) and fields["tool_ready"] < 2)
+        elif not fields:
+            self.count("an alarm gets 7 for its length")
+        elif payload.isascii() and payload.decode().isprintable() and b":" not in fields["time"]:
+            self.count("a record of kind 5 with 25 bytes of text gets 7")
+        else:
+            ready = (fields["controller_ready"], fields["tool_ready"])
+            self.count("an alarm gets 7 for a ready byte of 2", 2 in ready)
+            self.count("an alarm gets 7 for a ready byte that is a digit", bool({48, 49} & {*ready}))
+            self.count("an alarm gets 7 for its code or time", max(ready) < 2)
+
+    def alarm(self, lines):
+        self.count("an alarm done when the last number is used up", self.last == GREATEST_NUMBER)
+        self.count("0071 of an alarm that has come", sum(" S 00530071" in line for line in lines))
+        for s, free in self.free.items():
+            self.count("an alarm to a session that asked no acknowledge", free)
+            self.count("an alarm to a session that holds four", self.held[s] == ALARMS_HELD)
+            if not free and self.held[s] < ALARMS_HELD:
+                self.held[s] += 1
+
+    def tick(self, lines):
+        of_sessions = [[line[8:12] for line in lines if line.startswith("%d S" % s)] for s in range(4)]
+        self.count("0071 of a tick", sum(mids.count("0071") for mids in of_sessions))
+        self.count("a tick with 0052, 0061 and 0071 for one session", ["0052", "0061", "0071"] in of_sessions)
+        self.count("a tick with 0052, 0061 and 0071 for four sessions", of_sessions == 4 * [["0052", "0061", "0071"]])
+        self.count("a tick with 0071 for one session and a notice for a later one",
+                   any("0071" in mids and any(of_sessions[s + 1:]) for s, mids in enumerate(of_sessions)))
+        for s in range(4):
+            if "%d C" % s in lines:
+                self.ended(s, "a time-out")
+            self.clock[s] += self.held[s] > 0
+            if self.clock[s] == GIVEN_UP_AFTER:
+                self.closed(s)
+
+    def closed(self, s):
+        self.held[s], self.clock[s] = max(self.held[s] - 1, 0), 0
+
+    def ended(self, s, how):
+        self.count("%s with an alarm open" % how, self.held[s] > 0)
+        self.count("%s with alarms waiting" % how, self.held[s] > 1)
+        self.free.pop(s, None)
+        self.held[s] = self.clock[s] = 0
+        if how != "0073":
+            self.sent.pop(s, None)
+
+    def bytes(self, s, payload, lines):
+        """What several messages of one record come to is read off only where each has its reply, or none can have one."""
+        *runs, self.sent[s] = (self.sent[s] + payload).split(b"\0")
+        runs = [run for run in runs if len(run) >= 20 and re.match(rb"\d{8}(\d{3}|   )[01 ]", run) and int(run[:4]) == len(run)]
+        self.count("0071 by an 0072", sum("S 00530071" in line for line in lines))
+        asked = [run for run in runs if run[4:8] in (b"0003", b"0070", b"0072", b"0073")]
+        replies = [line for line in lines if re.match(r"\d S \d{4}000[45].{12}00(03|70|73)", line)]
+        if len(replies) != sum(run[4:8] != b"0072" for run in asked):
+            return
+        for run in asked:
+            if run[4:8] == b"0072":
+                self.acknowledged(s, run)
+            else:
+                self.answered(s, run, replies.pop(0))
+        for line in lines:
+            self.count("0071 from a server gets 99", line.endswith("007199"))
+            self.count("0074 to 0078 from a server get 99", bool(re.search(r"0004.{12}007[4-8]99$", line)))
+
+    def acknowledged(self, s, run):
+        if s not in self.free:
+            self.count("0072 without a subscription")
+        elif len(run) != 20:
+            self.count("0072 of wrong length with an alarm open", self.held[s] > 0)
+        else:
+            self.count("0072 with no alarm open", self.held[s] == 0)
+            self.count("0072 that lets the next alarm out", self.held[s] > 1)
+            self.closed(s)
+
+    def answered(self, s, run, line):
+        mid, refused = run[4:8].decode(), line[8:12] == "0004"
+        if refused and mid != "0003":
+            self.count("%s gets %s" % (mid, line[-2:]))
+            self.count("0070 gets 97 where it is subscribed", line[-6:] == "007097" and s in self.free)
+        elif mid == "0070":
+            self.count("0070 accepted, asking no acknowledge", run[11:12] == b"1")
+            self.free[s] = run[11:12] == b"1"
+        elif not refused:
+            self.count("0073 accepted", mid == "0073")
+            self.ended(s, mid)
+
+
 def groups_of(program, records):
     """Each record with its lines. Records to sessions that there are not are left out: they print what the marker does."""
     records = [(record_kind, payload) for record_kind, payload in records if not (16 <= record_kind < 64 and record_kind % 16 > 3)]
@@ -280,10 +405,10 @@ def main():
         groups = list(groups_of(options.program, records))
         reached.identifiers(groups)
         reached.given_up(groups)
-        memory, revisions = Memory(reached.times), Revisions(reached.times)
+        readers = [reader(reached.times) for reader in (Memory, Revisions, Alarms)]
         for group in groups:
-            memory.record(*group)
-            revisions.record(*group)
+            for reader in readers:
+                reader.record(*group)
     for what, values in sorted(reached.seen.items()):
         print("%-64s %d" % (what, len(values)))
     for what, times in sorted(reached.times.items()):

@@ -6,7 +6,8 @@ import subprocess
 import time
 
 import harness
-from harness import ROOT, SECONDS, InTime, check, equal, in_memory, openprotocol, tell_and_acknowledge, test, tightening_fields
+from harness import (ROOT, SECONDS, InTime, alarm_fields, check, equal, in_memory, openprotocol, tell_and_acknowledge, test,
+                     tightening_fields)
 from journal import Play
 
 TIME = r"\d\d-\d\d \d\d:\d\d:\d\d"
@@ -74,26 +75,31 @@ def time_of_day_is_drawn(place):
 
 @test
 def what_a_table_holds_is_drawn(place):
-    """A result that stands open and a run that was begun in parts that are gone: its copies are counted on, and the run's bytes too. What
-    the table has of the subscriptions of a server that was stopped counts for nothing."""
+    """A result and an alarm that stand open and a run that was begun in parts that are gone: their copies are counted on, and the run's
+    bytes too. What the table has of the subscriptions of a server that was stopped counts for nothing."""
     host = place.host("--journal-size", 60, "--journal-keep", 1000, tick=int(harness.FAST_TICK * 1000))
-    server, other = place.server(host).subscribe(revision=4), place.server(host).start()
-    stopped = place.server(host).subscribe()
+    server, other = place.server(host).subscribe(revision=4).subscribe_alarms(), place.server(host).start()
+    stopped = place.server(host).subscribe().subscribe_alarms()
     other.send(b"0020")
-    place.tool().tighten(tightening_fields(1), "0 2")
+    tool = place.tool()
+    tool.tighten(tightening_fields(1), "0 2")
+    for i in (1, 2):
+        tool.alarm(alarm_fields(i), "0 2")
     stopped.fence()
     stopped.accepted(openprotocol.STOP)
     runs = []
-    in_time = InTime("three copies of a result")
-    while len([run for run in runs if run[4:8] == b"0061"]) < 3 and in_time():
+    in_time = InTime("three copies of a result and of an alarm")
+    while any(len([run for run in runs if run[4:8] == mid]) < 3 for mid in (b"0061", b"0071")) and in_time():
         runs += server.fence()
         time.sleep(harness.FAST_TICK)
     equal(host.end(), 0, "status")
     parts = place.journal_parts()
     whole = [label for _, label in drawn(parts)]
-    copies = ["notice, copy %d of 3: not acknowledged for %d s" % (copy, 20 * copy - 20) for copy in (2, 3)]
+    copies = ["notice, copy %d of 3: not acknowledged for %d s" % (copy, 20 * copy - 20) for copy in (2, 2, 3, 3)]
     equal([label for label in whole if "copy 2" in label or "copy 3" in label], copies, "copies")
-    for first, told in ((len(parts) // 4, "4 bytes of a run that did not end"), (len(parts) * 3 // 4, copies[1])):
+    waiting = 'lost: alarm "E002" of 2026-03-05:00:00:02: waited, and was never sent; dropped when the link went'
+    for first, told in ((len(parts) // 4, "4 bytes of a run that did not end"), (len(parts) * 3 // 4, copies[-1]),
+                        (len(parts) * 3 // 4, waiting)):
         rows = [label for _, label in drawn(parts[first:])]
         check(first > 2 and told in rows, "%r is not told of parts from %d of %d on: this shows too little", told, first, len(parts))
         equal(rows[1:], whole[1 - len(rows):], "from part %d on" % (first + 1))

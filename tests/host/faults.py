@@ -32,9 +32,14 @@ NUMBER_KEPT = """\
 RECORD_JOURNALED = """\
     journal_record(journal_record_kind(record_kind), record + SERIFLADDER_RECORD_HEADER, length - SERIFLADDER_RECORD_HEADER);
 """
+ALARM_TOLD = """\
+    else if (number == SERIFLADDER_DONE && record_kind == SERIFLADDER_ALARM)
+        sessions_event(alarm_brought(record + SERIFLADDER_RECORD_HEADER), answer.taken);
+"""
 RESULT_SENT = """\
     if (numbered)
-        sessions_result(last, answer.taken);
+        sessions_event((struct event){ .kind = RESULT, .number = last }, answer.taken);
+""" + ALARM_TOLD + """\
     carry_out(answer.written);
 """
 
@@ -98,14 +103,39 @@ FAULTS = [
     ("everybody may connect", "who-may-connect", "links.c", "if (allowed_count > 0 && i == allowed_count)", "if (i > allowed_count)"),
     ("a hang-up that loses results in silence", "results-that-are-lost", "links.c",
      "    session_ended((unsigned)(link - links), link->waiting.length, why);\n", ""),
-    ("an acknowledge not counted", "results-that-are-lost", "sessions.c", 'memcmp(message + 4, "0062", 4) == 0)\n',
-     'memcmp(message + 4, "0053", 4) == 0)\n'),
+    ("an acknowledge not counted", "results-that-are-lost", "sessions.c", "== KINDS[kind].acknowledges)", "== KINDS[kind].tells)"),
+    ("an acknowledge too long counted", "results-that-are-lost", "sessions.c", " && length == MESSAGE_LENGTH &&", " && length > 0 &&"),
     ("given up in silence", "results-that-are-lost", "sessions.c", "GIVEN_UP = 120,", "GIVEN_UP = 12000,"),
     ("a ninth lost in silence", "results-that-are-lost", "sessions.c",
-     '            say_lost(s, number, "not taken", "eight are held for it");\n', ""),
+     '            say_lost(s, &event, "not taken", KINDS[event.kind].why_not_taken);\n', ""),
     ("what was not sent lost in silence", "results-not-read", "sessions.c", "    drop_unsent(s, waiting, why);\n",
      "    (void)drop_unsent;\n    (void)waiting;\n"),
-    ("fewer results thought to wait than can", "results-not-read", "sessions.c", "RESULT_SHORTEST = 232,", "RESULT_SHORTEST = 527,"),
+    ("fewer notices thought to wait than can", "alarms-not-read", "sessions.c", "NOTICE_SHORTEST = 54,", "NOTICE_SHORTEST = 232,"),
+    ("an alarm that was not sent lost in silence", "alarms-not-read", "sessions.c", "if (message == KINDS[kind].tells &&",
+     "if (kind == RESULT && message == KINDS[kind].tells &&"),
+    ("an alarm lost in silence", "alarms-that-are-lost", "calls.c", ALARM_TOLD, ""),
+    ("a bad alarm thought to be lost", "alarms-that-are-bad", "calls.c", "else if (number == SERIFLADDER_DONE && record_kind ==",
+     "else if (record_kind =="),
+    ("three alarms thought to be all that are held", "alarms-that-are-lost", "sessions.c", "{ 70, 71, 72, 73, 4,", "{ 70, 71, 72, 73, 3,"),
+    ("a result's acknowledge thought to be an alarm's", "alarms-that-are-lost", "sessions.c", "{ 70, 71, 72,", "{ 70, 71, 62,"),
+    ("alarms thought to end with the results", "alarms-that-are-lost", "sessions.c", "{ 70, 71, 72, 73,", "{ 70, 71, 72, 63,"),
+    ("one clock for results and alarms", "an-alarm-that-is-not-acknowledged", "sessions.c", "++sessions[s].clocks[kind]",
+     "++sessions[s].clocks[RESULT]"),
+    ("alarms counted as results", "the-status", "sessions.c", "losses[kind].dropped += lane->held;",
+     "losses[RESULT].dropped += lane->held;"),
+    ("a code that is no text of JSON", "the-status", "status.c", "== NULL ? \"\" : \"\\\\\",", "== NULL ? \"\" : \"\","),
+    ("an alarm's time read where it does not stand", "log-lines-of-alarms", "sessions.c", "TIME = 34 }", "TIME = 32 }"),
+    ("an alarm's time cut", "log-lines-of-alarms", "sessions.c", "TIME = CODE_LENGTH + 2 }", "TIME = CODE_LENGTH + 1 }"),
+    ("controller and tool exchanged in the log", "log-lines-of-alarms", "tool.c", "CONTROLLER_READY = CODE_LENGTH, TOOL_READY }",
+     "TOOL_READY = CODE_LENGTH, CONTROLLER_READY }"),
+    ("an alarm in the log as an identifier", "log-lines-of-alarms", "tool.c", "else if (record_kind == SERIFLADDER_ALARM)",
+     "else if (record_kind == SERIFLADDER_SETTINGS)"),
+    ("an alarm that is sent in the log without its name", "log-lines-of-alarms", "links.c", 'memcmp(text + 4, "0071", 4) == 0',
+     'memcmp(text + 4, "0076", 4) == 0'),
+    ("a fault of the demo's at another time", "the-demo", "demo.c", "write_time(now, time(NULL));\n    begin(SERIFLADDER_ALARM,",
+     "write_time(now, 0);\n    begin(SERIFLADDER_ALARM,"),
+    ("an alarm's serial not kept", "alarms-with-a-serial", "calls.c", "if (number == SERIFLADDER_DONE && serial != NULL)",
+     "if (number == SERIFLADDER_DONE && serial != NULL && record_kind != SERIFLADDER_ALARM)"),
     ("the number read at the end of every 0061", "log-lines-in-each-revision", "sessions.c",
      "(revision_of(frame) == 1 ? OF_REVISION_1 : OF_LATER_REVISIONS)", "number_at(frame, 4) - NUMBER_LENGTH"),
     ("the number read where revision 1 has it", "results-not-read", "sessions.c", "revision_of(frame) == 1 ?", "revision_of(frame) > 0 ?"),
@@ -115,8 +145,8 @@ FAULTS = [
      "number = 0;\n    taken = 0;\n    if (serial != NULL && number > taken) {"),
     ("serials forgotten with the host", "records-with-a-serial", "serials.c", "        put_line(next, line);\n", ""),
     ("a status that tells of another session", "the-status", "status.c", "session_state(s);", "session_state(s ^ 1);"),
-    ("a wish for no acknowledge missed", "the-status-and-the-table", "sessions.c", "sessions[s].byte_12 != '1';",
-     "sessions[s].byte_12 != 0;"),
+    ("a wish for no acknowledge missed", "the-status-and-the-table", "sessions.c", "sessions[s].byte_12 != '1' }",
+     "sessions[s].byte_12 != 0 }"),
     ("the number not answered", "the-status", "tool.c", "numbered ? last_number() : 0);", "0 * (uint32_t)numbered);"),
     ("stale output kept over a hang-up", "a-peer-that-stops-reading", "links.c", "    link->waiting.length = 0;\n", ""),
     ("a hang-up that the library is not told", "a-link-cut-with-a-notice-open", "links.c",
@@ -153,8 +183,13 @@ FAULTS = [
     ("a refusal not printed", "generated-histories-replayed", "replay.c", "answer->number != SERIFLADDER_DONE", "answer->number > 8"),
     ("received bytes replayed to the first NUL only", "generated-histories-replayed", "replaying.c",
      "answer.number == SERIFLADDER_DONE && length > 0", "answer.number != SERIFLADDER_DONE && length > 0"),
-    ("the sessions of a table from before not moved", "tables-from-before", "replaying.c",
-     "    memmove(table + REGIONS, table + PLACES, REGIONS_SIZE);\n", ""),
+    ("the sessions of a table from before not moved", "tables-from-before", "replaying.c", "    move_regions(table, PLACES);\n", ""),
+    ("the sessions of a table from before alarms not moved", "tables-from-before-alarms", "replaying.c",
+     "        move_regions(table, REGIONS);\n", "        ;\n"),
+    ("the number of a map not looked at", "tables-from-before-alarms", "replaying.c",
+     "memcmp(kept + SERIFLADDER_TABLE_SIZE, TABLE_MAP, TABLE_MAP_LENGTH) != 0", "kept[0] == 0"),
+    ("the number of the map not kept", "parts-replayed-alone", "journal.c",
+     "memcpy(kept + SERIFLADDER_TABLE_SIZE, TABLE_MAP, TABLE_MAP_LENGTH);", "memset(kept + SERIFLADDER_TABLE_SIZE, 0, TABLE_MAP_LENGTH);"),
     ("a count of tightenings read in a table from before", "tables-from-before", "replaying.c", "    table[KEPT_COUNT] = 0;\n", ""),
     ("an old result in the log without its number", "what-a-server-missed", "links.c", "OLD_NUMBER = HEADER + 2,", "OLD_NUMBER = HEADER,"),
     ("the state itself not locked", "a-lock-that-was-removed", "state.c", "if (!lock_file(current))", "if (current < 0)"),

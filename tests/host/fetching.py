@@ -164,7 +164,7 @@ def watch_fetches_beside_fresh_results(place):
     old = {number: openprotocol.write(openprotocol.OLD_RESULT, old_fields(tightening_fields(number), number)) + b"\0"
            for number in (8, 9, 12, *range(300 - KEPT + 1, 300))}
     acknowledges = openprotocol.message(openprotocol.ACKNOWLEDGE_RESULT)
-    subscribes = [openprotocol.message(mid) for mid in (openprotocol.SUBSCRIBE_IDENTIFIERS, openprotocol.SUBSCRIBE_RESULTS)]
+    subscribes = Controller.subscribes()
     controller = Controller(place, "--fetch-missed")
     link = controller.accept()
     for sent, wanted in ((controller.STARTED, subscribes), (fresh[7], [acknowledges]), (fresh[10], [acknowledges, openprotocol.fetch(8)]),

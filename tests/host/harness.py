@@ -26,7 +26,7 @@ sys.path[:0] = [os.path.join(ROOT, "tools"), os.path.join(HERE, "..", "histories
 
 import lent_table  # noqa: E402, F401
 import openprotocol  # noqa: E402
-from house_records import (BYTES, GREATEST_NUMBER, HANG_UP, OPEN, PAYLOADS, SCANNED, SETTINGS, TICK, TIGHTENING,  # noqa: E402, F401
+from house_records import (ALARM, BYTES, GREATEST_NUMBER, HANG_UP, OPEN, PAYLOADS, SCANNED, SETTINGS, TICK, TIGHTENING,  # noqa: E402, F401
                            fields_of, record, record_of, split)
 from openprotocol import message  # noqa: E402
 
@@ -119,6 +119,17 @@ def tightening_record(fields):
 
 def identifier_record(identifier):
     return record_of(SCANNED, identifier=identifier)
+
+
+def alarm_fields(i, **named):
+    """The i-th alarm: no two of a day are alike."""
+    fields = {"code": "E%03d" % (i % 1000), "controller_ready": i % 2, "tool_ready": i // 2 % 2,
+              "time": "2026-03-05:%02d:%02d:%02d" % (i // 3600 % 24, i // 60 % 60, i % 60)}
+    return {**fields, **named}
+
+
+def alarm_record(fields):
+    return record_of(ALARM, **fields)
 
 
 WITH_SERIAL = 4
@@ -350,6 +361,9 @@ class Server(Link):
     def expect_result(self, fields, number):
         equal(self.expect(openprotocol.RESULT, self.revision), result_fields(fields, number, self.revision), "result")
 
+    def expect_alarm(self, fields):
+        equal(self.expect(openprotocol.ALARM), fields, "alarm")
+
     def fetch(self, number=openprotocol.NEWEST):
         """The fields of the old result of that number; None where it is not kept."""
         self.send(openprotocol.fetch(number))
@@ -383,6 +397,10 @@ class Server(Link):
     def subscribe_results(self, revision=1, **more):
         self.accepted(openprotocol.SUBSCRIBE_RESULTS, revision=b"%03d" % revision, **more)
         self.revision = revision
+
+    def subscribe_alarms(self, acknowledge=True):
+        self.accepted(openprotocol.SUBSCRIBE_ALARMS, byte_12=b"0" if acknowledge else b"1")
+        return self
 
     def fence(self):
         """The runs that come before the mirror of a 9999 that is sent now: what the host had to send, it has sent."""
@@ -449,6 +467,9 @@ class Tool(Link):
 
     def scan(self, identifier, taken_by):
         equal(self.give(identifier_record(identifier)), "0 done, taken by " + taken_by, "answer to an identifier")
+
+    def alarm(self, fields, taken_by):
+        equal(self.give(alarm_record(fields)), "0 done, taken by " + taken_by, "answer to an alarm")
 
 
 def tell_and_acknowledge(tool, server, i, number):

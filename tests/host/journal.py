@@ -10,10 +10,22 @@ import socket
 import time
 
 import generate
-from harness import (BYTES, HANG_UP, OPEN, SCANNED, SETTINGS, TICK, TIGHTENING, InTime, check, content, equal, identifier_record,
-                     in_memory, openprotocol, record, split, test, tightening_fields, tightening_record)
+from harness import (ALARM, BYTES, HANG_UP, OPEN, SCANNED, SETTINGS, TICK, TIGHTENING, InTime, alarm_fields, alarm_record, check, content,
+                     equal, identifier_record, in_memory, openprotocol, record, split, test, tightening_fields, tightening_record)
 
 TICK_SECONDS = 0.03
+SAID = [1, 50, 51, 51, 53, 53, 60, 60, 60, 62, 62, 62, 62, 54, 63, 64, 64, 70, 70, 70, 72, 72, 73, 9999, 9999, 1234]  # by servers
+
+
+def alarm_name(fields):
+    """How the log names an alarm."""
+    return 'alarm "%(code)s" of %(time)s' % fields
+
+
+def names_of(server):
+    """The results and alarms that came to a server, as the log names them."""
+    told = [openprotocol.read(run) for run in server.seen if run[4:8] in (b"0061", b"0071")]
+    return ["result %d" % frame.fields["number"] if frame.mid == openprotocol.RESULT else alarm_name(frame.fields) for frame in told]
 
 
 class Play:
@@ -22,8 +34,8 @@ class Play:
     def __init__(self, place, seed):
         self.place, self.source = place, random.Random(seed)
         self.servers = []  # in the order in which they were let in
-        self.number = self.refused = 0
-        self.answers = []  # to the tightenings
+        self.number = self.alarms = self.refused = 0
+        self.answers = []  # to the tightenings and alarms
 
     def here(self):
         return [server for server in self.servers if server.open]
@@ -60,10 +72,11 @@ class Play:
         return server.open
 
     def speak(self, server):
-        mid = self.source.choice([1, 50, 51, 51, 53, 53, 60, 60, 60, 62, 62, 62, 62, 54, 63, 64, 64, 9999, 9999, 1234])
+        mid = self.source.choice(SAID)
         data = b"NET" if mid == 50 else b"%010d" % self.source.randrange(self.number + 3) if mid == 64 else b""
         with contextlib.suppress(ConnectionError):
-            server.tell(mid, revision=b"00%c" % self.source.choice(b"11122567"), byte_12=b"%c" % self.source.choice(b"  1"), data=data)
+            revisions = b"1112" if mid == 70 else b"11122567"
+            server.tell(mid, revision=b"00%c" % self.source.choice(revisions), byte_12=b"%c" % self.source.choice(b"  1"), data=data)
 
     def fall_silent(self):
         """One of them says nothing more until the host closes it, while the others speak on."""
@@ -88,8 +101,11 @@ class Play:
         elif chance < 0.3:
             self.number += 1
             self.answers.append(self.tool.give(tightening_record(tightening_fields(self.number))))
-        elif chance < 0.4:
+        elif chance < 0.33:
             self.tool.give(identifier_record("CAR %d" % self.source.randrange(1000)))
+        elif chance < 0.4:
+            self.alarms += 1
+            self.answers.append(self.tool.give(alarm_record(alarm_fields(self.alarms))))
         elif chance < 0.42:
             self.refused += 1
             self.tool.give(record(7, b"bad"))
@@ -113,45 +129,50 @@ class Play:
 
 
     def taken(self):
-        """The results that were taken, as (server, number)."""
-        servers, answers, now = iter(self.servers), iter(self.answers), {}
+        """The results and alarms that were taken, as (server, kind, name in the log)."""
+        servers, answers, now, alarms = iter(self.servers), iter(self.answers), {}, 0
         for record_kind, payload in self.place.journaled():
             if OPEN <= record_kind < HANG_UP:
                 now[record_kind - OPEN] = next(servers)
-            elif record_kind == TIGHTENING:
-                sessions, number = re.fullmatch(r"0 done, taken by (none|[0-3 ]+), number (\d+)", next(answers)).groups()
-                yield from ((now[int(session)], int(number)) for session in sessions.split() if session != "none")
+            elif record_kind in (TIGHTENING, ALARM):
+                sessions, number = re.fullmatch(r"0 done, taken by (none|[0-3 ]+?)(?:, number (\d+))?", next(answers)).groups()
+                alarms += record_kind == ALARM
+                name = "result " + number if number else alarm_name(alarm_fields(alarms))
+                yield from ((now[int(session)], record_kind, name) for session in sessions.split() if session != "none")
 
     def check_losses(self):
-        """Each result that was taken came to its server, or a line of the log says that it was not sent; no line says so of one that came.
-        Answers how many results each sort of line was of."""
-        lines = {(int(port), int(number)): how for port, number, how in
-                 re.findall(r"Z session \d [0-9.]+:(\d+): result (\d+) ([a-z ,]+): ", self.host.log())}
-        counts = collections.Counter()
-        for server, number in self.taken():
-            copies = sum(run[4:8] == b"0061" and openprotocol.read(run).fields["number"] == number for run in server.seen)
-            how = lines.get((server.port, number))
-            counts[how] += 1
+        """Each result and each alarm that was taken came to its server, or a line of the log says that it was not sent; no line says so of
+        one that came. Answers how many each sort of line was of, of results and of alarms."""
+        lines = {(int(port), name): how for port, name, how in
+                 re.findall(r"Z session \d [0-9.]+:(\d+): ((?:result|alarm) .*?) ((?:not|given|dropped)[a-z ,]+): ", self.host.log())}
+        counts, came = collections.Counter(), {server: names_of(server) for server in self.servers}
+        for server, record_kind, name in self.taken():
+            copies = came[server].count(name)
+            how = lines.get((server.port, name))
+            counts[record_kind, how] += 1
             unread = not server.reads_all and copies == 0
             if how == "dropped, not sent":
-                equal(copies, 0, "copies of result %d, which a line says was not sent" % number)
+                equal(copies, 0, "copies of %s, which a line says was not sent" % name)
             elif how == "given up":
-                check(copies == 6 or not server.reads_all, "%d copies of result %d, which was given up", copies, number)
+                check(copies == 6 or not server.reads_all, "%d copies of %s, which was given up", copies, name)
             else:
-                check(copies > 0 or unread, "result %d did not come to its server, and the log says %s", number, how)
+                check(copies > 0 or unread, "%s did not come to its server, and the log says %s", name, how)
         return counts
 
 
 @test
 def the_journal_replays(place):
     """Four servers that come and go, are cut and time out: replay prints of the journal what each of them saw, and the log tells of each
-    result that did not come to them."""
+    result and each alarm that did not come to them."""
     play = Play(place, 3)
     openings = play.run(900)
     losses = play.check_losses()
-    place.said.append(", ".join("%d %s" % (count, how or "received") for how, count in losses.items()))
-    for how in ("dropped, not sent", "dropped, sent but not acknowledged", None):
-        check(losses[how] > 3, "only %d results %s: this shows too little", losses[how], how or "received")
+    for record_kind, words in ((TIGHTENING, "results"), (ALARM, "alarms")):
+        place.said.append(words + ": " + ", ".join("%d %s" % (count, how or "received") for (kind, how), count in losses.items()
+                                                   if kind == record_kind))
+        for how in ("dropped, not sent", "dropped, sent but not acknowledged", None):
+            many = losses[record_kind, how]
+            check(many > 3, "only %d %s %s: this shows too little", many, words, how or "received")
     timed_out = sum(opening.closed() for opening in openings)
     place.said.append("%d openings, %d timed out, %d frames" % (len(openings), timed_out, sum(len(o.frames()) for o in openings)))
     check(timed_out >= 3, "too few timed out: this shows too little")

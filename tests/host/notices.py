@@ -134,10 +134,121 @@ def a_notice_that_is_not_acknowledged(place):
     place.finish(host, servers)
 
 
-def losses(host):
-    """What the log says of results that were lost: (session, number, how, why)."""
-    return [(int(session), int(number), how, why) for session, number, how, why in
-            re.findall(r"Z session (\d) [0-9.:]+: result (\d+) ([a-z ,]+): (.+)\n", host.log())]
+class Sort:
+    """Results, and what alarms.py makes of it: alarms, which are lost as results are. The i-th of them is the i-th that the tool gives."""
+
+    SUBSCRIBE, NOTICE, ACKNOWLEDGE, UNSUBSCRIBE = (openprotocol.SUBSCRIBE_RESULTS, openprotocol.RESULT, openprotocol.ACKNOWLEDGE_RESULT,
+                                                   openprotocol.UNSUBSCRIBE_RESULTS)
+    HELD, HELD_WORD = 8, "eight"
+    NAME = r"result (\d+)"  # how the log names one
+
+    @staticmethod
+    def record(i):
+        return tightening_record(tightening_fields(i))
+
+    @staticmethod
+    def read(fields):
+        """Which one a notice tells of."""
+        return fields["number"]
+
+    @staticmethod
+    def named(name):
+        """Which one the log names."""
+        return int(name)
+
+    @classmethod
+    def give(cls, tool, i, taken_by):
+        answer = tool.give(cls.record(i))
+        check(answer.startswith("0 done, taken by %s" % taken_by), "answer to %d: %r, not taken by %s", i, answer, taken_by)
+
+    @classmethod
+    def losses(cls, host):
+        """What the log says of those that were lost: (session, which one, how, why)."""
+        found = re.findall(r"Z session (\d) [0-9.:]+: %s ((?:not|given|dropped)[a-z ,]+): (.+)\n" % cls.NAME, host.log())
+        return [(int(session), cls.named(name), how, why) for session, name, how, why in found]
+
+
+def ways_to_lose(place, sort):
+    """Each that is lost has its line: not taken, given up, dropped at a stop, an unsubscribe, a time-out, a hang-up or the host's end."""
+    tick = harness.FAST_TICK
+    host = place.host(tick=int(tick * 1000))
+    tool = place.tool()
+    given, wanted = 0, []
+
+    def tell(count, taken_by):
+        """Answers which they were."""
+        nonlocal given
+        for _ in range(count):
+            given += 1
+            sort.give(tool, given, taken_by)
+        return list(range(given + 1 - count, given + 1))
+
+    def subscribed():
+        server = place.server(host).start()
+        server.accepted(sort.SUBSCRIBE)
+        return server
+
+    def dropped(each, why):
+        return [(0, one, "dropped, not sent" if i else "dropped, sent but not acknowledged", why) for i, one in enumerate(each)]
+
+    def lost(lines):
+        wanted.extend(lines)
+        wait(lambda: len(sort.losses(host)) >= len(wanted), "lines for %s" % lines)
+        equal(sort.losses(host), wanted, "those lost")
+
+    server = subscribed()
+    _, second = tell(2, "0")
+    server.tell(sort.ACKNOWLEDGE)
+    server.fence()
+    server.accepted(sort.UNSUBSCRIBE)
+    lost(dropped([second], "its subscription is ended"))
+    server.accepted(sort.SUBSCRIBE)
+    held = tell(sort.HELD, "0")
+    lost([(0, one, "not taken", "%s are held for it" % sort.HELD_WORD) for one in tell(1, "none")])
+    server.fence()
+    server.tell(sort.ACKNOWLEDGE, data=b"x")  # too long to acknowledge anything
+    server.accepted(openprotocol.STOP)
+    lost(dropped(held, "the session is stopped"))
+    server.start()
+    server.accepted(sort.SUBSCRIBE)
+    first, second = tell(2, "0")
+    in_time = InTime("one is given up", more=200 * tick)
+    while not sort.losses(host)[len(wanted):] and in_time():
+        server.fence()
+        time.sleep(tick)
+    lost([(0, first, "given up", "it was not acknowledged in 120 ticks")])
+    server.until_closed()
+    lost(dropped([second], "idle for 15 ticks"))
+    server = subscribed()
+    held = tell(3, "0")
+    server.cut()
+    lost(dropped(held, "Connection reset by peer"))
+    subscribed()
+    held = tell(2, "0")
+    equal(host.end(), 0, "status")
+    lost(dropped(held, "the host ends"))
+
+
+def not_read(place, sort, ways):
+    """Those that were not given to the system have their lines, and no other; what was is there to be read. In each of the ways a server
+    subscribes without acknowledge, and loses at least so many."""
+    host = place.host()
+    tool = place.tool()
+    given = 0
+    for times, (subscribe, least) in enumerate(ways, 1):
+        deaf = place.server(host, receive_buffer=4096).start()
+        subscribe(deaf)
+        first, lost_before, in_time = given + 1, len(sort.losses(host)), InTime("the deaf one is hung up")
+        while in_time() and host.log().count("closed: 64 KiB wait for it") < times:
+            given += 1
+            tool.give(sort.record(given))
+        lost = [one for _, one, how, _ in sort.losses(host)[lost_before:] if how == "dropped, not sent"]
+        check(len(lost) > least, "only %d lines", len(lost))
+        deaf.until_closed()
+        read = [sort.read(openprotocol.read(run).fields) for run in deaf.seen if run[4:8] == b"%04d" % sort.NOTICE]
+        equal(read, list(range(first, first + len(read))), "those that were read")
+        equal(lost, list(range(lost[0], given + 1)), "those lost")
+        check(lost[0] >= first + len(read), "%d was read, and a line says that it was not sent", lost[0])
 
 
 @test
@@ -145,56 +256,7 @@ def losses(host):
 def results_that_are_lost(place):
     """Each has its line, with the session and the number: not taken, given up, dropped at a stop, an unsubscribe, a time-out, a hang-up
     or the host's end. None other has one."""
-    tick = harness.FAST_TICK
-    host = place.host(tick=int(tick * 1000))
-    tool = place.tool()
-    number, wanted = 0, []
-
-    def tell(count, taken_by):
-        nonlocal number
-        for _ in range(count):
-            number += 1
-            tool.tighten(tightening_fields(number), taken_by)
-
-    def dropped(session, numbers, why):
-        return [(session, n, "dropped, not sent" if i else "dropped, sent but not acknowledged", why) for i, n in enumerate(numbers)]
-
-    def lost(lines):
-        wanted.extend(lines)
-        wait(lambda: len(losses(host)) >= len(wanted), "lines for %s" % lines)
-        equal(losses(host), wanted, "results lost")
-
-    server = place.server(host).subscribe()
-    tell(2, "0")
-    server.tell(openprotocol.ACKNOWLEDGE_RESULT)
-    server.fence()
-    server.accepted(openprotocol.UNSUBSCRIBE_RESULTS)
-    lost(dropped(0, [2], "its subscription is ended"))
-    server.accepted(openprotocol.SUBSCRIBE_RESULTS)
-    tell(8, "0")
-    tell(1, "none")
-    lost([(0, 11, "not taken", "eight are held for it")])
-    server.fence()
-    server.tell(openprotocol.ACKNOWLEDGE_RESULT, data=b"x")  # too long to acknowledge anything
-    server.accepted(openprotocol.STOP)
-    lost(dropped(0, range(3, 11), "the session is stopped"))
-    server.subscribe()
-    tell(2, "0")
-    in_time = InTime("a result is given up", more=200 * tick)
-    while not losses(host)[len(wanted):] and in_time():
-        server.fence()
-        time.sleep(tick)
-    lost([(0, 12, "given up", "it was not acknowledged in 120 ticks")])
-    server.until_closed()
-    lost(dropped(0, [13], "idle for 15 ticks"))
-    server = place.server(host).subscribe()
-    tell(3, "0")
-    server.cut()
-    lost(dropped(0, [14, 15, 16], "Connection reset by peer"))
-    server = place.server(host).subscribe()
-    tell(2, "0")
-    equal(host.end(), 0, "status")
-    lost(dropped(0, [17, 18], "the host ends"))
+    ways_to_lose(place, Sort)
 
 
 @test
@@ -202,22 +264,8 @@ def results_that_are_lost(place):
 def results_not_read(place):
     """A server that asked for no acknowledge and does not read is hung up, in whichever revision: each result that was not given to the
     system has its line, and no other; what was is there to be read."""
-    host = place.host()
-    tool = place.tool()
-    number = 0
-    for times, (revision, least) in enumerate(((1, 250), (6, 110)), 1):
-        deaf = place.server(host, receive_buffer=4096).subscribe(acknowledge=False, revision=revision)
-        first, lost_before, in_time = number + 1, len(losses(host)), InTime("the deaf one is hung up")
-        while in_time() and host.log().count("closed: 64 KiB wait for it") < times:
-            number += 1
-            tool.give(tightening_record(tightening_fields(number)))
-        lost = [n for _, n, how, _ in losses(host)[lost_before:] if how == "dropped, not sent"]
-        check(len(lost) > least, "only %d lines", len(lost))
-        deaf.until_closed()
-        results = [openprotocol.read(run).fields["number"] for run in deaf.seen if run[4:8] == b"0061"]
-        equal(results, list(range(first, first + len(results))), "results that were read")
-        equal(lost, list(range(lost[0], number + 1)), "results lost")
-        check(lost[0] >= first + len(results), "result %d was read, and a line says that it was not sent", lost[0])
+    not_read(place, Sort, [(lambda deaf: deaf.subscribe_results(1, byte_12=b"1"), 250),
+                           (lambda deaf: deaf.subscribe_results(6, byte_12=b"1"), 110)])
 
 
 @test
@@ -285,16 +333,20 @@ def log_lines_in_each_revision(place):
 
 @test
 def the_demo(place):
-    """--demo scans identifiers and tightens bolts of itself: results arrive in order, as a tool would have given them."""
+    """--demo scans identifiers, tightens bolts and has a fault of itself: results arrive in order, as a tool would have given them."""
     host = place.host("--demo", "--demo-seconds", 1, tool=False)
-    server = place.server(host).subscribe()
-    numbers, identifiers = [], []
-    in_time = InTime("three results and an identifier")
-    while in_time() and (len(numbers) < 3 or not identifiers):
+    server = place.server(host).subscribe().subscribe_alarms()
+    numbers, identifiers, codes = [], [], []
+    in_time = InTime("three results, an identifier and an alarm")
+    while in_time() and (len(numbers) < 3 or not identifiers or not codes):
         frame = openprotocol.read(server.next())
         if frame.mid == openprotocol.IDENTIFIER:
             server.tell(openprotocol.ACKNOWLEDGE_IDENTIFIER)
             identifiers.append(frame.fields["identifier"])
+        elif frame.mid == openprotocol.ALARM:
+            server.tell(openprotocol.ACKNOWLEDGE_ALARM)
+            codes.append(frame.fields["code"])
+            check(abs(time.mktime(time.strptime(frame.fields["time"], "%Y-%m-%d:%H:%M:%S")) - time.time()) < 60, "time: %s", frame.fields)
         else:
             equal(frame.mid, openprotocol.RESULT, "message")
             server.tell(openprotocol.ACKNOWLEDGE_RESULT)
@@ -303,4 +355,5 @@ def the_demo(place):
             equal(frame.fields["torque_status"] == 1, within, "torque status of %s" % frame.fields)
     equal(numbers, list(range(numbers[0], numbers[0] + len(numbers))), "numbers")
     check(identifiers[-1] != "", "an empty identifier")
+    check(re.fullmatch(r"E\d\d\d", codes[0]), "code %r", codes[0])
     place.finish(host, [server])

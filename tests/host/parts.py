@@ -108,41 +108,83 @@ def parts_replayed_alone(place):
     place.said.append("%d parts, %d lines" % (len(data), whole.count(b"\n")))
 
 
-def earlier(table):
-    """A table as it was kept before tightenings were: its sessions stood where those are now."""
-    return (table[:lent_table.MEMORY] + table[lent_table.SHARED:lent_table.USED]).ljust(lent_table.EARLIER_SIZE, b"\0")
+def regions_without_alarms(table):
+    """Each session as it stood in a table before there were alarms: the same bytes, up to where their lane begins now."""
+    regions = range(lent_table.SHARED, lent_table.USED, lent_table.REGION)
+    return b"".join(table[at:at + lent_table.EARLIER_REGION] for at in regions)
+
+
+def without_alarms(printed):
+    """What replay prints, but for alarms and what it answers to those who ask for them."""
+    return re.sub(rb"(?m)^\d S (00530071|002[46]000[45]001_________007).*\n", b"", printed)
 
 
 def without_old_results(printed):
-    """What replay prints, but for what it answers to a 0064."""
-    return re.sub(rb"(?m)^\d S (01180065|00260004001_________0064).*\n", b"", printed)
+    """The same, but for what it answers to a 0064, too."""
+    return re.sub(rb"(?m)^\d S (01180065|00260004001_________0064).*\n", b"", without_alarms(printed))
+
+
+ASKS_FOR_THE_NEWEST = record(HANG_UP) + record(OPEN) + record(BYTES, message(openprotocol.START) + openprotocol.fetch())
+
+
+def tables_of_an_earlier_map(place, earlier, without, told):
+    """Has the parts of a host's life begin with a table as it was kept earlier: each gives what it gives from today's, but for what is left
+    out of both. It is drawn, with what is told of the table there; and a host finds the last number in such a part, which an older state is
+    behind. Answers the name of the last table, and what stood there before."""
+    play = Play(place, 5)
+    play.run(400, "--journal-size", 600, "--journal-keep", 1000)
+    parts, kept, alarms = place.journal_parts(), [], 0
+    check(len(parts) > 10, "only %d parts: this shows too little", len(parts))
+    for part, path in enumerate(parts[1:], 2):
+        table = "%s.%d.table" % (place.journal, part)
+        today, was = place.own_replayed(content(path), table), content(table)
+        of_today = lent_table.read(was)
+        kept.append(len(lent_table.kept(of_today)))
+        alarms += sum(len(region.alarms().places) for region in lent_table.regions(of_today))
+        with open(table, "wb") as file:
+            file.write(earlier(of_today))
+        equal(without(place.own_replayed(content(path), table)), without(today), "what part %d gives" % part)
+    check(sum(kept) > 100 and alarms > 5, "only %d tightenings were kept and %d alarms held: this shows too little", sum(kept), alarms)
+    drawn = subprocess.run([os.path.join(ROOT, "tools", "ladder"), place.journal], capture_output=True, timeout=SECONDS, check=False)
+    rows = re.sub(rb"\n[ |.]*", b" ", drawn.stdout)  # a label may go on in the next line
+    check(drawn.returncode == 0 and told(kept[-1]).encode() in rows, "what is drawn: %r", drawn)
+    os.remove(place.state)
+    place.refused(place.start(), 1, place.state, place.journal, "--state-behind", "that %d was" % play.number)
+    place.said.append("%d tables" % (len(parts) - 1))
+    return table, was
 
 
 @test
 @in_memory
 def tables_from_before(place):
-    """From a table that was kept before tightenings were, a part gives what it gives from today's, old results aside, of which none is kept
-    there; it is drawn, too; and a host finds the last number in such a part, which an older state is behind."""
-    play = Play(place, 5)
-    play.run(400, "--journal-size", 600, "--journal-keep", 1000)
-    parts, kept = place.journal_parts(), 0
-    asks_for_the_newest = record(HANG_UP) + record(OPEN) + record(BYTES, message(openprotocol.START) + openprotocol.fetch())
-    check(len(parts) > 10, "only %d parts: this shows too little", len(parts))
-    for part, path in enumerate(parts[1:], 2):
-        table = "%s.%d.table" % (place.journal, part)
-        today = place.own_replayed(content(path), table)
-        kept += len(lent_table.kept(content(table)))
-        before = earlier(content(table))
+    """From a table that was kept before tightenings were, a part gives what it gives from today's, old results and alarms aside, of which
+    none is kept there; it is drawn, too; and a host finds the last number in such a part, which an older state is behind."""
+    def earlier(table):
+        """Its sessions stood where tightenings are now."""
+        return (table[:lent_table.MEMORY] + regions_without_alarms(table)).ljust(lent_table.FIRST_SIZE, b"\0")
+
+    table, _ = tables_of_an_earlier_map(place, earlier, without_old_results, lambda kept: ", 0 tightenings kept")
+    equal(place.own_replayed(ASKS_FOR_THE_NEWEST, table)[-31:], b"0 S 00260004001_________006415\n", "the newest of none")
+
+
+@test
+@in_memory
+def tables_from_before_alarms(place):
+    """From a table that was kept before there were alarms, of the same size and with the same mark, a part gives what it gives from
+    today's, alarms aside, old results too; it is drawn, and a host finds the last number in such a part. With another map's number behind
+    it a table of today is none."""
+    def earlier(table):
+        return (table[:lent_table.SHARED] + regions_without_alarms(table)).ljust(lent_table.SIZE, b"\0")
+
+    table, was = tables_of_an_earlier_map(place, earlier, without_alarms, lambda kept: ", %d tightenings kept" % kept)
+    check(b"01180065" in place.own_replayed(ASKS_FOR_THE_NEWEST, table), "no old result is kept in %s", table)
+    for behind, status in ((lent_table.MAP, 0), (b"map 4\n", 1), (b"map 3", 1), (b"map 3\n\n", 1), (b"\0" * 6, 1)):
         with open(table, "wb") as file:
-            file.write(before)
-        equal(without_old_results(place.own_replayed(content(path), table)), without_old_results(today), "what part %d gives" % part)
-        equal(place.own_replayed(asks_for_the_newest, table)[-31:], b"0 S 00260004001_________006415\n", "the newest of none")
-    check(kept > 100, "only %d tightenings were kept: this shows too little", kept)
-    drawn = subprocess.run([os.path.join(ROOT, "tools", "ladder"), place.journal], capture_output=True, timeout=SECONDS, check=False)
-    check(drawn.returncode == 0 and b", 0 tightenings kept" in drawn.stdout, "what is drawn: %r", drawn)
-    os.remove(place.state)
-    place.refused(place.start(), 1, place.state, place.journal, "--state-behind", "that %d was" % play.number)
-    place.said.append("%d tables" % (len(parts) - 1))
+            file.write(was[:lent_table.SIZE] + behind)
+        for command in ([place.own_replay], [os.path.join(ROOT, "tools", "ladder"), "--replay", place.own_replay]):
+            done = subprocess.run([*command, "--table", table], input=b"", capture_output=True, timeout=SECONDS, check=False)
+            said = b"is no table" in done.stderr
+            equal((done.returncode, said), (status, status == 1), "status of %s, with %r behind a table" % (command[0], behind))
 
 
 @test
@@ -165,7 +207,7 @@ def bad_use_of_serifladder_replay(place):
     """A table that is none, a file that is not there and a wrong command line: a message that names it, and nothing printed."""
     bad = place.path("bad")
     with open(bad, "wb") as file:
-        file.write(bytes(lent_table.SIZE))
+        file.write(bytes(lent_table.SIZE) + lent_table.MAP)
     for arguments, status, word in ((["--table", bad], 1, bad), (["--table", place.path("none")], 1, "none"), (["--table"], 2, "--table"),
                                     ([place.path("none")], 1, "none"), (["--unknown"], 2, "--unknown"), ([bad, bad], 2, "second"),
                                     ([place.folder], 1, place.folder)):

@@ -20,6 +20,7 @@ import traceback
 import harness
 import links  # noqa: F401, I001
 import notices  # noqa: F401
+import alarms  # noqa: F401
 import tool  # noqa: F401
 import journal  # noqa: F401
 import parts  # noqa: F401

@@ -9,7 +9,8 @@ import sys
 import time
 
 import harness
-from harness import ROOT, check, content, equal, in_memory, lent_table, openprotocol, record, test, tightening_fields, wait
+from harness import (ALARM, ROOT, alarm_fields, check, content, equal, fields_of, in_memory, lent_table, openprotocol, record, test,
+                     tightening_fields, wait)
 from journal import Play
 
 CLOSED = {"phase": "closed"}
@@ -43,7 +44,8 @@ def the_status(place):
     server, other = place.server(host), place.server(host)
     peers = ["127.0.0.1:%d" % one.link.getsockname()[1] for one in (server, other)]
     other.subscribe(acknowledge=False)
-    nothing = {"identifiers": False, "results": False, "acknowledges": False, "held": [], "bytes_waiting": 0}
+    nothing = {"identifiers": False, "results": False, "acknowledges": False, "held": [], "alarms": False, "acknowledges_alarms": False,
+               "held_alarms": [], "bytes_waiting": 0}
     quick = {"phase": "started", "peer": peers[1], **nothing, "identifiers": True, "results": True}
     equal(sessions(place), [{"phase": "opened", "peer": peers[0], **nothing}, quick, CLOSED, CLOSED], "sessions")
     server.subscribe()
@@ -55,10 +57,24 @@ def the_status(place):
     server.fence()
     server.tell(openprotocol.ACKNOWLEDGE_RESULT)
     server.expect_result(tightening_fields(1), 7)
-    equal(sessions(place)[0]["held"], list(range(7, 14)), "results held after an acknowledge")
+    slow.update(held=list(range(7, 14)), alarms=True, acknowledges_alarms=True)
+    quick.update(alarms=True)
+    server.subscribe_alarms()
+    other.fence()
+    other.subscribe_alarms(acknowledge=False)
+    equal(sessions(place), [slow, quick, CLOSED, CLOSED], "sessions after an acknowledge, with alarms asked for")
+    codes = ["E001", '"\\ "', " 5% ", "    ", "E005"]
+    for i, code in enumerate(codes):
+        tool.alarm(alarm_fields(i, code=code), "0 1" if i < 4 else "1")
+    equal(sessions(place), [{**slow, "held_alarms": codes[:4]}, quick, CLOSED, CLOSED], "sessions with four alarms held")
+    server.fence()
+    server.tell(openprotocol.ACKNOWLEDGE_ALARM)
+    server.fence()
+    equal(sessions(place)[0], {**slow, "held_alarms": codes[1:4]}, "a session that acknowledged an alarm")
+    server.accepted(openprotocol.UNSUBSCRIBE_ALARMS)
     server.accepted(openprotocol.UNSUBSCRIBE_IDENTIFIERS)
     server.accepted(openprotocol.UNSUBSCRIBE_RESULTS)
-    equal(sessions(place)[0], {**slow, "identifiers": False, "results": False, "acknowledges": False}, "a session that unsubscribed")
+    equal(sessions(place)[0], {"phase": "started", "peer": peers[0], **nothing}, "a session that unsubscribed")
     server.accepted(openprotocol.STOP)
     equal(sessions(place)[0], {"phase": "opened", "peer": peers[0], **nothing}, "a session that was stopped")
     tool.give(record(5))
@@ -69,8 +85,9 @@ def the_status(place):
     uptime = told.pop("uptime_seconds")
     check(0 <= uptime <= time.monotonic() - began + 2, "uptime %d s", uptime)
     parts = len([name for name in os.listdir(place.folder) if name.startswith("journal") and name[7:].strip(".0123456789") == ""])
-    equal(told, {"last_number": 14, "results_not_taken": 1, "results_given_up": 0, "results_dropped": 7, "links_refused": 1,
-                 "tool_records_refused": 1, "journal_parts": parts}, "status")
+    equal(told, {"last_number": 14, "results_not_taken": 1, "results_given_up": 0, "results_dropped": 7, "alarms_not_taken": 1,
+                 "alarms_given_up": 0, "alarms_dropped": 3, "links_refused": 1, "tool_records_refused": 1, "journal_parts": parts},
+          "status")
     check(parts > 2, "only %d parts: this shows too little", parts)
     server.close()
     place.wait_for_hang_up(0)
@@ -83,10 +100,12 @@ def region_told(region):
     """What a session's region says of it, in the words of the status."""
     if region.phase() == lent_table.CLOSED:
         return CLOSED
-    identifiers, results = region.identifiers(), region.tightenings()
+    identifiers, results, alarms = region.identifiers(), region.tightenings(), region.alarms()
     return {"phase": "started" if region.phase() == lent_table.STARTED else "opened", "identifiers": identifiers.form != lent_table.NOT,
             "results": results.form != lent_table.NOT, "acknowledges": results.form == lent_table.ACKNOWLEDGED,
-            "held": [lent_table.little(place[lent_table.NUMBER]) for place in results.places]}
+            "held": [lent_table.little(place[lent_table.NUMBER]) for place in results.places],
+            "alarms": alarms.form != lent_table.NOT, "acknowledges_alarms": alarms.form == lent_table.ACKNOWLEDGED,
+            "held_alarms": [fields_of(ALARM, place)["code"].decode("ascii") for place in alarms.places]}
 
 
 @test
@@ -94,15 +113,15 @@ def region_told(region):
 def the_status_and_the_table(place):
     """In a host's life at random the status tells of each session what the lent table holds, as it is kept beside a journal whose parts
     are of one call each; at its end too, when all were stopped and what the table still has of their subscriptions counts for nothing."""
-    play = Play(place, 9)
+    play = Play(place, 15)
     play.host = place.host("--status", place.path("status"), "--journal-size", 1, "--journal-keep", 2)
     play.tool = place.tool()
-    held = 0
+    held = alarms = 0
 
     def regions():
         play.tool.give(record(5))  # before this call, which alters nothing, the table is kept
         newest = max((name for name in os.listdir(place.folder) if name.endswith(".table")), key=lambda name: int(name.split(".")[1]))
-        return lent_table.regions(content(place.path(newest)))
+        return lent_table.regions(lent_table.read(content(place.path(newest))))
 
     def equal_now():
         table = regions()
@@ -118,15 +137,17 @@ def the_status_and_the_table(place):
         if i % 4 == 0:
             told, = wait(equal_now, "a status that tells what the table holds")
             held += sum(len(session.get("held", [])) for session in told)
+            alarms += sum(len(session.get("held_alarms", [])) for session in told)
     check(held > 100, "only %d results were held: this shows too little", held)
+    check(alarms > 50, "only %d alarms were held: this shows too little", alarms)
     for server in play.here():
         if play.settle(server):
             server.tell(openprotocol.STOP)
     told, = wait(stopped_now, "a status of sessions that were stopped, which tells what the table holds")
     left = [region.data[at] for region in regions() if region.phase() == lent_table.OPENED for at, _ in lent_table.LANES]
     check(any(left), "nothing is left of any subscription: this shows too little")
-    place.said.append("100 times, with %d results held; and with %d subscriptions left of %d that were stopped" % (
-        held, len([form for form in left if form]), len([session for session in told if session["phase"] == "opened"])))
+    place.said.append("100 times, with %d results and %d alarms held; and with %d subscriptions left of %d that were stopped" % (
+        held, alarms, len([form for form in left if form]), len([session for session in told if session["phase"] == "opened"])))
 
 
 @test
@@ -155,9 +176,9 @@ def the_status_of_others(place):
 
 @test
 def example_tools(place):
-    """The example tools, in Python and in C, send a tightening and show the answer; each has some thirty lines."""
+    """The example tools, in Python and in C, send a tightening, and one an alarm, and show the answer; each has some thirty lines."""
     host = place.host()
-    server = place.server(host).subscribe(acknowledge=False)
+    server = place.server(host).subscribe(acknowledge=False).subscribe_alarms(acknowledge=False)
     examples = os.path.join(ROOT, "host", "examples")
     compiled = place.path("example")
     subprocess.run(["gcc", "-std=c11", "-D_XOPEN_SOURCE=700", "-Wall", "-Wextra", "-Werror", "-o", compiled,
@@ -172,4 +193,11 @@ def example_tools(place):
         wanted = {"identifier": "BODY 000001", "job": 1, "parameter_set": 7, "batch_size": 4, "batch_counter": 1, "torque_min": 2250,
                   "torque": 2493, "angle_target": 90, "angle": 88, "number": number}
         equal({name: result[name] for name in wanted}, wanted, "result of %s" % command)
+    for code, shown in (([], "0 done, taken by 0\n"), (["E7"], "0 done, taken by 0\n"), (["TOO LONG"], "7 tool record bad\n")):
+        done = subprocess.run([sys.executable, os.path.join(examples, "alarm.py"), place.tool_path, *code], stdout=subprocess.PIPE,
+                              encoding="ascii", check=False, timeout=harness.SECONDS)
+        equal((done.returncode, done.stdout), (int(shown[0] != "0"), shown), "what alarm.py shows of %s" % code)
+        if done.returncode == 0:
+            alarm = server.expect(openprotocol.ALARM)
+            equal((alarm["code"], alarm["controller_ready"], alarm["tool_ready"]), ("".join(code) or "E404", 1, 0), "alarm")
     equal(server.fence(), [], "something besides")

@@ -29,7 +29,7 @@ def bad_records():
     return [tightening_record(fields) for fields in bad] + [
         record(TIGHTENING), record(TIGHTENING, good[:-1]), record(TIGHTENING, good + b"\0"), record(TIGHTENING, bytes(8192)),
         record(2), record(2, b"x" * 24), record(2, b"x" * 26), record(2, b"\n" + b"x" * 24),
-        record(0), record(0, good), record(5, b"?"), record(65535, bytes(8192)),
+        record(0), record(0, good), record(5, b"?"), record(6, b"?"), record(65535, bytes(8192)),
     ]
 
 

@@ -7,7 +7,7 @@ import subprocess
 
 import harness
 import openprotocol
-from harness import ROOT, check, equal, test, tightening_fields, wait
+from harness import ROOT, alarm_fields, check, equal, test, tightening_fields, wait
 
 
 class Watch:
@@ -34,8 +34,8 @@ class Controller:
     """Another controller, played by a test: a watch connects to it."""
 
     STARTED = openprotocol.write(openprotocol.STARTED, harness.CONTROLLER) + b"\0"
-    FAREWELL = [openprotocol.message(mid) for mid in (openprotocol.UNSUBSCRIBE_RESULTS, openprotocol.UNSUBSCRIBE_IDENTIFIERS,
-                                                      openprotocol.STOP)]  # where it is subscribed to both
+    FAREWELL = [openprotocol.message(mid) for mid in (openprotocol.UNSUBSCRIBE_ALARMS, openprotocol.UNSUBSCRIBE_RESULTS,
+                                                      openprotocol.UNSUBSCRIBE_IDENTIFIERS, openprotocol.STOP)]  # subscribed to all
 
     def __init__(self, place, *arguments):
         self.place = place
@@ -59,12 +59,18 @@ class Controller:
             got += more
         equal(got, wanted, "what watch sends")
 
+    @staticmethod
+    def subscribes(revision=1):
+        """The messages by which watch subscribes, to results in that revision."""
+        return [openprotocol.message(openprotocol.SUBSCRIBE_IDENTIFIERS),
+                openprotocol.message(openprotocol.SUBSCRIBE_RESULTS, b"%03d" % revision),
+                openprotocol.message(openprotocol.SUBSCRIBE_ALARMS)]
+
     def start(self, revision=1):
-        """The next link, on which watch starts and subscribes to results in that revision."""
+        """The next link, on which watch starts and subscribes."""
         link = self.accept()
         link.send(self.STARTED)
-        self.expect(link, openprotocol.message(openprotocol.SUBSCRIBE_IDENTIFIERS),
-                    openprotocol.message(openprotocol.SUBSCRIBE_RESULTS, b"%03d" % revision))
+        self.expect(link, *self.subscribes(revision))
         return link
 
     def end(self, link, status, *messages):
@@ -77,22 +83,24 @@ class Controller:
 
 @test
 def watch_shows_results(place):
-    """tools/watch --count 3 shows an identifier and three results, keeps the link alive between them, and ends in order."""
+    """tools/watch --count 3 shows an identifier, three results and an alarm between them, keeps the link alive, and ends in order."""
     host = place.host()
     tool = place.tool()
     watch = Watch(place, "--connect", "127.0.0.1:%d" % host.port, "--count", "3")
     watch.wait_for("connected to 127.0.0.1:%d: controller LINE4, cell 12, channel 3" % host.port)
-    host.wait_for_log("< 0060")
+    host.wait_for_log("> 0005 to 0070")
     tool.scan("CAR 1", "0")
     first = tightening_fields(1, torque=2431, torque_min=2200, torque_max=2600, angle=87, angle_min=60, angle_max=120,
                               time="2026-01-31:12:34:56", tightening_status=1)
     tool.tighten(first, "0")
     tool.tighten({**first, "identifier": "", "tightening_status": 0, "torque": 2750, "torque_status": 2, "angle_status": 1}, "0")
+    tool.alarm({"code": "E404", "controller_ready": 1, "tool_ready": 0, "time": "2026-01-31:12:34:57"}, "0")
     host.wait_for_log("< 9999")  # it keeps the link alive while nothing comes
     tool.tighten(tightening_fields(3), "0")
     equal(watch.process.wait(harness.SECONDS), 0, "status of watch")
     lines = [" ".join(line.split()) for line in watch.lines()]
     check("identifier CAR 1" in lines, "watch does not show the identifier: %s", lines)
+    check("alarm E404 controller ready, tool not ready 2026-01-31 12:34:57" in lines, "watch does not show the alarm: %s", lines)
     results = [line for line in lines if line.startswith("result")]
     equal(results[:2], ["result 1 BODY-0000001 24.31 Nm (22.00 to 26.00) 87 deg (60 to 120) 2026-01-31 12:34:56 OK",
                         "result 2 CAR 1 27.50 Nm (22.00 to 26.00) 87 deg (60 to 120) 2026-01-31 12:34:56 NOT OK (torque high)"],
@@ -100,7 +108,7 @@ def watch_shows_results(place):
     equal(len(results), 3, "results that watch shows")
     place.wait_for_hang_up(0)
     messages = [line.split(" < ")[1][:4] for line in host.log().splitlines() if " < " in line]
-    equal(messages[-3:], ["0063", "0054", "0003"], "messages with which watch ends")
+    equal(messages[-4:], ["0073", "0063", "0054", "0003"], "messages with which watch ends")
 
 
 @test
@@ -125,7 +133,7 @@ def watch_waits_and_comes_back(place):
     equal(watch.lines()[-1], "ended: 2 results", "watch's last line")
     place.wait_for_hang_up(0)
     messages = [line.split(" < ")[1][:4] for line in host.log().splitlines() if " < " in line]
-    equal(messages[-3:], ["0063", "0054", "0003"], "messages with which watch ends")
+    equal(messages[-4:], ["0073", "0063", "0054", "0003"], "messages with which watch ends")
 
 
 @test
@@ -134,13 +142,12 @@ def watch_with_another_controller(place):
     for is neither; after a refusal, or something that is no frame, watch says so and connects again."""
     results = [openprotocol.write(openprotocol.RESULT, harness.result_fields(tightening_fields(number), number), byte_12=b"0") + b"\0"
                for number in (7, 7, 8)]
-    subscribes = [openprotocol.message(mid) for mid in (openprotocol.SUBSCRIBE_IDENTIFIERS, openprotocol.SUBSCRIBE_RESULTS)]
     controller = Controller(place)
     watch = controller.watch
     link = controller.accept()
     for byte in controller.STARTED:
         link.send(bytes([byte]))
-    controller.expect(link, *subscribes)
+    controller.expect(link, *controller.subscribes())
     link.send(openprotocol.write(openprotocol.OLD_RESULT, harness.old_fields(tightening_fields(6), 6)) + b"\0")
     for result in results:
         link.send(result)
@@ -196,11 +203,11 @@ def watch_in_a_revision_that_is_not_to_be_had(place):
     refused = openprotocol.write(openprotocol.REFUSED, {"mid": openprotocol.SUBSCRIBE_RESULTS, "error": openprotocol.NO_SUCH_REVISION})
     accepted = openprotocol.write(openprotocol.ACCEPTED, {"mid": openprotocol.SUBSCRIBE_RESULTS})
     of_revision_7 = result_run(6)[:-1].replace(b"05260061006", b"05440061007") + b"0" * 18
-    unsubscribes, *rest = Controller.FAREWELL
+    without_results = [said for said in Controller.FAREWELL if said != openprotocol.message(openprotocol.UNSUBSCRIBE_RESULTS)]
     for revision, answer, farewell, said in (
-            (1, [refused], rest, "refused with error 97, revision not supported"),
-            (7, [refused], rest, "refused with error 97, revision not supported"),
-            (7, [accepted, of_revision_7], [unsubscribes, *rest], "accepted, and can't be shown: watch reads revisions 1 to 6")):
+            (1, [refused], without_results, "refused with error 97, revision not supported"),
+            (7, [refused], without_results, "refused with error 97, revision not supported"),
+            (7, [accepted, of_revision_7], Controller.FAREWELL, "accepted, and can't be shown: watch reads revisions 1 to 6")):
         controller = Controller(place, "--revision", str(revision))
         link = controller.start(revision)
         link.send(b"".join(run + b"\0" for run in answer))
@@ -234,6 +241,57 @@ def watch_in_each_revision_of_the_host(place):
     equal(host.end(), 0, "status")
 
 
+def alarm_run(i):
+    return openprotocol.write(openprotocol.ALARM, alarm_fields(i), byte_12=b"0") + b"\0"
+
+
+@test
+def watch_shows_alarms(place):
+    """Each alarm is shown with its code, what is ready and its time, and acknowledged then; so is a copy. Another error than that it has no
+    alarms loses the link."""
+    controller = Controller(place, "--count", "1")
+    link = controller.start()
+    for i in (1, 2, 2, 3):
+        link.send(alarm_run(i))
+        controller.expect(link, openprotocol.message(openprotocol.ACKNOWLEDGE_ALARM))
+    link.send(openprotocol.message(openprotocol.REFUSED, data=b"007011"))
+    controller.watch.wait_for("link lost: 0070 refused with error 11, already subscribed to alarms")
+    link = controller.start()
+    link.send(openprotocol.write(openprotocol.ACCEPTED, {"mid": openprotocol.SUBSCRIBE_ALARMS}) + b"\0" + result_run(1))
+    lines = controller.end(link, 0, openprotocol.message(openprotocol.ACKNOWLEDGE_RESULT), *controller.FAREWELL)
+    shown = ["alarm E001 controller ready, tool not ready 2026-03-05 00:00:01",
+             "alarm E002 controller not ready, tool ready 2026-03-05 00:00:02",
+             "alarm E002 controller not ready, tool ready 2026-03-05 00:00:02",
+             "alarm E003 controller ready, tool ready 2026-03-05 00:00:03"]
+    equal(lines[:4] + lines[-2:], [*shown, LINE % "Nm", "ended: 1 results"], "what watch shows")
+
+
+@test
+def watch_without_alarms(place):
+    """A controller that has no alarms, or in another revision only, is watched all the same: watch says so once, over several links too,
+    shows results, and does not unsubscribe from what it has not. With --no-alarms it asks for none, and says nothing."""
+    unsubscribes_alarms, *farewell = Controller.FAREWELL
+    for error, said in ((b"99", "error 99, unknown message"), (b"97", "error 97, revision not supported")):
+        controller = Controller(place, "--count", "1")
+        for _ in range(2):
+            link = controller.start()
+            link.send(openprotocol.message(openprotocol.REFUSED, data=b"0070" + error))
+            controller.watch.wait_for("no alarms are shown: 0070 refused with " + said)
+            link.close()
+            controller.watch.wait_for("link lost: closed by the controller")
+        link = controller.start()
+        link.send(openprotocol.message(openprotocol.REFUSED, data=b"0070" + error) * 2 + result_run(1))
+        lines = controller.end(link, 0, openprotocol.message(openprotocol.ACKNOWLEDGE_RESULT), *farewell)
+        equal([sum(word in line for line in lines) for word in ("no alarms", "link lost", "result 1 ")], [1, 2, 1], "lines of %s" % lines)
+    controller = Controller(place, "--count", "1", "--no-alarms")
+    link = controller.accept()
+    link.send(controller.STARTED)
+    controller.expect(link, *controller.subscribes()[:2])
+    link.send(result_run(1))
+    lines = controller.end(link, 0, openprotocol.message(openprotocol.ACKNOWLEDGE_RESULT), *farewell)
+    equal(lines, [LINE % "Nm", "ended: 1 results"], "what watch shows with --no-alarms")
+
+
 @test
 def watch_used_wrongly(place):
     """A revision that has no three digits, and one that is given where nothing is subscribed to, are wrong usage, and said."""
@@ -260,16 +318,18 @@ def watch_turned_away(place):
 
 @test
 def watch_shows_before_it_acknowledges(place):
-    """A result that can't be shown is not acknowledged."""
+    """A result that can't be shown is not acknowledged, nor is an alarm."""
     host = place.host()
     tool = place.tool()
     command = [os.path.join(ROOT, "tools", "watch"), "--connect", "127.0.0.1:%d" % host.port]
-    watch = subprocess.Popen(command, stdout=subprocess.PIPE)
-    place.links.callback(watch.kill)
-    check(watch.stdout.readline().startswith(b"connected"), "watch does not connect")
-    host.wait_for_log("> 0005(?s:.*)> 0005")
-    watch.stdout.close()
-    tool.tighten(tightening_fields(1), "0")
-    equal(watch.wait(harness.SECONDS), 1, "status of a watch that nobody reads")
-    place.wait_for_hang_up(0)
-    check("> 0061" in host.log() and "< 0062" not in host.log(), "a result that nobody saw is acknowledged:\n%s", host.log())
+    for times, (give, notice, acknowledge) in enumerate(((lambda: tool.tighten(tightening_fields(1), "0"), "0061", "0062"),
+                                                         (lambda: tool.alarm(alarm_fields(1), "0"), "0071", "0072")), 1):
+        watch = subprocess.Popen(command, stdout=subprocess.PIPE)
+        place.links.callback(watch.kill)
+        check(watch.stdout.readline().startswith(b"connected"), "watch does not connect")
+        place.wait_for_journal(lambda records: sum(payload[4:8] == b"0070" for _, payload in records) == times, "watch has subscribed")
+        watch.stdout.close()
+        give()
+        equal(watch.wait(harness.SECONDS), 1, "status of a watch that nobody reads")
+        place.wait_for_hang_up(0, times)
+        check("> " + notice in host.log() and "< " + acknowledge not in host.log(), "what nobody saw is acknowledged:\n%s", host.log())

@@ -17,6 +17,8 @@ enum {
     TIGHTENINGS_HELD =                                 /* a session, the open one included */
         FAULT == NINTH_TAKEN ? 9 : FAULT == SEVEN_NOT_EIGHT ? 7 : 8,
     IDENTIFIERS_HELD = 2,                              /* one open, one waiting */
+    ALARMS_HELD =                                      /* a session, the open one included */
+        FAULT == FIFTH_ALARM_TAKEN ? 5 : FAULT == THREE_ALARMS_NOT_FOUR ? 3 : 4,
     TIGHTENINGS_KEPT = FAULT == KEEPS_65 ? 65 : 64,    /* by the controller, whoever took them */
 
     HEADER_BYTES = 20,
@@ -24,11 +26,17 @@ enum {
     TIME_BYTES = 19,
     SETTINGS_BYTES = 33,   /* the payload of their record */
     TIGHTENING_BYTES = 106,
+    ALARM_BYTES = 25,
+    CODE_BYTES = 4,        /* of an alarm */
     RESULT_BYTES = 211,    /* the data field of 0061 revision 1 */
     RESULT_GREATEST = 506, /* that of revision 6, the longest */
+    IDENTIFIER_REVISION_GREATEST = FAULT == IDENTIFIER_REVISION_3 ? 3 : 2,
     RESULT_REVISION_GREATEST =
         FAULT == REVISION_6_REFUSED ? 5 : FAULT == REVISION_7_TAKEN ? 7 : 6,
+    ALARM_REVISION_GREATEST = FAULT == ALARM_REVISION_2 ? 2 : 1,
     OLD_RESULT_BYTES = 98, /* that of 0065 revision 1 */
+    ALARM_DATA_BYTES =     /* that of 0071 */
+        FAULT == ALARM_WITHOUT_NUMBERS ? 25 : 33,
     NUMBER_DIGITS = 10,    /* of a tightening number, in these and in 0064 */
     DOWNLOAD_GREATEST = FAULT == DOWNLOAD_OF_46 ? 46 : 45, /* length of an 0050 */
     RUN_KEPT = DOWNLOAD_GREATEST,                          /* bytes of a run that anyone reads */
@@ -60,23 +68,83 @@ enum {
     NO_ERROR = 0,
     INVALID_DATA = 1,
     IDENTIFIER_SUBSCRIBED = 6,
-    IDENTIFIER_NOT_SUBSCRIBED = 7,
+    IDENTIFIER_NOT_SUBSCRIBED = FAULT == CODES_07_10_SWAPPED ? 10 : 7,
     NOT_GRANTED = 8,
     TIGHTENING_SUBSCRIBED = 9,
-    TIGHTENING_NOT_SUBSCRIBED = 10,
+    TIGHTENING_NOT_SUBSCRIBED = FAULT == CODES_07_10_SWAPPED ? 7 : 10,
+    ALARM_SUBSCRIBED = FAULT == CODES_11_12_SWAPPED ? 12 : 11,
+    ALARM_NOT_SUBSCRIBED = FAULT == CODES_11_12_SWAPPED ? 11 : 12,
     NUMBER_NOT_KEPT = 15,
     ALREADY_STARTED = 96,
     REVISION_UNSUPPORTED = 97,
     UNKNOWN_MESSAGE = 99
 };
 
+/* The numbers of the messages that are read. */
+enum {
+    MID_START = 1,
+    MID_STOP = 3,
+    MID_DOWNLOAD = 50,
+    MID_SUBSCRIBE_IDENTIFIER = 51,
+    MID_ACKNOWLEDGE_IDENTIFIER = 53,
+    MID_UNSUBSCRIBE_IDENTIFIER = 54,
+    MID_SUBSCRIBE_TIGHTENING = 60,
+    MID_ACKNOWLEDGE_TIGHTENING = 62,
+    MID_UNSUBSCRIBE_TIGHTENING = 63,
+    MID_FETCH = 64,
+    MID_SUBSCRIBE_ALARM = 70,
+    MID_ACKNOWLEDGE_ALARM = 72,
+    MID_UNSUBSCRIBE_ALARM = 73,
+    MID_KEEP_ALIVE = 9999
+};
+
+enum { REVISION_NOT_READ = 999 };
+
+/* ---------------------------------------------------------------- kinds of notice */
+
+/* In the order in which a tick serves them. */
+enum kind { IDENTIFIER = 0, TIGHTENING = 1, ALARM = 2, KINDS = 3 };
+
+/* Where those that a session holds stand. */
+enum {
+    IDENTIFIERS_AT = 0,
+    RESULTS_AT = IDENTIFIERS_AT + IDENTIFIERS_HELD * TEXT_BYTES,
+    ALARMS_AT = RESULTS_AT + TIGHTENINGS_HELD * RESULT_BYTES,
+    NOTICES_BYTES = ALARMS_AT + ALARMS_HELD * ALARM_DATA_BYTES
+};
+
+/* What a kind has of its own; in all else the kinds are alike. */
+struct kind_rule {
+    unsigned notice, subscribe, acknowledge, unsubscribe; /* its message numbers */
+    unsigned subscribed, not_subscribed;                  /* its errors */
+    unsigned greatest_revision;
+    unsigned held; /* by a session at most, the open one included */
+    bool replaced; /* where there is room for no more: the one that came last, by the newest */
+    size_t at;     /* among the notices that a session holds */
+    size_t bytes;  /* of one that is held */
+};
+
+static const struct kind_rule KIND_RULES[KINDS] = {
+    [IDENTIFIER] = {
+        52, MID_SUBSCRIBE_IDENTIFIER, MID_ACKNOWLEDGE_IDENTIFIER, MID_UNSUBSCRIBE_IDENTIFIER,
+        IDENTIFIER_SUBSCRIBED, IDENTIFIER_NOT_SUBSCRIBED,
+        IDENTIFIER_REVISION_GREATEST, IDENTIFIERS_HELD, true, IDENTIFIERS_AT, TEXT_BYTES
+    },
+    [TIGHTENING] = {
+        61, MID_SUBSCRIBE_TIGHTENING, MID_ACKNOWLEDGE_TIGHTENING, MID_UNSUBSCRIBE_TIGHTENING,
+        TIGHTENING_SUBSCRIBED, TIGHTENING_NOT_SUBSCRIBED,
+        RESULT_REVISION_GREATEST, TIGHTENINGS_HELD, false, RESULTS_AT, RESULT_BYTES
+    },
+    [ALARM] = {
+        71, MID_SUBSCRIBE_ALARM, MID_ACKNOWLEDGE_ALARM, MID_UNSUBSCRIBE_ALARM,
+        ALARM_SUBSCRIBED, ALARM_NOT_SUBSCRIBED,
+        ALARM_REVISION_GREATEST, ALARMS_HELD, FAULT == FIFTH_ALARM_REPLACES, ALARMS_AT, ALARM_DATA_BYTES
+    },
+};
+
 /* ---------------------------------------------------------------- state */
 
 enum phase { CLOSED = 0, OPENED = 1, STARTED = 2 };
-
-/* The two kinds of notice, in the order in which a tick serves them, and what is held of each. */
-enum kind { IDENTIFIER = 0, TIGHTENING = 1, KINDS = 2 };
-static const size_t NOTICE_BYTES[KINDS] = { TEXT_BYTES, RESULT_BYTES };
 
 /* A subscription and the notices that it holds; notice 0 is the open one. */
 struct subscription {
@@ -93,8 +161,7 @@ struct session {
     unsigned run_length; /* bytes since the last NUL, at most RUN_COUNTED */
     uint8_t run[RUN_KEPT];
     struct subscription subscription[KINDS];
-    uint8_t identifier[IDENTIFIERS_HELD][TEXT_BYTES];
-    uint8_t result[TIGHTENINGS_HELD][RESULT_BYTES];
+    uint8_t notice[NOTICES_BYTES];
 };
 
 /* The last tightenings, as the data fields that 0065 tells them by. Their numbers follow on one
@@ -226,7 +293,7 @@ static void put_bytes(struct writer *writer, const uint8_t *bytes, size_t count)
 
 /* The fields of records and frames, in the order in which payloads have them: those of a settings
    record, those of a tightening, of which the first is all that a scanned identifier's record has,
-   and what frames have besides. */
+   those of an alarm, and what frames have besides. */
 enum field_name {
     CELL, CHANNEL, GRANTED, NAME, LAST,
     IDENTIFIER_TEXT, JOB, PARAMETER_SET, BATCH_SIZE, BATCH_COUNTER,
@@ -234,6 +301,7 @@ enum field_name {
     TORQUE_MIN, TORQUE_MAX, TORQUE_TARGET, TORQUE,
     ANGLE_MIN, ANGLE_MAX, ANGLE_TARGET, ANGLE,
     TIGHTENED_AT, SET_CHANGED_AT, BATCH_STATUS,
+    ALARM_CODE, CONTROLLER_READY, TOOL_READY, ALARMED_AT,
     RESULT_NUMBER, BLANK, UNREPORTED, UNREPORTED_TEXT, TORQUE_UNIT
 };
 
@@ -241,7 +309,7 @@ enum field_name {
 enum sort { NUMBER, TEXT, TIME, SPACES, ZEROS, ONES };
 
 /* Where the value of a field comes from: the settings, or what an event tells, which is an
-   identifier, or a tightening with its number behind it. */
+   identifier, a tightening with its number behind it, or an alarm. */
 enum source { SETTINGS, EVENT, SOURCES };
 
 struct field {
@@ -277,6 +345,10 @@ static const struct field FIELDS[] = {
     [TIGHTENED_AT] = { TIME, EVENT, 67, TIME_BYTES, 0 },
     [SET_CHANGED_AT] = { TIME, EVENT, 86, TIME_BYTES, 0 },
     [BATCH_STATUS] = { NUMBER, EVENT, 105, 1, 2 },
+    [ALARM_CODE] = { TEXT, EVENT, 0, FAULT == CODE_UNTESTED ? 0 : CODE_BYTES, 0 },
+    [CONTROLLER_READY] = { NUMBER, EVENT, 4, 1, 1 },
+    [TOOL_READY] = { NUMBER, EVENT, 5, 1, FAULT == READY_2_TAKEN ? 2 : 1 },
+    [ALARMED_AT] = { FAULT == ALARM_TIME_UNTESTED ? TEXT : TIME, EVENT, 6, TIME_BYTES, 0 },
     [RESULT_NUMBER] = { NUMBER, EVENT, TIGHTENING_BYTES, 4, 0 },
     [BLANK] = { SPACES, EVENT, 0, 0, 0 },
     [UNREPORTED] = { ZEROS, EVENT, 0, 0, 0 },
@@ -301,6 +373,7 @@ enum {
     RECORD_KIND_TIGHTENING = 1,
     RECORD_KIND_SCANNED = 2,
     RECORD_KIND_SETTINGS = 3,
+    RECORD_KIND_ALARM = 5,
     RECORD_KIND_FRAME = 256,
     RECORD_KIND_CLOSE = 512
 };
@@ -338,8 +411,7 @@ static const uint8_t MARK[8] = { 'o', 'p', '-', 'i', 'n', 'd', 'e', 'p' };
 
 enum {
     SUBSCRIPTION_TABLE_BYTES = 5,
-    SESSION_TABLE_BYTES = 4 + RUN_KEPT + KINDS * SUBSCRIPTION_TABLE_BYTES
-        + IDENTIFIERS_HELD * TEXT_BYTES + TIGHTENINGS_HELD * RESULT_BYTES,
+    SESSION_TABLE_BYTES = 4 + RUN_KEPT + KINDS * SUBSCRIPTION_TABLE_BYTES + NOTICES_BYTES,
     SESSIONS_AT = sizeof MARK + SETTINGS_BYTES + TEXT_BYTES,
     MEMORY_AT = SESSIONS_AT + SESSIONS * SESSION_TABLE_BYTES,
     MEMORY_TABLE_BYTES = 2 + TIGHTENINGS_KEPT * OLD_RESULT_BYTES
@@ -348,22 +420,15 @@ enum {
 static_assert(MEMORY_AT + MEMORY_TABLE_BYTES <= INDEPENDENT_TABLE_BYTES,
               "the state fits the table");
 
-static unsigned held_at_most(enum kind kind)
-{
-    return kind == IDENTIFIER ? IDENTIFIERS_HELD : TIGHTENINGS_HELD;
-}
-
-/* Where the notices that a session holds stand, the open one first. */
+/* The notices of a kind that a session holds, the open one first. */
 static uint8_t *notices(struct session *session, enum kind kind)
 {
-    return kind == IDENTIFIER ? session->identifier[0] : session->result[0];
+    return session->notice + KIND_RULES[kind].at;
 }
 
 static unsigned revision_at_most(enum kind kind)
 {
-    if (kind == TIGHTENING || FAULT == REVISION_OF_BOTH_KINDS)
-        return RESULT_REVISION_GREATEST;
-    return FAULT == IDENTIFIER_REVISION_3 ? 3 : 2;
+    return FAULT == REVISION_OF_ALL_KINDS ? RESULT_REVISION_GREATEST : KIND_RULES[kind].greatest_revision;
 }
 
 static unsigned run_kept(const struct session *session)
@@ -401,7 +466,7 @@ static bool load_subscription(struct reader *reader, struct subscription *part,
     part->count = take_number(reader, 1);
     part->clock = take_number(reader, 1);
     return flags && part->revision <= revision_at_most(kind)
-        && part->count <= held_at_most(kind) && part->clock < GIVE_UP_TICKS
+        && part->count <= KIND_RULES[kind].held && part->clock < GIVE_UP_TICKS
         && subscription_consistent(part, phase);
 }
 
@@ -414,13 +479,12 @@ static bool load_run(struct reader *reader, struct session *session)
     return memchr(session->run, 0, run_kept(session)) == NULL;
 }
 
-/* Of the notices' places only the first `count` are read; the counts are tested before. */
-static bool load_notices(struct reader *reader, struct session *session, enum kind kind)
+/* Of a kind's places only the first `count` are read; the counts are tested before. */
+static bool load_notices(const uint8_t *bytes, struct session *session, enum kind kind)
 {
-    size_t held = session->subscription[kind].count * NOTICE_BYTES[kind];
-    const uint8_t *bytes = take_bytes(reader, held_at_most(kind) * NOTICE_BYTES[kind]);
-    memcpy(notices(session, kind), bytes, held);
-    return is_text(bytes, held);
+    size_t held = session->subscription[kind].count * KIND_RULES[kind].bytes;
+    memcpy(notices(session, kind), bytes + KIND_RULES[kind].at, held);
+    return is_text(notices(session, kind), held);
 }
 
 static bool load_session(const uint8_t *bytes, struct session *session)
@@ -439,8 +503,10 @@ static bool load_session(const uint8_t *bytes, struct session *session)
         if (!load_subscription(&reader, &session->subscription[kind], (enum kind)kind,
                                session->phase))
             return false;
-    return load_notices(&reader, session, IDENTIFIER)
-        && load_notices(&reader, session, TIGHTENING);
+    for (unsigned kind = 0; kind < KINDS; kind++)
+        if (!load_notices(reader.at, session, (enum kind)kind))
+            return false;
+    return true;
 }
 
 /* What the memory of a correct program keeps to: each kept tightening had a number of its own,
@@ -499,9 +565,10 @@ static void save_session(uint8_t *bytes, const struct session *session)
         put_number(&writer, 1, part->count);
         put_number(&writer, 1, part->clock);
     }
-    memcpy(writer.at, session->identifier, session->subscription[IDENTIFIER].count * TEXT_BYTES);
-    writer.at += sizeof session->identifier;
-    memcpy(writer.at, session->result, session->subscription[TIGHTENING].count * RESULT_BYTES);
+    for (unsigned kind = 0; kind < KINDS; kind++) {
+        const struct kind_rule *rule = &KIND_RULES[kind];
+        memcpy(writer.at + rule->at, session->notice + rule->at, session->subscription[kind].count * rule->bytes);
+    }
 }
 
 static void save_memory(uint8_t *bytes, const struct memory *memory)
@@ -531,7 +598,7 @@ struct output {
     size_t written;
 };
 
-/* By the rules a call writes at most 4 x (133 + 531) bytes; what would not fit is
+/* By the rules a call writes at most 4 x (133 + 531 + 58) bytes; what would not fit is
    left out rather than written past the end. */
 static void put_record(struct output *output, unsigned record_kind, const uint8_t *payload, size_t length)
 {
@@ -687,6 +754,14 @@ static const struct row OLD_RESULT_ROWS[] = {
     { TORQUE, 6 }, { ANGLE, 5 }, { TIGHTENED_AT, 19 }, { BATCH_STATUS, 1 }
 };
 
+/* 000, Table 35. */
+static const struct row ALARM_ROWS[] = {
+    { ALARM_CODE, CODE_BYTES },
+    { FAULT == TOOL_BEFORE_CONTROLLER ? TOOL_READY : CONTROLLER_READY, 1 },
+    { FAULT == TOOL_BEFORE_CONTROLLER ? CONTROLLER_READY : TOOL_READY, 1 },
+    { ALARMED_AT, 19 }
+};
+
 static const struct layout STARTED_1 = { true, RESULT_ROWS, 3 }; /* cell, channel, name */
 static const struct layout IDENTIFIER_1 = {
     FAULT == NUMBER_KEPT_IN_REVISION_1, IDENTIFIER_ROWS, 1
@@ -696,6 +771,7 @@ static const struct layout IDENTIFIER_2 = {
 };
 static const struct layout RESULT_1 = { true, RESULT_ROWS, 23 };
 static const struct layout OLD_RESULT_1 = { true, OLD_RESULT_ROWS, 11 };
+static const struct layout ALARM_1 = { FAULT != ALARM_WITHOUT_NUMBERS, ALARM_ROWS, 4 };
 
 /* The character that fills a field of which no value is read, or 0. */
 static char filling(enum sort sort)
@@ -719,9 +795,10 @@ static void add_fields(struct frame *frame, const struct layout *layout,
                        const uint8_t *settings, const uint8_t *event)
 {
     const uint8_t *const sources[SOURCES] = { [SETTINGS] = settings, [EVENT] = event };
+    unsigned first = FAULT == NUMBERED_AS_IN_0076 && layout == &ALARM_1 ? 2 : 1;
     for (unsigned i = 0; i < layout->count; i++) {
         if (layout->numbered)
-            add_digits(frame, 2, i + 1);
+            add_digits(frame, 2, first + i);
         add_field(frame, &layout->rows[i], sources);
     }
 }
@@ -853,19 +930,21 @@ static unsigned told_in(const struct subscription *part, enum kind kind)
     return in_1 && kind == TIGHTENING ? 1 : part->revision;
 }
 
-/* Puts out a copy of a notice: an identifier, or a result. */
+/* Puts out a copy of a notice: an identifier, a result, or an alarm. */
 static void send_notice(const struct state *state, unsigned s, enum kind kind,
                         const uint8_t *notice, struct output *output)
 {
     const struct subscription *part = &state->session[s].subscription[kind];
     unsigned revision = told_in(part, kind);
     bool header_of_1 = FAULT == REVISION_1_IN_THE_HEADER && kind == TIGHTENING;
-    struct frame frame = begin_frame(kind == IDENTIFIER ? 52 : 61, header_of_1 ? 1 : revision,
+    struct frame frame = begin_frame(KIND_RULES[kind].notice, header_of_1 ? 1 : revision,
                                      part->free ? '1' : '0');
     if (kind == IDENTIFIER)
         add_fields(&frame, revision >= 2 ? &IDENTIFIER_2 : &IDENTIFIER_1, state->settings, notice);
-    else
+    else if (kind == TIGHTENING)
         add_result(&frame, revision, notice);
+    else
+        add_bytes(&frame, notice, ALARM_DATA_BYTES);
     if (FAULT == STAMPED_WHEN_SENT && kind == TIGHTENING) { /* only now, where it is blank */
         uint8_t *identifier = frame.bytes + HEADER_BYTES + 39;
         if (all_spaces(identifier, TEXT_BYTES))
@@ -885,15 +964,15 @@ static void drop_open(struct session *session, enum kind kind)
     part->count -= 1;
     if (FAULT != CLOCK_NOT_RESET || part->count == 0)
         part->clock = 0;
-    memmove(notices(session, kind), notices(session, kind) + NOTICE_BYTES[kind],
-            part->count * NOTICE_BYTES[kind]);
+    memmove(notices(session, kind), notices(session, kind) + KIND_RULES[kind].bytes,
+            part->count * KIND_RULES[kind].bytes);
 }
 
 /* Planted: results that wait are looked for in the memory, so that those too old for it are lost. */
 static bool lost(const struct state *state, unsigned s)
 {
     const struct session *session = &state->session[s];
-    const uint8_t *digits = session->result[0] + RESULT_BYTES - NUMBER_DIGITS;
+    const uint8_t *digits = session->notice + RESULTS_AT + RESULT_BYTES - NUMBER_DIGITS;
     return session->subscription[TIGHTENING].count > 0
         && find_kept(state, decimal(digits, NUMBER_DIGITS)) == NULL;
 }
@@ -945,7 +1024,7 @@ static void hold(struct state *state, unsigned s, enum kind kind, const uint8_t 
 {
     struct session *session = &state->session[s];
     struct subscription *part = &session->subscription[kind];
-    memcpy(notices(session, kind) + part->count * NOTICE_BYTES[kind], notice, NOTICE_BYTES[kind]);
+    memcpy(notices(session, kind) + part->count * KIND_RULES[kind].bytes, notice, KIND_RULES[kind].bytes);
     part->count += 1;
     if (FAULT == ARRIVAL_RESETS_CLOCK)
         part->clock = 0;
@@ -964,8 +1043,8 @@ static bool offer(struct state *state, unsigned s, enum kind kind, const uint8_t
         send_notice(state, s, kind, notice, output);
         return FAULT != FREE_SESSION_NOT_TAKEN;
     }
-    if (part->count == held_at_most(kind)) {
-        if (kind == TIGHTENING)
+    if (part->count == KIND_RULES[kind].held) {
+        if (!KIND_RULES[kind].replaced)
             return false;
         if (FAULT == WAITING_NOT_REPLACED)
             return true;
@@ -1031,7 +1110,42 @@ static uint64_t tightening_event(struct state *state, const uint8_t *tightening,
     return taken;
 }
 
+/* Planted: an alarm is counted or kept as a tightening, or becomes the identifier in force. */
+static void leave_its_mark(struct state *state, const uint8_t *alarm)
+{
+    uint8_t place[OLD_RESULT_BYTES];
+    uint32_t last = number_in(state->settings, LAST);
+    if (FAULT == ALARM_COUNTED && last < LAST_NUMBER_GREATEST)
+        put_number_in(state->settings, LAST, last + 1);
+    memset(place, ' ', sizeof place);
+    memcpy(place, alarm, CODE_BYTES);
+    if (FAULT == ALARM_KEPT)
+        keep(&state->memory, place);
+    if (FAULT == ALARM_IN_FORCE)
+        memcpy(state->in_force, place, TEXT_BYTES);
+}
+
+/* What is told of an alarm is made when it comes, too; there is nothing else that it changes. */
+static uint64_t alarm_event(struct state *state, const uint8_t *alarm, struct output *output)
+{
+    struct frame data = { .length = 0 };
+    add_fields(&data, &ALARM_1, state->settings, alarm);
+    assert(data.length == ALARM_DATA_BYTES);
+    leave_its_mark(state, alarm);
+    uint64_t taken = offer_all(state, ALARM, data.bytes, SESSIONS, output);
+    return FAULT == ALARM_NOT_IN_TAKEN ? 0 : taken;
+}
+
 /* ---------------------------------------------------------------- sessions */
+
+/* Planted: notices live on, where `keeping` is the fault that keeps those of every kind. */
+static bool lives_on(enum kind kind, enum fault keeping)
+{
+    enum fault alone = keeping == KEPT_THROUGH_HANG_UP ? ALARMS_KEPT_THROUGH_HANG_UP
+        : keeping == KEPT_THROUGH_STOP ? ALARMS_KEPT_THROUGH_STOP
+        : ALARMS_KEPT_THROUGH_TIME_OUT;
+    return FAULT == (int)keeping || (FAULT == (int)alone && kind == ALARM);
+}
 
 /* Ends what a session had. Nothing lives on: no subscription, no notice, open or
    waiting, no part of a run. `keeping` is the planted fault that keeps the notices here. */
@@ -1042,14 +1156,13 @@ static void clear_session(struct session *session, enum phase next, enum fault k
     session->phase = next;
     if (FAULT == NO_FAULT)
         return;
-    if (FAULT == (int)keeping) {
-        memcpy(session->identifier, before.identifier, sizeof before.identifier);
-        memcpy(session->result, before.result, sizeof before.result);
-        for (unsigned kind = 0; kind < KINDS; kind++) {
-            session->subscription[kind].count = before.subscription[kind].count;
-            session->subscription[kind].clock = before.subscription[kind].clock;
-            session->subscription[kind].revision = before.subscription[kind].revision;
-        }
+    memcpy(session->notice, before.notice, sizeof before.notice);
+    for (unsigned kind = 0; kind < KINDS; kind++) {
+        if (!lives_on((enum kind)kind, keeping))
+            continue;
+        session->subscription[kind].count = before.subscription[kind].count;
+        session->subscription[kind].clock = before.subscription[kind].clock;
+        session->subscription[kind].revision = before.subscription[kind].revision;
     }
     if (FAULT == CLOSE_CLEARS_NOTHING && next == CLOSED) {
         *session = before;
@@ -1066,7 +1179,7 @@ static void clear_session(struct session *session, enum phase next, enum fault k
 static void tick_notice(struct state *state, unsigned s, enum kind kind, struct output *output)
 {
     struct subscription *part = &state->session[s].subscription[kind];
-    if (part->count == 0)
+    if (part->count == 0 || (FAULT == ALARM_CLOCK_STANDS && kind == ALARM))
         return;
     part->clock += 1;
     if (part->clock >= GIVE_UP_TICKS) {
@@ -1082,6 +1195,15 @@ static void tick_notice(struct state *state, unsigned s, enum kind kind, struct 
     }
 }
 
+/* The kinds of one session, one after the other. */
+static void tick_notices(struct state *state, unsigned s, struct output *output)
+{
+    static const enum kind PLANTED[KINDS] = { IDENTIFIER, ALARM, TIGHTENING };
+    for (unsigned kind = 0; kind < KINDS; kind++)
+        if (FAULT != ALARMS_BEHIND_ALL_SESSIONS || kind != ALARM)
+            tick_notice(state, s, FAULT == ALARMS_BEFORE_RESULTS ? PLANTED[kind] : (enum kind)kind, output);
+}
+
 static void tick_session(struct state *state, unsigned s, struct output *output)
 {
     struct session *session = &state->session[s];
@@ -1090,8 +1212,7 @@ static void tick_session(struct state *state, unsigned s, struct output *output)
     session->idle += 1;
     bool over = session->idle == IDLE_LIMIT;
     if (!over || FAULT == RESENT_ON_TIME_OUT)
-        for (unsigned kind = 0; kind < KINDS; kind++)
-            tick_notice(state, s, (enum kind)kind, output);
+        tick_notices(state, s, output);
     if (over) {
         put_record(output, RECORD_KIND_CLOSE + s, NULL, 0);
         clear_session(session, CLOSED, KEPT_THROUGH_TIME_OUT);
@@ -1100,22 +1221,6 @@ static void tick_session(struct state *state, unsigned s, struct output *output)
 }
 
 /* ---------------------------------------------------------------- messages */
-
-enum {
-    MID_START = 1,
-    MID_STOP = 3,
-    MID_DOWNLOAD = 50,
-    MID_SUBSCRIBE_IDENTIFIER = 51,
-    MID_ACKNOWLEDGE_IDENTIFIER = 53,
-    MID_UNSUBSCRIBE_IDENTIFIER = 54,
-    MID_SUBSCRIBE_TIGHTENING = 60,
-    MID_ACKNOWLEDGE_TIGHTENING = 62,
-    MID_UNSUBSCRIBE_TIGHTENING = 63,
-    MID_FETCH = 64,
-    MID_KEEP_ALIVE = 9999
-};
-
-enum { REVISION_NOT_READ = 999 };
 
 /* The lengths and the greatest revision of each message; the least revision is 1. */
 struct rule {
@@ -1129,7 +1234,7 @@ static const struct rule RULES[] = {
     { MID_START, 20, 20, 1 },
     { MID_STOP, 20, 20, REVISION_NOT_READ },
     { MID_DOWNLOAD, 21, DOWNLOAD_GREATEST, 1 },
-    { MID_SUBSCRIBE_IDENTIFIER, 20, 20, FAULT == IDENTIFIER_REVISION_3 ? 3 : 2 },
+    { MID_SUBSCRIBE_IDENTIFIER, 20, 20, IDENTIFIER_REVISION_GREATEST },
     { MID_ACKNOWLEDGE_IDENTIFIER, 20, 20, REVISION_NOT_READ },
     { MID_UNSUBSCRIBE_IDENTIFIER, 20, 20, REVISION_NOT_READ },
     { MID_SUBSCRIBE_TIGHTENING, 20, 20, RESULT_REVISION_GREATEST },
@@ -1137,6 +1242,9 @@ static const struct rule RULES[] = {
     { MID_UNSUBSCRIBE_TIGHTENING, 20, 20, REVISION_NOT_READ },
     { MID_FETCH, HEADER_BYTES + NUMBER_DIGITS, HEADER_BYTES + NUMBER_DIGITS,
       FAULT == FETCH_REVISION_NOT_READ ? REVISION_NOT_READ : 1 },
+    { MID_SUBSCRIBE_ALARM, 20, 20, ALARM_REVISION_GREATEST },
+    { MID_ACKNOWLEDGE_ALARM, 20, 20, REVISION_NOT_READ },
+    { MID_UNSUBSCRIBE_ALARM, 20, 20, FAULT == REVISION_OF_0073_READ ? 1 : REVISION_NOT_READ },
     { MID_KEEP_ALIVE, 20, 20, REVISION_NOT_READ },
 };
 
@@ -1269,17 +1377,18 @@ static void subscribe(struct session *session, unsigned s, enum kind kind,
 {
     struct subscription *part = &session->subscription[kind];
     if (part->subscribed) {
-        send_error(output, s, message->mid,
-                   kind == IDENTIFIER ? IDENTIFIER_SUBSCRIBED : TIGHTENING_SUBSCRIBED);
+        send_error(output, s, message->mid, KIND_RULES[kind].subscribed);
         return;
     }
     part->subscribed = true;
     if (FAULT != REVISION_STICKS || part->revision == 0)
         part->revision = message->revision;
-    if (FAULT == REVISION_OF_BOTH_KINDS)
-        for (unsigned both = 0; both < KINDS; both++)
-            session->subscription[both].revision = message->revision;
+    if (FAULT == REVISION_OF_ALL_KINDS)
+        for (unsigned each = 0; each < KINDS; each++)
+            session->subscription[each].revision = message->revision;
     part->free = message->free || (FAULT == FREE_FLAG_STICKS && part->free);
+    if (FAULT == BYTE_12_OF_0070_NOT_READ && kind == ALARM)
+        part->free = false;
     send_accepted(output, s, message->mid);
 }
 
@@ -1298,19 +1407,32 @@ static void forget(struct subscription *part)
         part->revision = before.revision;
 }
 
+/* Planted: 0073 leaves the open alarm, or those that wait. */
+static void leave_alarms(struct session *session, const struct subscription *before)
+{
+    struct subscription *part = &session->subscription[ALARM];
+    if (before->count == 0)
+        return;
+    part->revision = before->revision;
+    part->clock = before->clock;
+    part->count = FAULT == OPEN_ALARM_LEFT ? 1 : before->count;
+    if (FAULT == WAITING_ALARMS_LEFT)
+        drop_open(session, ALARM);
+}
+
 static void unsubscribe(struct session *session, unsigned s, enum kind kind,
                         const struct message *message, struct output *output)
 {
-    unsigned error = kind == IDENTIFIER ? IDENTIFIER_NOT_SUBSCRIBED : TIGHTENING_NOT_SUBSCRIBED;
-    if (FAULT == CODES_07_10_SWAPPED)
-        error = kind == IDENTIFIER ? TIGHTENING_NOT_SUBSCRIBED : IDENTIFIER_NOT_SUBSCRIBED;
-    if (!session->subscription[kind].subscribed) {
-        send_error(output, s, message->mid, error);
+    struct subscription before = session->subscription[kind];
+    if (!before.subscribed) {
+        send_error(output, s, message->mid, KIND_RULES[kind].not_subscribed);
         return;
     }
     forget(&session->subscription[kind]);
-    if (FAULT == UNSUBSCRIBE_CLEARS_BOTH)
-        forget(&session->subscription[kind == IDENTIFIER ? TIGHTENING : IDENTIFIER]);
+    if (kind == ALARM && (FAULT == OPEN_ALARM_LEFT || FAULT == WAITING_ALARMS_LEFT))
+        leave_alarms(session, &before);
+    for (unsigned each = 0; FAULT == UNSUBSCRIBE_CLEARS_ALL && each < KINDS; each++)
+        forget(&session->subscription[each]);
     send_accepted(output, s, message->mid);
 }
 
@@ -1346,6 +1468,23 @@ static void stop(struct state *state, unsigned s, struct output *output)
     send_accepted(output, s, MID_STOP);
 }
 
+/* The kind of notice that a message subscribes to, acknowledges or unsubscribes. */
+static enum kind kind_of(unsigned mid)
+{
+    unsigned kind = 0;
+    while (mid < KIND_RULES[kind].subscribe || mid > KIND_RULES[kind].unsubscribe)
+        kind++;
+    return (enum kind)kind;
+}
+
+static bool is_acknowledge(unsigned mid)
+{
+    for (unsigned kind = 0; kind < KINDS; kind++)
+        if (mid == KIND_RULES[kind].acknowledge)
+            return true;
+    return false;
+}
+
 /* What a message does that has passed the tests of length and revision. */
 static void perform(struct state *state, unsigned s, const struct message *message,
                     struct output *output)
@@ -1359,16 +1498,14 @@ static void perform(struct state *state, unsigned s, const struct message *messa
         download(state, s, message, output);
         break;
     case MID_SUBSCRIBE_IDENTIFIER:
-        subscribe(session, s, IDENTIFIER, message, output);
+    case MID_SUBSCRIBE_TIGHTENING:
+    case MID_SUBSCRIBE_ALARM:
+        subscribe(session, s, kind_of(message->mid), message, output);
         break;
     case MID_UNSUBSCRIBE_IDENTIFIER:
-        unsubscribe(session, s, IDENTIFIER, message, output);
-        break;
-    case MID_SUBSCRIBE_TIGHTENING:
-        subscribe(session, s, TIGHTENING, message, output);
-        break;
     case MID_UNSUBSCRIBE_TIGHTENING:
-        unsubscribe(session, s, TIGHTENING, message, output);
+    case MID_UNSUBSCRIBE_ALARM:
+        unsubscribe(session, s, kind_of(message->mid), message, output);
         break;
     case MID_FETCH:
         fetch(state, s, message, output);
@@ -1381,29 +1518,46 @@ static void perform(struct state *state, unsigned s, const struct message *messa
     }
 }
 
-/* 0053 and 0062: never a reply, and nothing at all where the length is wrong. */
+/* 0053, 0062 and 0072: never a reply, and nothing at all where the length is wrong. */
 static void perform_acknowledge(struct state *state, unsigned s, const struct rule *rule,
                                 const struct message *message, struct output *output)
 {
-    enum kind kind = message->mid == MID_ACKNOWLEDGE_IDENTIFIER ? IDENTIFIER : TIGHTENING;
-    if (length_wrong(rule, message) && FAULT != LONG_ACKNOWLEDGE_TAKEN)
+    enum kind kind = kind_of(message->mid);
+    if (length_wrong(rule, message) && FAULT != LONG_ACKNOWLEDGE_TAKEN) {
+        if (FAULT == LONG_0072_REFUSED && kind == ALARM)
+            send_error(output, s, message->mid, INVALID_DATA);
         return;
-    acknowledge(state, s, kind, output);
-}
-
-static bool is_acknowledge(unsigned mid)
-{
-    return mid == MID_ACKNOWLEDGE_IDENTIFIER || mid == MID_ACKNOWLEDGE_TIGHTENING;
+    }
+    if (FAULT == REPLY_TO_0072 && kind == ALARM)
+        send_accepted(output, s, message->mid);
+    acknowledge(state, s, FAULT == RESULT_CLOSED_BY_0072 && kind == ALARM ? TIGHTENING : kind, output);
+    if (FAULT == ALARM_CLOSED_BY_0062 && kind == TIGHTENING)
+        acknowledge(state, s, ALARM, output);
 }
 
 /* Planted: an acknowledge that finds nothing open, or an 0064, is taken for no sign of life. */
 static bool overlooked(const struct session *session, unsigned mid)
 {
-    enum kind kind = mid == MID_ACKNOWLEDGE_IDENTIFIER ? IDENTIFIER : TIGHTENING;
     if (FAULT == FETCH_KEEPS_IDLE && mid == MID_FETCH)
         return true;
     return FAULT == EMPTY_ACKNOWLEDGE_KEEPS_IDLE && is_acknowledge(mid)
-        && session->subscription[kind].count == 0;
+        && session->subscription[kind_of(mid)].count == 0;
+}
+
+/* Planted: what only the controller sends, or what would acknowledge a message that is not built, gets no reply. */
+static bool unanswered(unsigned mid)
+{
+    return (FAULT == SILENCE_FOR_0071 && mid == 71)
+        || (FAULT == SILENCE_FOR_0075_AND_0077 && (mid == 75 || mid == 77));
+}
+
+/* The tests of length and revision; planted: 11 before the latter. */
+static unsigned test_of(const struct session *session, const struct rule *rule, const struct message *message)
+{
+    if (FAULT == SUBSCRIBED_BEFORE_REVISION && message->mid == MID_SUBSCRIBE_ALARM
+        && !length_wrong(rule, message) && session->subscription[ALARM].subscribed)
+        return ALARM_SUBSCRIBED;
+    return test_form(rule, message);
 }
 
 /* 96 for a second 0001, which comes before the test of its length. */
@@ -1422,7 +1576,8 @@ static void message_when_started(struct state *state, unsigned s, const struct m
     if (!overlooked(session, message->mid))
         session->idle = 0;
     if (rule == NULL) {
-        send_error(output, s, message->mid, UNKNOWN_MESSAGE);
+        if (!unanswered(message->mid))
+            send_error(output, s, message->mid, UNKNOWN_MESSAGE);
         return;
     }
     if (message->mid == MID_START) {
@@ -1433,7 +1588,7 @@ static void message_when_started(struct state *state, unsigned s, const struct m
         perform_acknowledge(state, s, rule, message, output);
         return;
     }
-    unsigned error = test_form(rule, message);
+    unsigned error = test_of(session, rule, message);
     if (error != NO_ERROR) {
         send_error(output, s, message->mid, error);
         return;
@@ -1683,6 +1838,8 @@ uint64_t independent_tick(uint8_t *table, size_t table_len,
         return refuse(answer, number);
     for (unsigned i = 0; i < SESSIONS; i++)
         tick_session(&state, in_turn(i), &gathered);
+    for (unsigned s = 0; FAULT == ALARMS_BEHIND_ALL_SESSIONS && s < SESSIONS; s++)
+        tick_notice(&state, s, ALARM, &gathered);
     return finish(table, &state, output, &gathered, answer, 0, 0);
 }
 
@@ -1701,8 +1858,22 @@ static uint64_t judge_tightening(const struct state *state, const uint8_t *recor
 
 static bool is_scanned(const uint8_t *record, size_t length)
 {
-    return is_record(record, length, RECORD_KIND_SCANNED, TEXT_BYTES)
+    return (is_record(record, length, RECORD_KIND_SCANNED, TEXT_BYTES)
+            || (FAULT == TEXT_OF_KIND_5_SCANNED && is_record(record, length, RECORD_KIND_ALARM, TEXT_BYTES)))
         && fields_good(record + RECORD_HEADER_BYTES, IDENTIFIER_TEXT, IDENTIFIER_TEXT);
+}
+
+/* Reads an alarm; false where the record is none. */
+static bool read_alarm(const uint8_t *record, size_t length, uint8_t *alarm)
+{
+    if (!is_record(record, length, RECORD_KIND_ALARM, ALARM_BYTES)
+        && !(FAULT == ALARM_OF_KIND_2 && is_record(record, length, RECORD_KIND_SCANNED, ALARM_BYTES)))
+        return false;
+    memcpy(alarm, record + RECORD_HEADER_BYTES, ALARM_BYTES);
+    for (unsigned ready = CODE_BYTES; FAULT == READY_DIGITS_TAKEN && ready < CODE_BYTES + 2; ready++)
+        if (alarm[ready] == '0' || alarm[ready] == '1')
+            alarm[ready] -= '0';
+    return fields_good(alarm, ALARM_CODE, ALARMED_AT);
 }
 
 uint64_t independent_record(uint8_t *table, size_t table_len,
@@ -1712,6 +1883,7 @@ uint64_t independent_record(uint8_t *table, size_t table_len,
 {
     struct state state = { 0 };
     struct output gathered = { .written = 0 };
+    uint8_t alarm[ALARM_BYTES];
     uint64_t taken;
     if (answer_len < INDEPENDENT_ANSWER_BYTES)
         return ANSWER_SHORT;
@@ -1720,6 +1892,10 @@ uint64_t independent_record(uint8_t *table, size_t table_len,
         return refuse(answer, number);
     if (is_scanned(record, record_len)) {
         taken = identifier_event(&state, record + RECORD_HEADER_BYTES, SESSIONS, &gathered);
+    } else if (read_alarm(record, record_len, alarm)) {
+        if (FAULT == ALARM_GETS_8 && number_in(state.settings, LAST) == LAST_NUMBER_GREATEST)
+            return refuse(answer, NUMBERS_USED_UP);
+        taken = alarm_event(&state, alarm, &gathered);
     } else {
         number = judge_tightening(&state, record, record_len);
         if (FAULT == REFUSED_8_KEPT && number == NUMBERS_USED_UP) {

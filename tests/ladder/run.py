@@ -136,10 +136,16 @@ def test_stories():
 
 
 def test_columns():
-    """No line of a picture is longer than 140 columns."""
+    """No line of a picture is longer than 140 columns; of text, where it has the rails of five servers at most."""
+    wide = []
     for name, data in written_histories() + [("seed %d" % seed, generate.generate(seed)) for seed in SEEDS]:
         for options in ([], ["--svg"]):
-            expect("longest line of " + name, max(map(len, draw(data, *options).splitlines())) <= 140, True)
+            lines = draw(data, *options).splitlines()
+            if not options and lines[2].count("server ") > 5:
+                wide.append(name)
+            else:
+                expect("longest line of " + name, max(map(len, lines)) <= 140, True)
+    expect("few have more", len(wide) < len(SEEDS) / 2, True)
 
 
 # ---- what is shown is what replay prints
@@ -179,7 +185,7 @@ def test_seconds():
                 fold = rails
             elif second != "-":
                 now = int(second.split()[0])
-                if label.endswith("of a run that did not end"):  # stands before what ends its link
+                if label.endswith("of a run that did not end") and place + 1 < len(shown):  # stands before what ends its link
                     label = shown[place + 1][2]
                 ticked = now > at and re.search("not acknowledged for|given up|for its silence", label) is not None
                 silent = now - at - ticked
@@ -301,7 +307,44 @@ def test_numbers_of_revisions():
 
 ACKNOWLEDGE, NO_MESSAGE = b"00200062            \0", b"x\0"  # the second ends a run that was begun, whatever it is
 MARK = record(OPEN + 15)  # refused with 4
-TRIED = history.to_records('tightening identifier="TRIED"')
+
+
+class Results:
+    """What may be dropped, or not taken, and how it is found out."""
+
+    WORD, MID, MOST = "tightening", "0061", 8
+    ACKNOWLEDGE = ACKNOWLEDGE
+    TRIED = history.to_records('tightening identifier="TRIED"')
+
+    @staticmethod
+    def read(fields):
+        """Its name in the pictures, and whether it is the one that is tried."""
+        return str(fields["number"]), fields["identifier"] == "TRIED"
+
+    @staticmethod
+    def name(row):
+        """Of the row of a tool record."""
+        return row.text().partition(":")[0]
+
+
+class Alarms:
+    WORD, MID, MOST = "alarm", "0071", 4
+    ACKNOWLEDGE = b"00200072            \0"
+    TRIED = history.to_records('alarm code="TRY!" time=0000-00-00:00:00:00')
+
+    @staticmethod
+    def read(fields):
+        name = ladder_rows.alarm_name({name: value.encode() if isinstance(value, str) else value for name, value in fields.items()})
+        return name, name == '"TRY!" of 0000-00-00:00:00:00'
+
+    @staticmethod
+    def name(row):
+        return plain(re.match(r'".*" of \S{19}', row.text())[0])
+
+
+def plain(words):
+    """Without a _ at the end of an alarm's code: in what replay prints it can't be told from the spaces that fill a code up."""
+    return re.sub('_+" of ', '" of ', words)
 
 
 class Story:
@@ -328,7 +371,7 @@ class Story:
 
     def lost(self, number, session):
         """What is said to be lost to a session at a record; not whether it was fetched later."""
-        return [row.lost.words for row in self.rows[number] if row.lost and row.session() == session]
+        return [plain(row.lost.words) for row in self.rows[number] if row.lost and row.session() == session]
 
     def go_on(self, number, more):
         """What replay prints for other records behind that one."""
@@ -336,25 +379,26 @@ class Story:
         return ladder_journal.lines_of(lines_of_replay(given).decode("latin-1"))[self.printed[number]:]
 
 
-def results(lines, session):
-    """The results that go to a session: each one's number, and whether it is the one that is tried."""
-    frames = [line[4:].replace("_", " ").encode("latin-1") for line in lines if re.match("%d S ....0061" % session, line)]
-    return [(fields["number"], fields["identifier"] == "TRIED") for fields in (openprotocol.read(frame).fields for frame in frames)]
+def notices(lines, session, sort):
+    """Those of a sort that go to a session: each one's name, and whether it is the one that is tried."""
+    frames = [line[4:].replace("_", " ").encode("latin-1") for line in lines if re.match("%d S ....%s" % (session, sort.MID), line)]
+    return [sort.read(openprotocol.read(frame).fields) for frame in frames]
 
 
-def dropped(lines):
-    """Of what is said to be lost: whether a result had been sent, and the numbers that waited."""
-    return (any(re.search("tightening .* sent, and not", line) for line in lines),
-            [int(number) for line in lines for number in re.findall(r"^tightening (\d+): waited", line)])
+def dropped(lines, sort):
+    """Of what is said to be lost: whether one of a sort had been sent, and the names of those that waited."""
+    return (any(re.search(sort.WORD + " .*: sent, and not", line) for line in lines),
+            [name for line in lines for name in re.findall("^%s (.*): waited, and was never sent" % sort.WORD, line)])
 
 
-def held(story, number, session):
-    """The same of what is held before a record, by what a tightening and nine acknowledges bring out."""
-    lines = story.go_on(number - 1, [record(BYTES + session, NO_MESSAGE), TRIED, MARK, record(BYTES + session, ACKNOWLEDGE * 9)])
+def held(story, number, session, sort):
+    """The same of what is held before a record, by what one more and more acknowledges than it can hold bring out."""
+    acknowledges = record(BYTES + session, sort.ACKNOWLEDGE * (sort.MOST + 1))
+    lines = story.go_on(number - 1, [record(BYTES + session, NO_MESSAGE), sort.TRIED, MARK, acknowledges])
     if "R 8" in lines:
         return None  # no number is left to try with
-    later = results(lines[lines.index("R 4"):], session)
-    return bool(later), [number for number, tried in later if not tried]
+    later = notices(lines[lines.index("R 4"):], session, sort)
+    return bool(later), [name for name, tried in later if not tried]
 
 
 def ends(story):
@@ -370,37 +414,45 @@ def ends(story):
 
 def test_dropped():
     """What ladder says is dropped with a session is what would have come out of it."""
-    some = 0
+    some = {Results: 0, Alarms: 0}
     for seed in SEEDS:
         story = Story(generate.generate(seed))
         for number, session in ends(story):
-            wanted = held(story, number, session)
-            if wanted is not None:
-                expect("seed %d, record %d" % (seed, number), dropped(story.lost(number, session)), wanted)
-                some += bool(wanted[1])
-    expect("some were dropped", some > 5, True)
+            for sort in some:
+                wanted = held(story, number, session, sort)
+                if wanted is not None:
+                    expect("seed %d, record %d, %s" % (seed, number, sort.WORD), dropped(story.lost(number, session), sort), wanted)
+                    some[sort] += bool(wanted[1])
+    expect("some were dropped: %s" % some, min(some.values()) > 5, True)
 
 
 def test_taken():
-    """Who is said to have taken a tightening is sent it, then or after acknowledges; who is said not to have is subscribed, and is not."""
-    lost = 0
+    """Who is said to have taken a tightening or an alarm is sent it, then or after acknowledges; who is said not to have is subscribed, and
+    is not."""
+    lost = {Results: 0, Alarms: 0}
     for seed in SEEDS[:3]:
         story = Story(generate.generate(seed))
         for number in range(1, len(story.records) + 1):
-            shown = [row for row in story.rows[number] if row.word == "tightening" and not row.refused]
-            if not shown:
-                continue
-            given = int(shown[0].text().partition(":")[0])
-            lines = story.go_on(number - 1, [record(*story.records[number - 1])] + [
-                record(BYTES + s, NO_MESSAGE + ACKNOWLEDGE * 8) for s in range(4)] + [TRIED])
-            taken = [s for s in range(4) if (given, False) in results(lines, s)]
-            not_taken = [s for s in range(4) if (given + 1, True) in results(lines, s) and s not in taken]
-            what = "seed %d, record %d" % (seed, number)
-            expect(what, shown[0].text().rpartition(", taken by ")[2], " ".join(map(str, taken)) or "none")
-            said = "tightening %d: not taken; server %d has 8 already"
-            expect(what, [line for s in range(4) for line in story.lost(number, s)], [said % (given, s) for s in not_taken])
-            lost += len(not_taken)
-    expect("some were not taken", lost > 5, True)
+            for sort in lost:
+                shown = [row for row in story.rows[number] if row.word == sort.WORD and not row.refused]
+                if shown:
+                    lost[sort] += taken_is_told(story, number, shown[0], sort, "seed %d, record %d" % (seed, number))
+    expect("some were not taken: %s" % lost, min(lost.values()) > 5, True)
+
+
+def taken_is_told(story, number, row, sort, what):
+    """How many sessions did not take what the tool gave there. Each acknowledges what it held, and the one that is tried comes behind: only
+    where it comes is the session subscribed."""
+    given = sort.name(row)
+    lines = story.go_on(number - 1, [record(*story.records[number - 1])] + [
+        record(BYTES + s, NO_MESSAGE + sort.ACKNOWLEDGE * sort.MOST) for s in range(4)] + [sort.TRIED])
+    told = [notices(lines, s, sort) for s in range(4)]
+    taken = [s for s in range(4) if (given, False) in told[s]]
+    not_taken = [s for s in range(4) if told[s] and told[s][-1][1] and s not in taken]
+    expect(what, row.text().rpartition(", taken by ")[2], " ".join(map(str, taken)) or "none")
+    said = "%s %s: not taken; server %d has %d already"
+    expect(what, [line for s in range(4) for line in story.lost(number, s)], [said % (sort.WORD, given, s, sort.MOST) for s in not_taken])
+    return len(not_taken)
 
 
 def test_ninth():
@@ -443,6 +495,76 @@ def test_acknowledges():
         expect(wrong, closes(SUBSCRIBED + "tightening\nbytes 0 %s\n" % wrong + well), ["nothing", "notice 1"])
     expect("not started", closes(START + "open 0\n" + well), ["nothing"])
     expect("no acknowledge asked", closes(SUBSCRIBED.replace("60001" + "0", "60001" + "1") + "tightening\n" + well), ["nothing"])
+
+
+# ---- alarms
+
+ALARMS = SUBSCRIBED.replace("0060001", "0070001")
+
+
+def test_alarms():
+    """What the tool says of a fault, and what its notice says: by its code and its time, and what is not ready; one that is refused."""
+    for controller, tool, words in ((1, 1, "both ready"), (1, 0, "tool not ready"), (0, 1, "controller not ready"),
+                                    (0, 0, "controller and tool not ready")):
+        data = made(ALARMS + 'alarm code="E 7" controller_ready=%d tool_ready=%d time=2026-02-03:04:05:06\n' % (controller, tool))
+        name = '"E_7" of 2026-02-03:04:05:06, ' + words
+        expect("labels", labels(draw(data))[4:], [
+            "subscribe to alarms", "accepted: 0070", name + ", taken by 0", "notice 1: alarm " + name])
+    name = '"E404" of 2024-01-02:03:04:05, both ready'
+    expect("nobody there", labels(draw(made(START + "alarm\n")))[-1], name + ", taken by none")
+    expect("bad ones", labels(draw(made(START + "alarm tool_ready=2\nrecord 5 00\n")))[1:], [
+        name + "; refused, 7: tool record bad", "of kind 5, 1 byte; refused, 7: tool record bad"])
+    expect("copies", copies_in(draw(made(ALARMS + "alarm\nalarm\n" + TWENTY_TICKS))), [(1, 1, 2), (1, 2, 2)])
+    expect("the order in a tick", [copy[0] for copy in copies_in(draw(made(
+        ALARMS + 'alarm\nbytes 0 "002000600010        \\0" "002000510010        \\0"\ntightening\nscan "X"\n' + TWENTY_TICKS)))],
+        [1, 2, 3, 3, 2, 1])
+
+
+def test_lost_alarms():
+    """The fifth, which is not taken, and those that wait at the end; by a stop, an unsubscribe, a start, a hang-up, a close; given up."""
+    names = ['alarm "E00%d" of 2024-01-02:03:04:05' % i for i in range(6)]
+
+    def alarms(count):
+        return ALARMS + "".join('alarm code="E00%d"\n' % i for i in range(1, count + 1))
+
+    def lost(lines):
+        return [label[6:] for label in labels(draw(made(lines))) if label.startswith("lost: ")]
+
+    expect("the fifth", lost(alarms(5)), [names[5] + ": not taken; server 0 has 4 already"])
+    expect("told at the end", told_at_the_end(draw(made(alarms(3)))),
+           "at the end server 0 has not acknowledged notice 1, %s; %s, %s wait behind it" % tuple(names[1:4]))
+    for lines, when in (('bytes 0 "00200003            \\0"\n', "when the server stopped"),
+                        ('bytes 0 "00200073            \\0"\n', "when the server unsubscribed"),
+                        (START, "when the controller was started anew"),
+                        ("hangup 0\n", "when the link went"),
+                        ("tick 15\n", "when the session was closed")):
+        expect(when, lost(alarms(2) + lines), ["notice 1, %s: sent, and not acknowledged %s" % (names[1], when),
+                                               "%s: waited, and was never sent; dropped %s" % (names[2], when)])
+    expect("not with the results", lost(alarms(2) + 'bytes 0 "002000600010        \\0" "00200063            \\0"\n'), [])
+    text = draw(made(alarms(2) + TWENTY_TICKS * 6))
+    expect("given up", [label for label in labels(text) if "given up" in label], [
+        "lost: notice 1, %s: sent, and not acknowledged within 120 s: given up" % names[1],
+        "notice 2: %s, both ready, sent as the one before is given up" % names[2]])
+    expect("copies", [copy for copy, _, _ in copies_in(text)], [1] * 6 + [2])
+
+
+def test_acknowledges_of_alarms():
+    """A 0072 closes an alarm, and a 0062 none; a 0072 closes no result."""
+    def closes(more):
+        lines = ALARMS + 'bytes 0 "002000600010        \\0"\nalarm\ntightening\n' + "".join(
+            'bytes 0 "0020%s            \\0"\n' % mid for mid in more)
+        return [label.rpartition("closes ")[2] for label in labels(draw(made(lines))) if label.startswith("acknowledge")]
+
+    expect("each its own", closes(("0072", "0062")), ["notice 1", "notice 2"])
+    expect("the other way round", closes(("0062", "0062", "0072", "0072")), ["notice 2", "nothing", "notice 1", "nothing"])
+
+
+def test_another_alarm():
+    """A 0071 that tells of another alarm than the next, be it in its code, its time or in what is ready, is found out."""
+    with tempfile.TemporaryDirectory() as folder:
+        for other in ("s/01E404/01E405/", "s/02103/02003/", "s/03104/03004/", "s/03:04:05/03:04:06/"):
+            done = call(data=made(ALARMS + "alarm\n"), replay=script(folder, "%s | sed '%s'" % (program, other)))
+            expect(other, (done.returncode, done.stdout, "nothing in the journal explains" in done.stderr.decode()), (1, b"", True))
 
 
 # ---- what was fetched

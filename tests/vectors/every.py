@@ -5,7 +5,8 @@ their rules for one session that talks alone, and from 01's arithmetic of ticks 
 
 import openprotocol
 import places
-from house_records import BYTES, GREATEST_NUMBER, NUMBER, OPEN, PAYLOADS, SCANNED, SETTINGS, TEXT, TICK, TIGHTENING, filled, record
+from house_records import (ALARM, BYTES, GREATEST_NUMBER, NUMBER, OPEN, PAYLOADS, SCANNED, SETTINGS, TEXT, TICK, TIGHTENING, fields_of,
+                           filled, record)
 from openprotocol import ACCEPTED, IDENTIFIER, OLD_RESULT, REFUSED, RESULT, STARTED, write
 
 GOOD_SETTINGS = {"cell": 12, "channel": 3, "granted": 1, "name": filled("LINE4"), "last": 41}
@@ -15,11 +16,13 @@ SPACES = filled("")
 
 # Of each message: least and greatest length, greatest revision (none: not read).
 RULES = {1: (20, 20, 1), 3: (20, 20, None), 50: (21, 45, 1), 51: (20, 20, 2), 53: (20, 20, None), 54: (20, 20, None),
-         60: (20, 20, 6), 62: (20, 20, None), 63: (20, 20, None), 64: (30, 30, 1), 9999: (20, 20, None)}
+         60: (20, 20, 6), 62: (20, 20, None), 63: (20, 20, None), 64: (30, 30, 1),
+         70: (20, 20, 1), 72: (20, 20, None), 73: (20, 20, None), 9999: (20, 20, None)}
 RESULT_REVISIONS = range(1, 7)  # of 0061
 KEPT = 64  # tightenings
-SUBSCRIBED, NOT_SUBSCRIBED = {51: 6, 60: 9}, {54: 7, 63: 10}
-SUBSCRIPTION = {51: 51, 54: 51, 60: 60, 63: 60}
+SUBSCRIBED, NOT_SUBSCRIBED = {51: 6, 60: 9, 70: 11}, {54: 7, 63: 10, 73: 12}
+SUBSCRIPTION = {51: 51, 54: 51, 60: 60, 63: 60, 70: 70, 73: 70}
+ACKNOWLEDGES = (53, 62, 72)
 
 
 def message(*header, **named):
@@ -65,6 +68,10 @@ def identifier_frame(subscription, identifier):
 
 def result_frame(subscription, fields, identifier, number):
     return notice(RESULT, subscription, {**GOOD_SETTINGS, **fields, "identifier": identifier, "number": number})
+
+
+def alarm_frame(subscription, fields):
+    return notice(openprotocol.ALARM, subscription, fields)
 
 
 def old_result_frame(fields, identifier, number):
@@ -177,6 +184,16 @@ class Alone(Case):
         if 60 in self.subscribed:
             self.expect(result_frame(self.subscribed[60], fields, identifier, self.last))
 
+    def alarm(self, payload):
+        """A record of kind 5."""
+        self.flush()
+        self.put(ALARM, payload)
+        fields = fields_of(ALARM, payload)
+        if not fields or not is_good(ALARM, fields):
+            self.refused(7)
+        elif 70 in self.subscribed:
+            self.expect(alarm_frame(self.subscribed[70], fields))
+
     # ---- heard
 
     def accept(self, mid):
@@ -201,7 +218,7 @@ class Alone(Case):
             self.turn_down(mid, 99)
         elif mid == 1:
             self.turn_down(mid, 96)
-        elif mid not in (53, 62):
+        elif mid not in ACKNOWLEDGES:
             error = self.form_error(run, mid, revision)
             if error:
                 self.turn_down(mid, error)
@@ -266,7 +283,8 @@ def subscribe_results(revision, byte_12=b"1"):
     return message(60, b"%03d" % revision, byte_12)
 
 
-FREE = (message(51, byte_12=b"1"), subscribe_results(1))
+FREE = (message(51, byte_12=b"1"), subscribe_results(1), message(70, byte_12=b"1"))
+GOOD_ALARM = PAYLOADS[ALARM].pack(PAYLOADS[ALARM].usual())
 NEWEST = b"0000000000"  # asked for by its number
 
 
@@ -293,7 +311,7 @@ def header_bytes():
     """Every byte value at every place of a header, twelve and the digits among them."""
     case = Alone()
     case.begin()
-    for mid, undo in ((9999, None), (60, 63), (51, 54), (1234, None)):
+    for mid, undo in ((9999, None), (60, 63), (51, 54), (70, 73), (1234, None)):
         for run in altered(message(mid)):
             case.send(run)
             if undo and SUBSCRIPTION[undo] in case.subscribed:
@@ -304,17 +322,20 @@ def header_bytes():
 
 
 def revisions():
-    """0 to 999 of each message that has a greatest one, with each byte 12; a notice shows what was subscribed to."""
+    """0 to 999 of each message that has a greatest one, and of those that unsubscribe, with each byte 12; a notice shows what was
+    subscribed to."""
     case = Alone()
     for revision in [b"%03d" % number for number in range(1000)] + [b"   "]:
         for twelve in (b" ", b"0", b"1"):
             case.send(message(1, revision, twelve))
             if not case.started:
                 case.begin()
-            case.send(message(51, revision, twelve), message(60, revision, twelve), message(50, revision, twelve, data=b"D" + revision))
+            case.send(*(message(mid, revision, twelve) for mid in (*NOT_SUBSCRIBED, *SUBSCRIBED)))
+            case.send(message(50, revision, twelve, data=b"D" + revision))
             if revision == b"002":  # a 0050 of that revision makes nothing known
                 case.scan(filled("SCANNED"))
             case.tighten(tightening_fields())
+            case.alarm(GOOD_ALARM)
             case.send(message(64, revision, twelve, data=NEWEST), message(3, revision, twelve))
     return case.named("every revision")
 
@@ -402,6 +423,18 @@ def tool_texts():
     return case.named("every byte value in the tool's texts")
 
 
+def alarm_bytes():
+    """Every byte value at every place of an alarm, whose record is as long as that of an identifier; and the same bytes as one of that
+    kind."""
+    case = Alone()
+    case.begin(*FREE)
+    for good in (GOOD_ALARM, filled("IDENTIFIER OF THE TOOL 25")):
+        for payload in altered(good):
+            case.alarm(payload)
+            case.scan(payload)
+    return case.named("every byte value in an alarm")
+
+
 def near(item):
     """Numbers about the greatest, and those that look good when bytes of them are left out."""
     limit, bits = item.greatest, 8 * item.size
@@ -447,10 +480,25 @@ def places_of_results():
         for revision in RESULT_REVISIONS:
             case.accepted(60, b"%03d" % revision, byte_12)
             for fields in tightenings:
-                case.expect(places.frame(revision, byte_12, case.tighten(fields)))
+                case.expect(places.result(revision, byte_12, case.tighten(fields)))
                 case.say(62)
             case.accepted(63)
     return case.named("0061 at the documents' places")
+
+
+def places_of_alarms():
+    """0071 with each field where the documents print its place."""
+    case = Steps()
+    for byte_12 in (b"0", b"1"):
+        case.accepted(70, b"001", byte_12)
+        for ready in ((0, 0), (0, 1), (1, 0), (1, 1)):
+            for code in (b"E404", b"4301", b"    ", b"~ _!"):
+                fields = {**dict(zip(("controller_ready", "tool_ready"), ready)), "code": code, "time": b"1999-12-31:23:58:59"}
+                case.give(ALARM, fields)
+                case.expect(places.alarm(byte_12, fields))
+                case.say(72)
+        case.accepted(73)
+    return case.named("0071 at the documents' places")
 
 
 def subscribed_anew():
@@ -517,6 +565,7 @@ def record_lengths():
                 case.refused(9 if record_kind == SETTINGS else 7)
     case.scan(filled("S"))
     case.tighten(tightening_fields(identifier=b"T"))
+    case.alarm(GOOD_ALARM)
     return case.named("every length of a record")
 
 
@@ -534,13 +583,14 @@ def record_kinds():
 # ---- cases of four sessions
 
 def four_subscribed(case, revisions):
-    """All four started and subscribed, to identifiers in revision 2 and to results in these."""
+    """All four started and subscribed, to identifiers in revision 2, to results in these, and to alarms."""
     for s, revision in enumerate(revisions):
+        runs = (message(1), message(51, b"002", b"0"), subscribe_results(revision, b"0"), message(70, b"001", b"0"))
         case.put(OPEN + s)
-        case.put(BYTES + s, b"".join(run + b"\0" for run in (message(1), message(51, b"002", b"0"), subscribe_results(revision, b"0"))))
+        case.put(BYTES + s, b"".join(run + b"\0" for run in runs))
         case.expect(write(STARTED, GOOD_SETTINGS), s)
-        case.expect(write(ACCEPTED, {"mid": 51}), s)
-        case.expect(write(ACCEPTED, {"mid": 60}), s)
+        for mid in SUBSCRIBED:
+            case.expect(write(ACCEPTED, {"mid": mid}), s)
 
 
 def keep_alive(case, sessions=range(4)):
@@ -550,7 +600,7 @@ def keep_alive(case, sessions=range(4)):
 
 
 def fullest_output():
-    """A 0050 that all four hear, a tightening to all four, and ticks with two copies to each."""
+    """A 0050 that all four hear, a tightening and an alarm to all four, and ticks with three copies to each."""
     case = Case()
     four_subscribed(case, 4 * [6])
     case.put(BYTES + 3, message(50, data=b"I" * 25) + b"\0")
@@ -561,6 +611,10 @@ def fullest_output():
     case.give(TIGHTENING, fields)
     for s in range(4):
         case.expect(result_frame((6, False), fields, fields["identifier"], LAST + 1), s)
+    alarm = PAYLOADS[ALARM].usual()
+    case.give(ALARM, alarm)
+    for s in range(4):
+        case.expect(alarm_frame((1, False), alarm), s)
     for tick in range(1, 122):
         if tick % 14 == 0:
             keep_alive(case)
@@ -568,11 +622,13 @@ def fullest_output():
         for s in range(4 if tick in (20, 40, 60, 80, 100) else 0):
             case.expect(identifier_frame((2, False), b"I" * 25), s)
             case.expect(result_frame((6, False), fields, fields["identifier"], LAST + 1), s)
+            case.expect(alarm_frame((1, False), alarm), s)
     return case.named("the fullest output of every call")
 
 
 def nothing_acknowledged():
-    """Eight tightenings and two identifiers held by each session, and 960 ticks: all are given up in a row, each in its revision."""
+    """Eight tightenings, two identifiers and four alarms held by each session, and 960 ticks: all are given up in a row, each in its
+    revision."""
     case, revisions = Case(), (4, 1, 6, 2)
     four_subscribed(case, revisions)
     results = [[] for _ in revisions]
@@ -589,20 +645,26 @@ def nothing_acknowledged():
         for s in range(4 if number == 0 else 0):
             case.expect(identifiers[0], s)
     waiting = [identifiers[0], identifiers[2]]
+    alarms = [PAYLOADS[ALARM].usual(code=b"E%03d" % number) for number in range(5)]
+    for number, fields in enumerate(alarms):
+        case.give(ALARM, fields)
+        for s in range(4 if number == 0 else 0):
+            case.expect(alarm_frame((1, False), fields), s)
+    told = [alarm_frame((1, False), fields) for fields in alarms[:4]]
     for tick in range(1, 1000):
         if tick % 14 == 0:
             keep_alive(case)
         case.put(TICK)
         for s in range(4):
-            for queue in (waiting, results[s][:8]):
+            for queue in (waiting, results[s][:8], told):
                 if tick % 20 == 0 and tick // 120 < len(queue):
                     case.expect(queue[tick // 120], s)
     return case.named("960 ticks with nothing acknowledged")
 
 
 BY_RULE = [message_numbers, header_bytes, revisions, downloads, downloads_not_granted, fetches, numbers_asked, numbers_asked_from_0,
-           numbers_asked_at_the_end, kept_values, tool_texts, tool_numbers, places_of_results, settings, record_lengths, record_kinds,
-           subscribed_anew, fullest_output, nothing_acknowledged]
+           numbers_asked_at_the_end, kept_values, tool_texts, alarm_bytes, tool_numbers, places_of_results, places_of_alarms, settings,
+           record_lengths, record_kinds, subscribed_anew, fullest_output, nothing_acknowledged]
 
 
 def cases():

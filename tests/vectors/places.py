@@ -1,9 +1,11 @@
-"""Where the documents put the fields of 0061: the places that 000 prints in its Tables 21 to 26 and that 004 prints too, as data.
+"""Where the documents put the fields of 0061 and 0071: the places that 000 prints in its Tables 21 to 26 and 35, and that 004 prints
+too, as data.
 
 Everything else here writes a frame row behind row, so that a field that is too wide moves all behind it. A frame that is put
 together of these places shows it."""
 
 LENGTHS = {1: 231, 2: 385, 3: 419, 4: 500, 5: 506, 6: 526}  # 000:1919
+ALARM_LENGTH = 53  # 000:2413
 ZEROS, NM = b"0", b"1"  # what fills the fields that the tool does not report, and the torque's unit
 
 # A field's number, the byte at which the number begins, those at which its value begins and ends, and what the value is.
@@ -37,6 +39,10 @@ LATER = (
 )
 
 
+# 000, Table 35.
+ALARM = ((1, 21, 23, 26, "code"), (2, 27, 29, 29, "controller_ready"), (3, 30, 32, 32, "tool_ready"), (4, 33, 35, 53, "time"))
+
+
 def written(what, width, values):
     """The value of that name, or what fills the field."""
     if what in (ZEROS, NM):
@@ -44,16 +50,26 @@ def written(what, width, values):
     return b"%0*d" % (width, values[what]) if isinstance(values[what], int) else values[what].ljust(width)
 
 
-def frame(revision, byte_12, values):
-    """The 0061 of that revision with these values, by the names of house_records.py, and `number`. Each byte belongs to one field."""
-    length = LENGTHS[revision]
-    made = bytearray(b"%04d0061%03d" % (length, revision) + byte_12 + b" " * 8 + bytes(length - 20))
-    for number, number_at, first, last, what in FIRST if revision == 1 else [field for field in LATER if field[3] <= length]:
+def put_together(begun, length, fields, values):
+    """A frame that begins so, of that length, with these fields and values. Each byte belongs to one field."""
+    made = bytearray(b"%04d" % length + begun + b" " * 8 + bytes(length - 20))
+    for number, number_at, first, last, what in fields:
         for begin, text in ((number_at, b"%02d" % number), (first, written(what, last - first + 1, values))):
             place = slice(begin - 1, begin - 1 + len(text))
             if any(made[place]):
-                raise ValueError("two fields at byte %d of revision %d" % (begin, revision))
+                raise ValueError("two fields at byte %d of %s" % (begin, begun))
             made[place] = text
     if 0 in made or len(made) != length:
-        raise ValueError("a byte of revision %d that no field has, or one too many" % revision)
+        raise ValueError("a byte of %s that no field has, or one too many" % begun)
     return bytes(made)
+
+
+def result(revision, byte_12, values):
+    """The 0061 of that revision with these values, by the names of house_records.py, and `number`."""
+    fields = FIRST if revision == 1 else [field for field in LATER if field[3] <= LENGTHS[revision]]
+    return put_together(b"0061%03d" % revision + byte_12, LENGTHS[revision], fields, values)
+
+
+def alarm(byte_12, values):
+    """The 0071 with these values."""
+    return put_together(b"0071001" + byte_12, ALARM_LENGTH, ALARM, values)

@@ -1,24 +1,25 @@
 -- A tool record by its kind: how long its payload is, and which event it is.
-use mathlib.Core.Path.{_≡_, refl, sym, ap, _∙_}
+use mathlib.Core.Path.{_≡_, refl, sym, ap, subst, _∙_}
 use Prim.Native.Nat.{ℕ, _+_, _≤_}
 use native.Mathlib.Numerals.{add-one}
 use native.Mathlib.Omega.{arith}
-use mathlib.Core.Bool.{Bool, true, false, cond}
+use mathlib.Core.Bool.{Bool, true, false}
 use mathlib.Core.List.{List, [], _∷_}
-use mathlib.Core.Option.{Option, none, Option·map as option-map}
+use mathlib.Core.Option.{Option, none, some, Option·map as option-map}
 use lib.ListN.{length}
 use Rattle.model.specs.Limits.{identifier-length}
-use Rattle.model.specs.Records.{payload, good-record, identifier-in, tightening-of, tightening-items, scanned-items, Tool, tightening}
-use Rattle.model.specs.Records.{tightening-record-kind, tightening-length, scanned-record-kind, read-tool}
-use Rattle.model.specs.Kinds.{identifiers, tightenings, event-most, call-most}
+use Rattle.model.specs.Records.{payload, good-record, identifier-in, tightening-of, tightening-items, scanned-items, alarm-items}
+use Rattle.model.specs.Records.{alarm-of, Tool, scanned, tightening, alarm, tightening-record-kind, tightening-length}
+use Rattle.model.specs.Records.{scanned-record-kind, alarm-record-kind, alarm-length, read-tool}
+use Rattle.model.specs.Kinds.{identifiers, tightenings, alarms, event-most, call-most}
 use Rattle.model.proofs.Bounds.{event-within}
-use Rattle.model.specs.Events.{Result, Event, identified, tightened, identifier-of}
+use Rattle.model.specs.Events.{Result, Event, identified, tightened, alarmed, identifier-of}
 use Rattle.model.specs.World.{Moment, happens}
 use Rattle.model.specs.Calls.{happening, takers, taken-by}
 use Rattle.model.specs.Sharing.{reported}
 use Rattle.frame.specs.Places.{result-of, place-size, event-in}
 use Rattle.record.specs.declared.RecordKind.{RecordKind}
-use Rattle.record.specs.declared.RecordKind.the-variants.{Bad, Tightening, Scanned}
+use Rattle.record.specs.declared.RecordKind.the-variants.{Bad, Tightening, Scanned, Alarm}
 use Rattle.record.specs.Tools.{tool-in}
 use Rattle.table.specs.Table.{decode, Table, Went}
 use Rattle.table.specs.Passes.{EventTo}
@@ -42,32 +43,38 @@ module _ (record-kind : RecordKind) (slice : List ℕ) (e : tool-in record-kind 
 
   -- ==== how long the payload is
 
-  abbrev by-tests : Bool → Bool → Option Tool
-  by-tests a b = cond a (tool-in Tightening slice) (cond b (tool-in Scanned slice) none)
+  abbrev Sized : Option Tool → ℕ → Type 0
+  Sized none n = Unit {0}
+  Sized (some (tightening x t)) n = n ≡ tightening-length
+  Sized (some (scanned x)) n = n ≡ identifier-length
+  Sized (some (alarm vs)) n = n ≡ alarm-length
+
+  -- that of a record that is good
+  good-sized : Sized (read-tool slice) (length (payload slice))
+  unfolding read-tool
+  good-sized =
+      go (good-record tightening-record-kind tightening-items slice) (good-record scanned-record-kind scanned-items slice)
+      (good-record alarm-record-kind alarm-items slice) refl refl refl
+    where
+      go : (a b c : Bool) → good-record tightening-record-kind tightening-items slice ≡ a
+          → good-record scanned-record-kind scanned-items slice ≡ b → good-record alarm-record-kind alarm-items slice ≡ c
+          → Sized (read-tool slice) (length (payload slice))
+      go true b c e f g = rw e (good-length tightening-record-kind tightening-items slice e)
+      go false true c e f g = rw (e, f) (good-length scanned-record-kind scanned-items slice f)
+      go false false true e f g = rw (e, f, g) (good-length alarm-record-kind alarm-items slice g)
+      go false false false e f g = rw (e, f, g) tt
+
+  sized : {x : RecordKind} {p : List ℕ} → p ≡ payload slice → record-kind ≡ x → Sized (tool-in x slice) (length p)
+  sized {p = p} q k = subst (λ (o : Option Tool). Sized o (length p)) (sym (read k)) (rw q good-sized)
 
   pub tightening-size : {p : List ℕ} → p ≡ payload slice → record-kind ≡ Tightening → length p ≡ tightening-length
-  unfolding read-tool
-  tightening-size q k =
-      ap length q
-      ∙ go (good-record tightening-record-kind tightening-items slice) (good-record scanned-record-kind scanned-items slice) refl (read k)
-    where
-      go : (a b : Bool) → good-record tightening-record-kind tightening-items slice ≡ a → tool-in Tightening slice ≡ by-tests a b
-          → length (payload slice) ≡ tightening-length
-      go true b p q = good-length tightening-record-kind tightening-items slice p
-      go false true p q = let z : _≡_ {A = ℕ} 0 1 = cc in absurd (omega arith)
-      go false false p q = let z : _≡_ {A = ℕ} 0 1 = cc in absurd (omega arith)
+  tightening-size q k = sized q k
 
   pub scan-size : {p : List ℕ} → p ≡ payload slice → record-kind ≡ Scanned → length p ≡ identifier-length
-  unfolding read-tool
-  scan-size q k =
-      ap length q
-      ∙ go (good-record tightening-record-kind tightening-items slice) (good-record scanned-record-kind scanned-items slice) refl (read k)
-    where
-      go : (a b : Bool) → good-record scanned-record-kind scanned-items slice ≡ b → tool-in Scanned slice ≡ by-tests a b
-          → length (payload slice) ≡ identifier-length
-      go false true p q = good-length scanned-record-kind scanned-items slice p
-      go true b p q = let z : _≡_ {A = ℕ} 0 1 = cc in absurd (omega arith)
-      go false false p q = let z : _≡_ {A = ℕ} 0 1 = cc in absurd (omega arith)
+  scan-size q k = sized q k
+
+  pub alarm-size : {p : List ℕ} → p ≡ payload slice → record-kind ≡ Alarm → length p ≡ alarm-length
+  alarm-size q k = sized q k
 
   -- ==== what it does, by its kind
 
@@ -104,3 +111,10 @@ module _ (record-kind : RecordKind) (slice : List ℕ) (e : tool-in record-kind 
     scan-reported k q h w n =
         as-reported (tool-in Scanned slice) (read k) (ap (λ (bs : List ℕ). happens (identified bs) ∷ []) q) n
         (omega (arith, event-within identifiers (omega arith))) w
+
+    pub alarm-reported : {p : List ℕ} {at taken : ℕ} {t′ o′ : List ℕ} → record-kind ≡ Alarm → p ≡ payload slice
+        → at ≤ 0 + event-most alarms → Went t o 0 (happens (event-in alarms p) ∷ []) at t′ o′ → taken ≡ takers alarms 0 (decode t .sessions)
+        → Reports slice t o at taken t′ o′
+    alarm-reported k q h w n =
+        as-reported (tool-in Alarm slice) (read k) (ap (λ (bs : List ℕ). happens (alarmed (alarm-of bs)) ∷ []) q) n
+        (omega (arith, event-within alarms (omega arith))) w

@@ -149,6 +149,7 @@ fn report(table: &mut [u8], output: &mut [u8], slice: &[u8], record_kind: Record
             table::happens(table, output, 0, model::TIGHTENINGS, &place)
         }
         RecordKind::Scanned => table::happens(table, output, 0, model::IDENTIFIERS, payload),
+        RecordKind::Alarm => table::happens(table, output, 0, model::ALARMS, payload),
     }
 }
 

@@ -10,7 +10,7 @@ use lib.ListN.{length, take, drop, replicate}
 use lib.Seq.{take-all}
 use Rattle.model.specs.Limits.{header-length, identifier-length}
 use Rattle.model.specs.Bytes.{NUL, in-bytes}
-use Rattle.model.specs.Records.{record-head, house-record, said, settings-items, values, settings-of, tightening-of}
+use Rattle.model.specs.Records.{record-head, house-record, said, settings-items, values, settings-of, tightening-of, alarm-of}
 use Rattle.model.specs.Layouts.{Layout, data-from, data-of, characters, data-length, layout-at, layouts-0052}
 use Rattle.model.specs.Kinds.{Kind, kinds, kind-at}
 use Rattle.model.specs.Events.{result-as}
@@ -101,13 +101,14 @@ copy-of : (st p : List ℕ) (kind revision : ℕ) (no-acknowledge : Bool) → ki
     (data-of (layout-at ((kind-at kind) .layouts) revision)
     (record { settings = values settings-items st; told = values (place-items kind) p }))
     ≡ event-frame (settings-of st) revision no-acknowledge (event-in kind p)
-unfolding event-frame settings-of tightening-of result-of result-as
+unfolding event-frame settings-of tightening-of alarm-of result-of result-as
 copy-of st p zero revision no-acknowledge h l =
     ap (λ (x : List ℕ). frame 52 revision (notice-byte-12 no-acknowledge)
     (data-of (layout-at layouts-0052 revision) (record { settings = values settings-items st; told = said x ∷ [] })))
     (take-all identifier-length p (omega arith))
 copy-of st p (suc zero) revision no-acknowledge h l = refl
-copy-of st p (suc (suc kind)) revision no-acknowledge h l = absurd (omega arith)
+copy-of st p (suc (suc zero)) revision no-acknowledge h l = refl
+copy-of st p (suc (suc (suc kind))) revision no-acknowledge h l = absurd (omega arith)
 
 pub is-copy : (st p : List ℕ) (asked : Asked) → asked .kind < length kinds → length p ≡ place-size (asked .kind)
     → frame-of (Notice asked) (record { settings = st; told = p })

@@ -1,5 +1,5 @@
 -- What the writer of each frame's data leaves is that frame's data.
-use mathlib.Core.Path.{_≡_, sym, ap, subst, _∙_}
+use mathlib.Core.Path.{_≡_, refl, sym, ap, subst, _∙_}
 use Prim.Native.Nat.{ℕ, zero, suc, _+_, _-_, _≤_, _<_}
 use native.Mathlib.Omega.{arith}
 use mathlib.Core.Bool.{true, false}
@@ -8,11 +8,11 @@ use lib.ListN.{length, getD, take, drop}
 use lib.Seq.{take-add, take-all}
 use Rattle.model.specs.Limits.{identifier-length}
 use Rattle.model.specs.Bytes.{digits}
-use Rattle.model.specs.Records.{scanned-items, tightening-items, result-items}
+use Rattle.model.specs.Records.{scanned-items, tightening-items, result-items, alarm-items}
 use Rattle.model.specs.Layouts.{Row, Layout, layouts-0052, layouts-0061, layout-at, first-of, controller-rows, identifier-rows}
-use Rattle.model.specs.Layouts.{layout-0065, result-rows, later-rows, older-counts, newest-count, later-count}
+use Rattle.model.specs.Layouts.{layout-0065, result-rows, alarm-rows, later-rows, older-counts, newest-count, later-count}
 use Rattle.model.specs.Layouts.{characters, data-from, data-of, data-length, rows-length}
-use Rattle.model.specs.Kinds.{identifiers, tightenings, kinds, kind-at}
+use Rattle.model.specs.Kinds.{identifiers, tightenings, alarms, kinds, kind-at}
 use Rattle.model.proofs.Revisions.{later-layout, count-grows}
 use Rattle.text.specs.Put.{Put, Written}
 use Rattle.text.proofs.Puts.{put-as}
@@ -22,9 +22,9 @@ use Rattle.frame.specs.declared.Content.{Content}
 use Rattle.frame.specs.declared.Content.the-variants.{Started, Refused, Accepted, Kept}
 use Rattle.frame.proofs.Fields.{length-append-rows}
 
--- a kind is one or the other
-pub second-kind : (kind : ℕ) → kind < length kinds → (kind ≡ identifiers → ⊥) → kind ≡ tightenings
-second-kind kind few n = omega (arith, n)
+-- a kind that is neither of the two others
+pub tightenings-left : (kind : ℕ) → kind < length kinds → (kind ≡ identifiers → ⊥) → (kind ≡ alarms → ⊥) → kind ≡ tightenings
+tightenings-left kind few n m = omega (arith, n, m)
 
 -- ==== notices, by kind and revision
 
@@ -96,6 +96,9 @@ module _ {kind : ℕ} (revision : ℕ) where
   revised-length e h =
       rw e (ap data-length (later-0061 revision h)) ∙ length-append-rows (later 1 46) (added revision)
 
+  pub alarm-length : kind ≡ alarms → data-length (layout kind revision) ≡ rows-length true alarm-rows
+  alarm-length e = rw e refl
+
 -- the data of a notice of that kind was written by that layout
 abbrev Wrote : Payloads → ℕ → Layout → List ℕ → ℕ → ℕ → List ℕ → Type 0
 Wrote b kind l o at r o′ = Written o at (data-length l) (data-of l (held (place-items kind) b)) r o′
@@ -128,6 +131,11 @@ module _ (b : Payloads) {o o′ : List ℕ} {at r : ℕ} where
   pub revised-fields : (kind revision : ℕ) → kind ≡ tightenings → 2 ≤ revision
       → FieldsPut (held result-items b) 1 (later 1 46 ++ added revision) o at r o′ → Wrote b kind (layout kind revision) o at r o′
   revised-fields kind revision e h w = by-same e (ap (λ (k : ℕ). layout k revision) e ∙ later-0061 revision h) w
+
+  pub alarm-fields : (kind revision : ℕ) → kind ≡ alarms → FieldsPut (told-values alarm-items (b .told)) 1 alarm-rows o at r o′
+      → Wrote b kind (layout kind revision) o at r o′
+  unfolding data-from characters
+  alarm-fields kind revision e w = by-same e (ap (λ (k : ℕ). layout k revision) e) w
 
   -- ==== replies
 

@@ -8,8 +8,8 @@ ghost use Rattle.model.specs.Limits.{header-length, identifier-length};
 ghost use Rattle.model.specs.Bytes.{space, digit-0, is-digit, is-space, all, digits, spaces};
 ghost use Rattle.model.specs.Runs.{is-flag as is-flag-byte, revision-of, is-message as is-message-run};
 ghost use Rattle.model.specs.Records.{record-head, payload-length, settings-of, settings-length, scanned-items};
-ghost use Rattle.model.specs.Records.{tightening-items, tightening-length, result-items};
-ghost use Rattle.model.specs.Layouts.{controller-rows, identifier-rows, layout-0065, torque-rows, angle-rows, result-rows};
+ghost use Rattle.model.specs.Records.{tightening-items, tightening-length, result-items, alarm-items, alarm-length};
+ghost use Rattle.model.specs.Layouts.{controller-rows, identifier-rows, layout-0065, torque-rows, angle-rows, result-rows, alarm-rows};
 ghost use Rattle.model.specs.Kinds.{kinds, kind-at, copy-most, reply-most};
 ghost use Rattle.model.specs.Events.{result-as};
 ghost use Rattle.model.specs.Frames.{frame-0002, frame-0004, frame-0005, frame-0065, event-frame, frame-record, close-record};
@@ -549,6 +549,17 @@ fn put_kept(out: &mut [u8], at: usize, number: u64, told: &[u8]) -> usize
     put_kept_end(out, at, told)
 }
 
+// 0071: error code, controller ready, tool ready, time.
+fn put_alarm(out: &mut [u8], at: usize, told: &[u8]) -> usize
+    requires { ⌜ (length (now told) ≡ alarm-length) × Room alarm-rows at (length (now out)) ⌝ }
+    ensures { λ r. ⌜ FieldsPut (told-values alarm-items (now (told .entry))) 1 alarm-rows (now (out .entry)) at r (now (out .exit)) ⌝ }
+{
+    let at = put_text(out, at, 1, &told[0..4]);
+    let at = put_number(out, at, 2, 1, text::little(told, 4, 1));
+    let at = put_number(out, at, 3, 1, text::little(told, 5, 1));
+    put_text(out, at, 4, &told[6..25])
+}
+
 // A notice, as it was subscribed to. In revision 1 of 0052 the identifier stands alone, with no number before it.
 fn put_notice(out: &mut [u8], at: usize, asked: Asked, settings: &[u8], told: &[u8]) -> usize
     requires { ⌜ Layable (Notice asked) (payloads (now settings) (now told)) at (length (now out)) ⌝ }
@@ -560,6 +571,9 @@ fn put_notice(out: &mut [u8], at: usize, asked: Asked, settings: &[u8], told: &[
             return text::copy_few(told, out, at);
         }
         return put_parts(out, at, told);
+    }
+    if asked.kind == model::ALARMS {
+        return put_alarm(out, at, told);
     }
     if asked.revision < 2 {
         return put_result(out, at, settings, told);
@@ -620,7 +634,11 @@ fn notice_mid(kind: usize) -> u64
     requires { ⌜ kind < length kinds ⌝ }
     ensures { λ r. ⌜ r ≡ (kind-at kind) .notice ⌝ }
 {
-    if kind == model::IDENTIFIERS { 52 } else { 61 }
+    match kind {
+        model::IDENTIFIERS => 52,
+        model::TIGHTENINGS => 61,
+        _ => 71,
+    }
 }
 
 // Byte 12 of a notice.

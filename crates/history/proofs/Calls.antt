@@ -11,7 +11,7 @@ use lib.Dec.{eqb}
 use lib.ListN.{length, getD}
 use Rattle.model.specs.Limits.{session-count}
 use Rattle.model.specs.Records.{Settings}
-use Rattle.model.specs.Kinds.{kinds}
+use Rattle.model.specs.Kinds.{Room, kinds, room-of}
 use Rattle.model.specs.Events.{Event, kind-of}
 use Rattle.model.specs.Sharing.{Shared, shared-with}
 use Rattle.model.specs.Frames.{event-frame}
@@ -33,7 +33,7 @@ use Rattle.history.specs.Past.{event, frame-for, takes}
 use Rattle.history.specs.Demand.{copies-in, seen, seen-in}
 use Rattle.history.proofs.Subscriptions.{wish-in, is-some-wish, view}
 use Rattle.history.proofs.Signals.{Signals, signals, silent-after}
-use Rattle.history.proofs.Sessions.{SessionRead, next, closing, Like, sub-at, StepOfKind, newest, StepAsRead, frame-none, then-steps}
+use Rattle.history.proofs.Sessions.{SessionRead, next, closing, Like, sub-at, StepOfKind, StepAsRead, frame-none, then-steps}
 
 -- ==== what is read of a session
 
@@ -88,15 +88,15 @@ pub record Moves (st : Settings) (g : Shared) (w : World) (past : List Turn) (x 
   pub like : (s : ℕ) → s < session-count → Like (session-read s (x ∷ past)) (session-at w′ s)
   pub rises : (kind : ℕ) (o : Option Wish) → Rises (w .shared .events) (w′ .shared .events) (frame-for st kind o (event g past x))
   pub does : (s : ℕ) → s < session-count → (kind : ℕ) → kind < length kinds
-      → Eff (newest kind) (w .shared .events) (w′ .shared .events) (frame-for st kind (wish s kind past) (event g past x))
+      → Eff (room-of kind) (w .shared .events) (w′ .shared .events) (frame-for st kind (wish s kind past) (event g past x))
       (takes s kind g past x) (asks-acknowledge (wish s kind past)) (closes s kind past x) (ticks s x) (subscribed s kind past)
       (subscribed s kind (x ∷ past)) (view st (sub-of s kind w)) (view st (sub-of s kind w′)) (seen-in kind (pick s (x .out)))
 
 -- the same thing done, in other words
-recast : {z : Bool} {k k′ j′ : ℕ} {e e′ : Option (List ℕ)} {o o′ a a′ cl cl′ t t′ p p′ u u′ : Bool} {q r r′ : PendingSeen}
+recast : {room : Room} {k k′ j′ : ℕ} {e e′ : Option (List ℕ)} {o o′ a a′ cl cl′ t t′ p p′ u u′ : Bool} {q r r′ : PendingSeen}
     {es es′ : List Seen}
     → j′ ≡ k′ → e′ ≡ e → o′ ≡ o → a′ ≡ a → cl′ ≡ cl → t′ ≡ t → p′ ≡ p → u′ ≡ u → r′ ≡ r → es′ ≡ es
-    → Eff z k k′ e o a cl t p u q r es → Eff z k j′ e′ o′ a′ cl′ t′ p′ u′ q r′ es′
+    → Eff room k k′ e o a cl t p u q r es → Eff room k j′ e′ o′ a′ cl′ t′ p′ u′ q r′ es′
 recast a b c d f g h i j k x = rw (a, b, c, d, f, g, h, i, j, k) x
 
 -- what the turn x is besides the event e to session s, which steps to y: nothing that changes its notices; and the session takes the event
@@ -142,7 +142,7 @@ module _ (w : World) (past : List Turn) (like : (s : ℕ) → s < session-count 
   -- what is done by the step, or by the event where there is one
   done : (n : Option Event) → o ≡ n → (s : ℕ) → s < session-count → (kind : ℕ) → kind < length kinds
       → let z = told g n ((y s) .0) in let v = sub-of s kind w in
-      Eff (newest kind) (g .events) ((shared-with g n) .events) (frame-for st kind (wish-in v) n) (takes s kind g past x)
+      Eff (room-of kind) (g .events) ((shared-with g n) .events) (frame-for st kind (wish-in v) n) (takes s kind g past x)
       (asks-acknowledge (wish-in v)) (closing kind (message s past x) (hangs-up s x) (signals ((y s) .1))) (ticks s x) (is-subscribed v)
       (is-subscribed (sub-at kind (z .0))) (view st v) (view st (sub-at kind (z .0))) (seen-in kind ((y s) .1 ++ z .1))
   done none q s h kind u =

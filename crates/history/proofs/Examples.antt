@@ -1,5 +1,5 @@
 -- The words in which demand 3, and what is said of old results, are read off calls, on small histories, computed. Each is session 0,
--- started and subscribed to tightenings with acknowledge, and a tightening that goes out to it; then what a row says.
+-- started and subscribed to tightenings, or to alarms, with acknowledge, and one that goes out to it; then what a row says.
 use Prim.Native.Nat.{ℕ, zero, suc, _-_, _/_, _%_}
 use Prim.Native.String.{String}
 use mathlib.Core.Path.{_≡_, refl}
@@ -7,17 +7,17 @@ use mathlib.Core.Bool.{Bool, true, false}
 use mathlib.Core.List.{List, [], _∷_, _++_, map}
 use mathlib.Core.Option.{Option, none, some, Option·map as option-map}
 use lib.ListN.{length, drop, replicate}
-use Rattle.model.specs.Limits.{table-least, output-least, longest-wait}
+use Rattle.model.specs.Limits.{table-least, output-least, tightenings-held, alarms-held, longest-wait}
 use Rattle.model.specs.Bytes.{padded}
 use Rattle.model.specs.Runs.{empty-run, longer, read-run}
 use Rattle.model.specs.Records.{Settings, payload, settings-of}
-use Rattle.model.specs.Kinds.{tightenings}
+use Rattle.model.specs.Kinds.{tightenings, alarms}
 use Rattle.model.specs.Events.{Result}
 use Rattle.model.specs.World.{begun}
 use Rattle.model.specs.Calls.{Call, start, open-session, hang-up-session, bytes, one-tick, tool, Lent}
 use Rattle.model.proofs.Text.{_&_, ascii, frame-text}
-use Rattle.model.proofs.Histories.{result-of-guide, a-tightening, scan, opened, hung-up, message, sends, tick, ticks, line4, on, told}
-use Rattle.model.proofs.Histories.{outcome}
+use Rattle.model.proofs.Histories.{result-of-guide, a-tightening, scan, an-alarm, opened, hung-up, message, sends, tick, ticks, line4}
+use Rattle.model.proofs.Histories.{on, told, warned, outcome}
 use Rattle.watch.specs.Marks.{Mark, copies, T}
 use Rattle.history.specs.Turns.{Turn, turns}
 use Rattle.history.specs.Demand.{marks, past-after}
@@ -47,9 +47,12 @@ of-line4 = settings-of (payload line4)
 abbrev made : List ℕ → Lent × Call
 made slice = (long-enough, call-in slice)
 
--- the marks of the calls after the start, for session 0 and tightenings
+-- the marks of the calls after the start, for session 0 and a kind; and for tightenings
+abbrev marks-for : ℕ → List (Lent × Call) → List Mark
+marks-for kind cs = marks of-line4 0 kind [] (turns (begun of-line4 0) cs)
+
 abbrev marks-of : List (Lent × Call) → List Mark
-marks-of cs = marks of-line4 0 tightenings [] (turns (begun of-line4 0) cs)
+marks-of cs = marks-for tightenings cs
 
 -- of the beginning, and of what comes after it: it is four calls, of which the last sends the first copy
 abbrev beginning : List (Lent × Call)
@@ -60,6 +63,13 @@ all-of h = marks-of (beginning ++ map made h)
 
 abbrev later : List (List ℕ) → List Mark
 later h = drop 4 (all-of h)
+
+-- the same for alarms
+abbrev all-of-alarms : List (List ℕ) → List Mark
+all-of-alarms h = marks-for alarms (map made (drop 1 warned ++ an-alarm "E404" ∷ h))
+
+abbrev later-of-alarms : List (List ℕ) → List Mark
+later-of-alarms h = drop 4 (all-of-alarms h)
 
 -- so many times fourteen ticks, each time with a message after them that gets no reply
 abbrev fourteens : ℕ → List (List ℕ)
@@ -80,6 +90,15 @@ pub the-copies : map stood (19 ∷ 20 ∷ 99 ∷ 100 ∷ 120 ∷ 130 ∷ [])
 unfolding outcome
 the-copies = refl
 
+-- of an alarm (02, P5)
+abbrev alarm-stood : ℕ → List ℕ
+alarm-stood n = T (later-of-alarms (stands n)) ∷ copies 0 (all-of-alarms (stands n)) ∷ []
+
+pub the-copies-of-an-alarm : map alarm-stood (19 ∷ 20 ∷ 100 ∷ 130 ∷ [])
+    ≡ (19 ∷ 1 ∷ []) ∷ (20 ∷ 2 ∷ []) ∷ (100 ∷ 6 ∷ []) ∷ (120 ∷ 6 ∷ []) ∷ []
+unfolding outcome
+the-copies-of-an-alarm = refl
+
 -- and in each revision that session 0 may subscribe to (02, P4), of 100 ticks
 abbrev stood-in : String → List ℕ
 stood-in revision =
@@ -96,9 +115,17 @@ the-copies-by-revision = refl
 abbrev of-the-eighth : ℕ → ℕ
 of-the-eighth n = copies 7 (all-of (replicate 7 a-tightening ++ stands n))
 
-pub the-longest-wait : map of-the-eighth ((longest-wait - 1) ∷ longest-wait ∷ []) ≡ 0 ∷ 1 ∷ []
+pub the-longest-wait : map of-the-eighth ((longest-wait tightenings-held - 1) ∷ longest-wait tightenings-held ∷ []) ≡ 0 ∷ 1 ∷ []
 unfolding outcome
 the-longest-wait = refl
+
+-- and 360: of four alarms the last
+abbrev of-the-fourth : ℕ → ℕ
+of-the-fourth n = copies 3 (all-of-alarms (replicate 3 (an-alarm "E404") ++ stands n))
+
+pub the-longest-wait-of-an-alarm : map of-the-fourth ((longest-wait alarms-held - 1) ∷ longest-wait alarms-held ∷ []) ≡ 0 ∷ 1 ∷ []
+unfolding outcome
+the-longest-wait-of-an-alarm = refl
 
 -- ==== what closes, call by call
 
@@ -117,7 +144,23 @@ pub the-closers :
 unfolding outcome
 the-closers = refl
 
--- an acknowledge of the other kind, one that is too long, an unsubscribe that is refused, one of another session, and its hang-up; a lone
+-- of an alarm
+abbrev alarm-closed-by : List (List ℕ) → List Bool
+alarm-closed-by h = map (λ m. m .closes) (later-of-alarms h)
+
+pub the-closers-of-an-alarm :
+    map alarm-closed-by
+    ((hung-up 0 ∷ [])
+    ∷ (sends 0 "00200003001_________" ∷ [])
+    ∷ (sends 0 "00200073001_________" ∷ [])
+    ∷ (sends 0 "00200072001_________" ∷ [])
+    ∷ (sends 0 "00200062001_________" ∷ sends 0 "00210072001_________X" ∷ sends 0 "00200063001_________" ∷ an-alarm "E405" ∷ [])
+    ∷ [])
+    ≡ (true ∷ []) ∷ (true ∷ []) ∷ (true ∷ []) ∷ (true ∷ []) ∷ replicate 4 false ∷ []
+unfolding outcome
+the-closers-of-an-alarm = refl
+
+-- an acknowledge of another kind, one that is too long, an unsubscribe that is refused, one of another session, and its hang-up; a lone
 -- NUL, another event
 pub no-closers :
     map closed-by
@@ -125,9 +168,9 @@ pub no-closers :
     ∷ (sends 0 "00210062001_________X" ∷ [])
     ∷ (sends 0 "00200054001_________" ∷ [])
     ∷ (hung-up 1 ∷ opened 1 ∷ sends 1 "00200062001_________" ∷ hung-up 1 ∷ [])
-    ∷ (sends 0 "" ∷ a-tightening ∷ scan "A" ∷ [])
+    ∷ (sends 0 "" ∷ a-tightening ∷ scan "A" ∷ an-alarm "E404" ∷ sends 0 "00200072001_________" ∷ [])
     ∷ [])
-    ≡ (false ∷ []) ∷ (false ∷ []) ∷ (false ∷ []) ∷ replicate 4 false ∷ replicate 3 false ∷ []
+    ≡ (false ∷ []) ∷ (false ∷ []) ∷ (false ∷ []) ∷ replicate 4 false ∷ replicate 5 false ∷ []
 unfolding outcome
 no-closers = refl
 

@@ -10,7 +10,7 @@ use lib.ListN.{length, length-append}
 use borrow.Author.Tests.{eqb-false}
 use Rattle.model.specs.Limits.{session-count, most-copies}
 use Rattle.model.specs.Records.{Settings}
-use Rattle.model.specs.Kinds.{kinds}
+use Rattle.model.specs.Kinds.{kinds, room-of}
 use Rattle.model.specs.Events.{Event}
 use Rattle.model.specs.Sharing.{Shared}
 use Rattle.model.specs.Notices.{Subscription, unsubscribed}
@@ -30,7 +30,7 @@ use Rattle.history.specs.Past.{run, message, is-some}
 use Rattle.history.specs.Demand.{copies-in, seen, seen-in, mark, marks, frames, messages, over-kinds, events-taken, past-after}
 use Rattle.history.specs.Demand.{FewFrames, NoStart}
 use Rattle.history.proofs.Subscriptions.{view}
-use Rattle.history.proofs.Sessions.{sub-at, newest}
+use Rattle.history.proofs.Sessions.{sub-at}
 use Rattle.history.proofs.Calls.{sub-of, by-refusal}
 use Rattle.history.proofs.Sendings.{Sent}
 use Rattle.history.proofs.Turns.{goes, Agrees, moves, agrees-on, agrees-begun, course-of, sent-turn}
@@ -142,9 +142,9 @@ module _ (st : Settings) (s : ℕ) (h : s < session-count) where
       → length (all-sent (marks st s kind past during)) ≤ most-copies * taken (marks st s kind past during)
   few-copies kind u during later cs w past a ns e q =
       few (course-before (marks st s kind past during) (marks st s kind (past-after past during) later)
-      (subst (Course (newest kind) (w .shared .events) none-waits)
+      (subst (Course (room-of kind) (w .shared .events) none-waits)
       (ap (marks st s kind past) e ∙ marks-append st s kind past during later)
-      (subst (λ (x : Subscription). Course (newest kind) (w .shared .events) (view st x) (marks st s kind past (turns w cs))) q
+      (subst (λ (x : Subscription). Course (room-of kind) (w .shared .events) (view st x) (marks st s kind past (turns w cs))) q
       (course-of st w past cs a ns s h kind u))))
 
   abbrev Few : List Turn → List Turn → Type 0

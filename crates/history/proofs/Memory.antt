@@ -13,10 +13,10 @@ use lib.Seq.{take-take}
 use borrow.Author.Tests.{eqb-true}
 use Rattle.model.specs.Limits.{session-count, results-kept}
 use Rattle.model.specs.Bytes.{is-digit, all}
-use Rattle.model.specs.Records.{Settings, Tool, scanned, tightening}
+use Rattle.model.specs.Records.{Settings, Tool, scanned, tightening, alarm}
 use Rattle.model.specs.Runs.{empty-run, longer, Piece, Message, read-run}
 use Rattle.model.specs.Messages.{number-asked, entry-of, error-of}
-use Rattle.model.specs.Events.{Result, Event, identified, tightened}
+use Rattle.model.specs.Events.{Result, Event, identified, tightened, alarmed}
 use Rattle.model.specs.Memory.{kept-with, asked-for}
 use Rattle.model.specs.Sharing.{Shared, shared-with}
 use Rattle.model.specs.Notices.{Subscription}
@@ -56,6 +56,7 @@ kept-last st (x ∷ past) = go (event (shared st past) past x) (kept-last st pas
         → shared-with (shared st past) o .kept ≡ take results-kept (and-of o (tightenings-in st past))
     go none e = e
     go (some (identified y)) e = e
+    go (some (alarmed vs)) e = e
     go (some (tightened r)) e = ap (kept-with r) e ∙ take-first 63 r (tightenings-in st past)
 
 -- what a tightening has that is an event: the next number
@@ -63,6 +64,7 @@ abbrev Next : Shared → Option Event → Type 0
 Next g none = Unit {0}
 Next g (some (identified y)) = Unit {0}
 Next g (some (tightened r)) = r .number ≡ suc (g .last)
+Next g (some (alarmed vs)) = Unit {0}
 
 module _ (g : Shared) (past : List Turn) (x : Turn) where
   named-next : (o : Option Message) → Next g (identifier-event o)
@@ -78,6 +80,7 @@ module _ (g : Shared) (past : List Turn) (x : Turn) where
   call-next none = spoken-next (speaker (x .call))
   call-next (some (scanned y)) = tt
   call-next (some (tightening y t)) = add-one (g .last)
+  call-next (some (alarm vs)) = tt
 
   event-next : Next g (event g past x)
   event-next = either (Next g) (is-done x) (call-event g past x (reports (x .call))) none (call-next (reports (x .call))) tt
@@ -93,6 +96,7 @@ counted-so st (x ∷ past) = go (event (shared st past) past x) (event-next (sha
         (shared-with (shared st past) o .last ≡ st .last + length rs) × Counted (st .last) rs
     go none n h = h
     go (some (identified y)) n h = h
+    go (some (alarmed vs)) n h = h
     go (some (tightened r)) n h =
         let e : r .number ≡ st .last + suc (length (tightenings-in st past)) = omega (arith, h .0) in (e, (e, h .1))
 

@@ -4,10 +4,12 @@ use mathlib.Core.Path.{_≡_, refl, sym, _∙_, ap, ap₂}
 use mathlib.Core.Bool.{Bool, true, false, cond, _&&_, _||_, and-false}
 use mathlib.Core.List.{List, [], _∷_, _++_, map}
 use mathlib.Core.Option.{none}
+use native.Mathlib.Omega.{arith}
 use lib.Dec.{eqb}
 use lib.ListN.{length}
-use Rattle.model.specs.Limits.{session-count}
+use Rattle.model.specs.Limits.{session-count, tightenings-held, alarms-held}
 use Rattle.model.specs.Records.{Settings, payload, settings-of}
+use Rattle.model.specs.Kinds.{tightenings, alarms}
 use Rattle.model.specs.World.{World, begun}
 use Rattle.model.specs.Calls.{Call, Answer as ModelAnswer, step}
 use Rattle.model.specs.Sights.{starts}
@@ -18,12 +20,12 @@ use Rattle.controller.specs.Trace.{Made, Trace, none as no-call, and, History, 
 use Rattle.controller.proofs.Outputs.{step-below, step-many}
 use Rattle.controller.proofs.Traces.{number-is, table-left, table-begun}
 use Rattle.controller.proofs.Modelled.{lending, one-call, begun-meaning}
-use Rattle.watch.specs.Marks.{copies, Demand3}
+use Rattle.watch.specs.Marks.{copies, Demand3, InTime}
 use Rattle.history.specs.Turns.{Turn, turns, stops, subscribes, unsubscribes}
 use Rattle.history.specs.Past.{message, parts, started, wish-of, wish, is-some, subscribed, shared}
 use Rattle.history.specs.Output.{record-of}
 use Rattle.history.specs.Demand.{mark, marks, past-after, NoStart}
-use Rattle.history.specs.Product.{Tells, Once, Meets}
+use Rattle.history.specs.Product.{Tells, turns-of, Once, Meets}
 use Rattle.history.proofs.Output.{read-written, sent-back}
 use Rattle.history.proofs.Turns.{demand-3-of-runs, in-time-of-runs}
 use Rattle.history.proofs.Frames.{marks-append, few-frames-of-runs}
@@ -76,6 +78,16 @@ demand-3-of-the-product {t = t} {ms = ms} h o =
       in-time = λ s u. in-time-of-runs st cs ns s u;
       few-frames = λ s u. few-frames-of-runs st s u cs ns;
     }
+
+-- so a taken tightening goes out within 840 ticks
+pub tightenings-in-time : {slice : List ℕ} {size : ℕ} {ms : List Made} (h : Meets slice size ms) (s : ℕ) → s < session-count
+    → InTime tightenings-held (marks (h .settings) s tightenings [] (turns-of (h .settings) size ms))
+tightenings-in-time h s u = h .in-time s u tightenings tightenings-held (omega arith) refl
+
+-- and a taken alarm within 360
+pub alarms-in-time : {slice : List ℕ} {size : ℕ} {ms : List Made} (h : Meets slice size ms) (s : ℕ) → s < session-count
+    → InTime alarms-held (marks (h .settings) s alarms [] (turns-of (h .settings) size ms))
+alarms-in-time h s u = h .in-time s u alarms alarms-held (omega arith) refl
 
 -- ==== the story of the server that came back, of any turns that meet demand 3
 

@@ -12,7 +12,7 @@ use Rattle.model.specs.Limits.{session-count}
 use Rattle.model.specs.Bytes.{digits}
 use Rattle.model.specs.Records.{Settings}
 use Rattle.model.specs.Kinds.{kinds, kind-at}
-use Rattle.model.specs.Events.{Event, identified, tightened, kind-of}
+use Rattle.model.specs.Events.{Event, identified, tightened, alarmed, kind-of}
 use Rattle.model.specs.Frames.{header, frame, event-frame}
 use Rattle.model.specs.Row.{Tagged, pick}
 use Rattle.model.specs.Session.{Copy, Emission, reply, copy, close}
@@ -46,6 +46,7 @@ event-mid : (st : Settings) (r : ℕ) (a : Bool) (e : Event) → mid-of (event-f
 unfolding event-frame frame header digits
 event-mid st r a (identified x) = refl
 event-mid st r a (tightened x) = refl
+event-mid st r a (alarmed vs) = refl
 
 abbrev MidOf : ℕ → Option (List ℕ) → Type 0
 MidOf kind none = Unit {0}

@@ -40,7 +40,7 @@ use Rattle.model.proofs.RowLaws.{row-at, said-at, length-row}
 use Rattle.model.proofs.Cuts.{longer-longer}
 use Rattle.model.proofs.Framed.{both, either}
 use Rattle.model.proofs.Clean.{there, passed}
-use Rattle.model.proofs.KindLaws.{neither, rooms-small}
+use Rattle.model.proofs.KindLaws.{neither}
 use Rattle.model.proofs.EntryLaws.{has-length-only, is-not-read, SoundEntry, entry-sound}
 use Rattle.model.proofs.Sights.{Sees, nothing, a-start, its-opening, its-hang-up, a-tick, its-bytes, told}
 use Rattle.text.proofs.Lists.{drop-take}
@@ -49,7 +49,7 @@ use Rattle.history.specs.Turns.{mid-of}
 use Rattle.history.specs.Past.{run-with, ended, Wish, wish-of, is-some, asks-acknowledge, well-made, acknowledges}
 use Rattle.history.specs.Past.{identifier-event, frame-for, of-kind}
 use Rattle.history.specs.Demand.{copies-in, seen, seen-in}
-use Rattle.history.proofs.Subscriptions.{wish-in, as-seen, view, is-newest, Done, unchanged, wiped, beats-does, news-does, asks-does}
+use Rattle.history.proofs.Subscriptions.{wish-in, as-seen, view, Done, unchanged, wiped, beats-does, news-does, asks-does}
 use Rattle.history.proofs.Subscriptions.{drops-does, acks-does, asks-wish}
 use Rattle.history.proofs.Signals.{Signals, signals, silence, copies-silent, reply-first, silent-0004, welcome-0002, silent-other}
 use Rattle.history.proofs.Signals.{silent-0065, accepting, accepting-0005}
@@ -91,13 +91,10 @@ sub-at kind closed = unsubscribed
 sub-at kind (opened idle run) = unsubscribed
 sub-at kind (started idle run subs) = getD subs kind unsubscribed
 
-abbrev pub newest : ℕ → Bool
-newest kind = is-newest (room-of kind)
-
 -- what is done to the notices of one kind; y is the subscription before
 abbrev pub StepOfKind : Shared → ℕ → Option (List ℕ) → Bool → Bool → Bool → ℕ → Subscription → Session × List Emission → Type 0
 StepOfKind g k′ e o cl t kind y r =
-    Eff (newest kind) (g .events) k′ e o (asks-acknowledge (wish-in y)) cl t (is-subscribed y) (is-subscribed (sub-at kind (r .0)))
+    Eff (room-of kind) (g .events) k′ e o (asks-acknowledge (wish-in y)) cl t (is-subscribed y) (is-subscribed (sub-at kind (r .0)))
     (view (g .settings) y) (view (g .settings) (sub-at kind (r .0))) (seen-in kind (r .1))
 
 -- the session x becomes r .0 and is sent r .1, by a call that is no event (b: an identifier is accepted, which is one afterwards)
@@ -134,8 +131,8 @@ module _ {g : Shared} {bs : List ℕ} {o : Option Message} {hung t b : Bool} {R 
 
 -- nothing is done to its notices
 still : (g : Shared) (kind : ℕ) (x : Subscription)
-    → Done (newest kind) (g .settings) (g .events) (g .events) none false false false x (x, [])
-still g kind x = unchanged (newest kind) (g .settings) (g .events) (g .events) none x (le-refl (g .events))
+    → Done (room-of kind) (g .settings) (g .events) (g .events) none false false false x (x, [])
+still g kind x = unchanged (room-of kind) (g .settings) (g .events) (g .events) none x (le-refl (g .events))
 
 -- ==== a deed to each kind
 
@@ -156,7 +153,7 @@ module _ (g : Shared) (D : ℕ → Deed) (subs : List Subscription) (all-of : le
   seen-copies x (n ∷ ns) = ap (as-seen (g .settings) x n ∷_) (seen-copies x ns)
 
   pub dealt-does : (k′ : ℕ) (i : ℕ) (run : Run) {e : Option (List ℕ)} {o cl t : Bool}
-      → Done (newest kind) (g .settings) (g .events) k′ e o cl t (getD subs kind unsubscribed) acted
+      → Done (room-of kind) (g .settings) (g .events) k′ e o cl t (getD subs kind unsubscribed) acted
       → StepOfKind g k′ e o cl t kind (getD subs kind unsubscribed) (dealt (g .settings) i run D subs)
   dealt-does k′ i run x =
       rw (
@@ -239,7 +236,7 @@ module _ (g : Shared) (R : SessionRead) (i : ℕ) (run : Run) (subs : List Subsc
       → (next [] (some m) false sg R) .started ≡ true
       → ((kind : ℕ) → kind < length kinds
       → (next [] (some m) false sg R) .wish kind ≡ wish-in ((act (room-of kind) (D kind) (sub kind)) .0))
-      → ((kind : ℕ) → Done (newest kind) (g .settings) (g .events) (g .events) none false (closing kind (some m) false sg) false (sub kind)
+      → ((kind : ℕ) → Done (room-of kind) (g .settings) (g .events) (g .events) none false (closing kind (some m) false sg) false (sub kind)
       (act (room-of kind) (D kind) (sub kind)))
       → sg .accepts (λ m. m .identifies) ≡ false → Sent true es
       → Goal false (started 0 empty-run (row (deal (g .settings) D) 0 subs), es)
@@ -312,7 +309,7 @@ module _ (g : Shared) (R : SessionRead) (i : ℕ) (run : Run) (subs : List Subsc
   carry-steps real e known h starts q = idle [] refl (λ kind. refl) (acks-if real e known starts q) tt
   carry-steps real e known h stops q =
       steps-by (fresh, reply (frame-0005 (m .mid)) ∷ []) (accepting (bearing stops)) (accepts real e known stops q [] refl) refl
-      (refl, refl, λ kind. refl) (λ kind u. wiped (newest kind) (g .settings) (g .events) false (sub kind))
+      (refl, refl, λ kind. refl) (λ kind u. wiped (room-of kind) (g .settings) (g .events) false (sub kind))
       (refl, own-0005 (m .mid), tt) refl
   carry-steps real e known h (identifies n) q =
       let a = acks-if real e known (identifies n) q in
@@ -328,7 +325,7 @@ module _ (g : Shared) (R : SessionRead) (i : ℕ) (run : Run) (subs : List Subsc
       (λ kind u. wished (eqb kind j) kind refl u)
       (λ kind.
       rw (acks-if real e known (subscribes j n) q kind)
-      (asks-does (newest kind) (g .settings) (g .events) (room-of kind) (eqb kind j) (m .revision) (m .no-acknowledge) (sub kind))) refl
+      (asks-does (room-of kind) (g .settings) (g .events) (eqb kind j) (m .revision) (m .no-acknowledge) (sub kind))) refl
       (refl, own-0005 (m .mid), sent-dealt (g .settings) false D subs (like .3))
     where
       lone : is-subscribed (sub j) ≡ false
@@ -350,7 +347,7 @@ module _ (g : Shared) (R : SessionRead) (i : ℕ) (run : Run) (subs : List Subsc
       (λ kind u. wished (eqb kind j) kind u)
       (λ kind.
       rw (acks-if real e known (unsubscribes j n) q kind, or-false (eqb kind j))
-      (drops-does (newest kind) (g .settings) (g .events) (room-of kind) (eqb kind j) (sub kind))) refl
+      (drops-does (room-of kind) (g .settings) (g .events) (eqb kind j) (sub kind))) refl
       (refl, own-0005 (m .mid), sent-dealt (g .settings) false (only j drops) subs (like .3))
     where
       wished : (b : Bool) (kind : ℕ) → kind < length kinds
@@ -361,10 +358,10 @@ module _ (g : Shared) (R : SessionRead) (i : ℕ) (run : Run) (subs : List Subsc
       let good = passed standing e (m .size) (m .revision) (m .data-field) h .0 in
       dealt-steps (only j acks) (map copy (said (deal (g .settings) (only j acks)) 0 subs)) silence
       (copies-silent (g .settings) (only j acks) subs) (λ kind. refl) (like .1)
-      (λ kind u. like .2 kind u ∙ sym (acks-does (newest kind) (g .settings) (g .events) (room-of kind) (eqb kind j) (sub kind) .1))
+      (λ kind u. like .2 kind u ∙ sym (acks-does (room-of kind) (g .settings) (g .events) (eqb kind j) (sub kind) .1))
       (λ kind.
       rw (acks-if real e known (acknowledging j) q kind, good, and-true (eqb kind j))
-      (acks-does (newest kind) (g .settings) (g .events) (room-of kind) (eqb kind j) (sub kind) .0)) refl
+      (acks-does (room-of kind) (g .settings) (g .events) (eqb kind j) (sub kind) .0)) refl
       (sent-dealt (g .settings) true (only j acks) subs (like .3))
   carry-steps real e known h (fetches n) q = go (asked-for (number-asked (m .data-field)) (g .kept))
     where
@@ -460,7 +457,7 @@ module _ (g : Shared) (R : SessionRead) where
   pub hang-up-steps : (x : Session) → Like R x → StepAsRead g (R .run) none true false false R x (step g hang-up x)
   hang-up-steps x l =
       steps-by (closed, []) silence refl refl (refl, λ kind. refl)
-      (λ kind h. wiped (newest kind) (g .settings) (g .events) false (sub-at kind x)) tt refl
+      (λ kind h. wiped (room-of kind) (g .settings) (g .events) false (sub-at kind x)) tt refl
 
   abbrev shut : Signals
   shut = record { closes = true; welcomes = false; accepts = λ so. false }
@@ -479,19 +476,19 @@ module _ (g : Shared) (R : SessionRead) where
       let r = dealt (g .settings) (suc i) run D subs in
       either (Ticked (started i run subs)) (eqb (suc i) idle-limit) (closed, close ∷ []) r
       (steps-by (closed, close ∷ []) shut refl refl (refl, λ kind. refl)
-      (λ kind h. wiped (newest kind) (g .settings) (g .events) true (getD subs kind unsubscribed)) tt refl)
+      (λ kind h. wiped (room-of kind) (g .settings) (g .events) true (getD subs kind unsubscribed)) tt refl)
       (steps-by r silence (copies-silent (g .settings) D subs) refl (
         l .0,
         l .1,
         λ kind h.
             l .2 kind h
             ∙ sym (ap wish-in (dealt-at g D subs (l .3) kind h)
-            ∙ beats-does (newest kind) (g .settings) (g .events) (room-of kind) (getD subs kind unsubscribed) .1),
+            ∙ beats-does (room-of kind) (g .settings) (g .events) (getD subs kind unsubscribed) .1),
         length-row (deal (g .settings) D) 0 subs ∙ l .3,
       )
       (λ kind h.
       dealt-does g D subs (l .3) kind h (g .events) (suc i) run
-      (beats-does (newest kind) (g .settings) (g .events) (room-of kind) (getD subs kind unsubscribed) .0))
+      (beats-does (room-of kind) (g .settings) (g .events) (getD subs kind unsubscribed) .0))
       (sent-dealt (g .settings) false D subs (l .3)) refl)
 
   -- bytes; b: a NUL ends the run
@@ -619,7 +616,7 @@ event-steps g (some e) R (opened i run) l = record {
 event-steps g (some e) R (started i run subs) l =
     let D = only (kind-of e) (news (notice-of g e)) in
     let new : (kind : ℕ) → kind < length kinds → _ = λ kind h.
-    news-does (newest kind) (g .settings) (g .events) (room-of kind) (rooms-small kind h) refl e kind (getD subs kind unsubscribed) in
+    news-does (room-of kind) (g .settings) (g .events) e kind (getD subs kind unsubscribed) in
     record {
       silent = copies-silent (g .settings) D subs;
       like = (

@@ -9,7 +9,7 @@ use borrow.Author.Tests.{ne-eqb}
 use Rattle.model.specs.Bytes.{places, decimal, digits}
 use Rattle.model.specs.Records.{Settings}
 use Rattle.model.specs.Messages.{Bearing, entry-bearing, entry-of}
-use Rattle.model.specs.Events.{Result, Event, identified, tightened, Notice}
+use Rattle.model.specs.Events.{Result, Event, identified, tightened, alarmed, Notice}
 use Rattle.model.specs.Layouts.{characters, data-from}
 use Rattle.model.specs.Frames.{header, frame, frame-0002, frame-0004, frame-0005, frame-0065, event-frame}
 use Rattle.model.specs.Kinds.{room-of}
@@ -45,6 +45,7 @@ pub notice-mid : (st : Settings) (r : ℕ) (a : Bool) (e : Event) → 5 < mid-of
 unfolding event-frame frame header digits
 notice-mid st r a (identified x) = omega arith
 notice-mid st r a (tightened x) = omega arith
+notice-mid st r a (alarmed vs) = omega arith
 
 abbrev Notices : List (Tagged Copy) → Type 0
 Notices cs = Every (λ (c : Tagged Copy). 5 < mid-of (c .what .frame)) cs

@@ -8,8 +8,8 @@ use native.Mathlib.Omega.{arith}
 use native.Mathlib.Nat.{le-refl}
 use lib.Dec.{ltb, eqb}
 use lib.ListN.{length, length-map}
-use borrow.Author.Tests.{eqb-true, eqb-false, leb-true, ltb-true}
-use Rattle.model.specs.Limits.{given-up-at, copy-every, tightenings-held}
+use borrow.Author.Tests.{eqb-true, eqb-false, ltb-true}
+use Rattle.model.specs.Limits.{given-up-at, copy-every}
 use Rattle.model.specs.Records.{Settings}
 use Rattle.model.specs.Events.{Event, kind-of, Notice}
 use Rattle.model.specs.Frames.{event-frame}
@@ -17,7 +17,6 @@ use Rattle.model.specs.Kinds.{Room, the-newest, up-to}
 use Rattle.model.specs.Notices.{empty, busy, Subscription, unsubscribed, plain, acked, is-subscribed, has-room, takes, nothing, beats, news}
 use Rattle.model.specs.Notices.{asks, drops, acks, next-one, waits, act}
 use Rattle.model.specs.Session.{frame-to}
-use Rattle.model.proofs.KindLaws.{small}
 use Rattle.watch.specs.Marks.{Seen}
 use Rattle.watch.specs.Course.{PendingSeen, empty as none-waits, busy as waiting, Eff, rest, lone, first, keep, wait, swap, wipe, over}
 use Rattle.watch.specs.Course.{pass, beat, again, quit, quit-pass}
@@ -47,36 +46,32 @@ view st (acked revision empty) = none-waits
 view st (acked revision (busy n clock waits)) =
     waiting (as-seen st (acked revision empty) n) clock (map (as-seen st (acked revision empty)) waits)
 
-abbrev pub is-newest : Room → Bool
-is-newest the-newest = true
-is-newest (up-to most) = false
-
 -- the subscription x becomes r .0, and of the notices r .1 copies are sent. From k events to k′; the frame of the event, if it
 -- is one; was it taken; does it close; is it a tick
-abbrev pub Done : Bool → Settings → ℕ → ℕ → Option (List ℕ) → Bool → Bool → Bool → Subscription → Subscription × List Notice → Type 0
-Done z st k k′ e o cl t x r =
-    Eff z k k′ e o (asks-acknowledge (wish-in x)) cl t (is-subscribed x) (is-subscribed (r .0)) (view st x) (view st (r .0))
+abbrev pub Done : Room → Settings → ℕ → ℕ → Option (List ℕ) → Bool → Bool → Bool → Subscription → Subscription × List Notice → Type 0
+Done room st k k′ e o cl t x r =
+    Eff room k k′ e o (asks-acknowledge (wish-in x)) cl t (is-subscribed x) (is-subscribed (r .0)) (view st x) (view st (r .0))
     (map (as-seen st x) (r .1))
 
 -- and what is wished stays
-abbrev Stays : Bool → Settings → ℕ → ℕ → Option (List ℕ) → Bool → Bool → Bool → Subscription → Subscription × List Notice → Type 0
-Stays z st k k′ e o cl t x r = Done z st k k′ e o cl t x r × (wish-in (r .0) ≡ wish-in x)
+abbrev Stays : Room → Settings → ℕ → ℕ → Option (List ℕ) → Bool → Bool → Bool → Subscription → Subscription × List Notice → Type 0
+Stays room st k k′ e o cl t x r = Done room st k k′ e o cl t x r × (wish-in (r .0) ≡ wish-in x)
 
-module _ (z : Bool) (st : Settings) (k : ℕ) where
-  pub unchanged : (k′ : ℕ) (e : Option (List ℕ)) (x : Subscription) → k ≤ k′ → Done z st k k′ e false false false x (x, [])
+module _ (room : Room) (st : Settings) (k : ℕ) where
+  pub unchanged : (k′ : ℕ) (e : Option (List ℕ)) (x : Subscription) → k ≤ k′ → Done room st k k′ e false false false x (x, [])
   unchanged k′ e unsubscribed h = rest h
   unchanged k′ e (plain r) h = rest h
   unchanged k′ e (acked r empty) h = rest h
   unchanged k′ e (acked r (busy n c q)) h = keep h
 
-  pub wiped : (t : Bool) (x : Subscription) → Done z st k k none false true t x (unsubscribed, [])
+  pub wiped : (t : Bool) (x : Subscription) → Done room st k k none false true t x (unsubscribed, [])
   wiped t unsubscribed = rest (le-refl k)
   wiped t (plain r) = rest (le-refl k)
   wiped t (acked r empty) = rest (le-refl k)
   wiped t (acked r (busy n c q)) = wipe (le-refl k)
 
   clock-does : (b d : Bool) (r : ℕ) (n : Notice) (c : ℕ) (q : List Notice) → eqb (suc c) given-up-at ≡ b → eqb (suc c % copy-every) 0 ≡ d
-      → Stays z st k k none false false true (acked r (busy n c q))
+      → Stays room st k k none false false true (acked r (busy n c q))
       (cond b (next-one r q) (acked r (busy n (suc c) q), cond d (n ∷ []) []))
   clock-does true d r n c [] u v = (quit (le-refl k) (eqb-true (suc c) given-up-at u), refl)
   clock-does true d r n c (y ∷ q) u v = (quit-pass (le-refl k) (eqb-true (suc c) given-up-at u), refl)
@@ -85,31 +80,29 @@ module _ (z : Bool) (st : Settings) (k : ℕ) where
   clock-does false false r n c q u v =
       (beat (le-refl k) (eqb-false (suc c) given-up-at u) (eqb-false (suc c % copy-every) 0 v), refl)
 
-  pub beats-does : (room : Room) (x : Subscription) → Stays z st k k none false false true x (act room beats x)
-  beats-does room unsubscribed = (rest (le-refl k), refl)
-  beats-does room (plain r) = (rest (le-refl k), refl)
-  beats-does room (acked r empty) = (rest (le-refl k), refl)
-  beats-does room (acked r (busy n c q)) = clock-does (eqb (suc c) given-up-at) (eqb (suc c % copy-every) 0) r n c q refl refl
+  pub beats-does : (x : Subscription) → Stays room st k k none false false true x (act room beats x)
+  beats-does unsubscribed = (rest (le-refl k), refl)
+  beats-does (plain r) = (rest (le-refl k), refl)
+  beats-does (acked r empty) = (rest (le-refl k), refl)
+  beats-does (acked r (busy n c q)) = clock-does (eqb (suc c) given-up-at) (eqb (suc c % copy-every) 0) r n c q refl refl
 
-  more-does : (b : Bool) (r : ℕ) (n : Notice) (c : ℕ) (q : List Notice) (e : Event)
-      → (b ≡ true → suc (length q) < tightenings-held)
-      → Done z st k (suc k) (some (frame-to st (acked r (busy n c q)) (record { id = k; event = e }))) b false false (acked r (busy n c q))
-      (acked r (busy n c (cond b (q ++ record { id = k; event = e } ∷ []) q)), [])
-  more-does true r n c q e h =
+  more-does : {most : ℕ} → room ≡ up-to most → (b : Bool) (r : ℕ) (n : Notice) (c : ℕ) (q : List Notice) (e : Event)
+      → (b ≡ true → suc (length q) < most)
+      → Done room st k (suc k) (some (frame-to st (acked r (busy n c q)) (record { id = k; event = e }))) b false false
+      (acked r (busy n c q)) (acked r (busy n c (cond b (q ++ record { id = k; event = e } ∷ []) q)), [])
+  more-does is true r n c q e h =
       rw (map-append (as-seen st (acked r empty)) q (record { id = k; event = e } ∷ []))
-      (wait {q = map (as-seen st (acked r empty)) q} refl (let u = h refl in omega (arith, length-map q (as-seen st (acked r empty)))))
-  more-does false r n c q e h = keep (omega arith)
+      (wait {q = map (as-seen st (acked r empty)) q} is refl (let u = h refl in omega (arith, length-map q (as-seen st (acked r empty)))))
+  more-does is false r n c q e h = keep (omega arith)
 
-  waits-does : (room : Room) → small room ≡ true → z ≡ is-newest room → (r : ℕ) (n : Notice) (c : ℕ) (q : List Notice) (e : Event)
-      → Done z st k (suc k) (some (frame-to st (acked r (busy n c q)) (record { id = k; event = e }))) (has-room room q) false false
-      (acked r (busy n c q)) (acked r (busy n c (waits room (record { id = k; event = e }) q)), [])
-  waits-does the-newest few new r n c q e = swap new refl
-  waits-does (up-to most) few new r n c q e =
-      more-does (ltb (suc (length q)) most) r n c q e
-      (λ z. let y = ltb-true (suc (length q)) most z in omega (arith, leb-true most tightenings-held few))
+  waits-does : (kept : Room) → room ≡ kept → (r : ℕ) (n : Notice) (c : ℕ) (q : List Notice) (e : Event)
+      → Done room st k (suc k) (some (frame-to st (acked r (busy n c q)) (record { id = k; event = e }))) (has-room kept q) false false
+      (acked r (busy n c q)) (acked r (busy n c (waits kept (record { id = k; event = e }) q)), [])
+  waits-does the-newest is r n c q e = swap is refl
+  waits-does (up-to most) is r n c q e = more-does is (ltb (suc (length q)) most) r n c q e (ltb-true (suc (length q)) most)
 
   -- an event, of this kind or (false) not
-  module _ (room : Room) (few : small room ≡ true) (new : z ≡ is-newest room) (e : Event) where
+  module _ (e : Event) where
     abbrev notice : Notice
     notice = record { id = k; event = e }
 
@@ -118,40 +111,40 @@ module _ (z : Bool) (st : Settings) (k : ℕ) where
     framed b (some w) = cond b (some (event-frame st (w .revision) (w .no-acknowledge) e)) none
 
     by-kind : (b : Bool) (x : Subscription)
-        → Stays z st k (suc k) (framed b (wish-in x)) (b && takes room x) false false x (act room (cond b (news notice) nothing) x)
+        → Stays room st k (suc k) (framed b (wish-in x)) (b && takes room x) false false x (act room (cond b (news notice) nothing) x)
     by-kind false x = (unchanged (suc k) (framed false (wish-in x)) x (omega arith), refl)
     by-kind true unsubscribed = (rest (omega arith), refl)
     by-kind true (plain r) = (lone refl, refl)
     by-kind true (acked r empty) = (first refl, refl)
-    by-kind true (acked r (busy n c q)) = (waits-does room few new r n c q e, refl)
+    by-kind true (acked r (busy n c q)) = (waits-does room refl r n c q e, refl)
 
     pub news-does : (kind : ℕ) (x : Subscription)
-        → Stays z st k (suc k) (frame-for st kind (wish-in x) (some e)) (eqb kind (kind-of e) && takes room x) false false x
+        → Stays room st k (suc k) (frame-for st kind (wish-in x) (some e)) (eqb kind (kind-of e) && takes room x) false false x
         (act room (cond (eqb kind (kind-of e)) (news notice) nothing) x)
     news-does kind unsubscribed = by-kind (eqb kind (kind-of e)) unsubscribed
     news-does kind (plain r) = by-kind (eqb kind (kind-of e)) (plain r)
     news-does kind (acked r q) = by-kind (eqb kind (kind-of e)) (acked r q)
 
-  pub asks-does : (room : Room) (b : Bool) (r : ℕ) (a : Bool) (x : Subscription)
-      → Done z st k k none false false false x (act room (cond b (asks r a) nothing) x)
-  asks-does room false r a x = unchanged k none x (le-refl k)
-  asks-does room true r true unsubscribed = rest (le-refl k)
-  asks-does room true r false unsubscribed = rest (le-refl k)
-  asks-does room true r a (plain v) = rest (le-refl k)
-  asks-does room true r a (acked v empty) = rest (le-refl k)
-  asks-does room true r a (acked v (busy n c q)) = keep (le-refl k)
+  pub asks-does : (b : Bool) (r : ℕ) (a : Bool) (x : Subscription)
+      → Done room st k k none false false false x (act room (cond b (asks r a) nothing) x)
+  asks-does false r a x = unchanged k none x (le-refl k)
+  asks-does true r true unsubscribed = rest (le-refl k)
+  asks-does true r false unsubscribed = rest (le-refl k)
+  asks-does true r a (plain v) = rest (le-refl k)
+  asks-does true r a (acked v empty) = rest (le-refl k)
+  asks-does true r a (acked v (busy n c q)) = keep (le-refl k)
 
-  pub drops-does : (room : Room) (b : Bool) (x : Subscription) → Done z st k k none false b false x (act room (cond b drops nothing) x)
-  drops-does room false x = unchanged k none x (le-refl k)
-  drops-does room true x = wiped false x
+  pub drops-does : (b : Bool) (x : Subscription) → Done room st k k none false b false x (act room (cond b drops nothing) x)
+  drops-does false x = unchanged k none x (le-refl k)
+  drops-does true x = wiped false x
 
-  pub acks-does : (room : Room) (b : Bool) (x : Subscription) → Stays z st k k none false b false x (act room (cond b acks nothing) x)
-  acks-does room false x = (unchanged k none x (le-refl k), refl)
-  acks-does room true unsubscribed = (rest (le-refl k), refl)
-  acks-does room true (plain r) = (rest (le-refl k), refl)
-  acks-does room true (acked r empty) = (rest (le-refl k), refl)
-  acks-does room true (acked r (busy n c [])) = (over (le-refl k), refl)
-  acks-does room true (acked r (busy n c (y ∷ q))) = (pass (le-refl k), refl)
+  pub acks-does : (b : Bool) (x : Subscription) → Stays room st k k none false b false x (act room (cond b acks nothing) x)
+  acks-does false x = (unchanged k none x (le-refl k), refl)
+  acks-does true unsubscribed = (rest (le-refl k), refl)
+  acks-does true (plain r) = (rest (le-refl k), refl)
+  acks-does true (acked r empty) = (rest (le-refl k), refl)
+  acks-does true (acked r (busy n c [])) = (over (le-refl k), refl)
+  acks-does true (acked r (busy n c (y ∷ q))) = (pass (le-refl k), refl)
 
 -- ==== what is wished once it is subscribed
 

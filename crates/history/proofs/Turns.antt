@@ -11,7 +11,7 @@ use lib.ListN.{length, getD-replicate}
 use borrow.Author.Tests.{eqb-true, eq-eqb}
 use Rattle.model.specs.Limits.{session-count}
 use Rattle.model.specs.Records.{Settings, Tool}
-use Rattle.model.specs.Kinds.{kinds, identifiers, tightenings, room-of}
+use Rattle.model.specs.Kinds.{up-to, kinds, identifiers, room-of}
 use Rattle.model.specs.Runs.{Piece}
 use Rattle.model.specs.Events.{Event, identified, kind-of}
 use Rattle.model.specs.Sharing.{Shared, shared-with, reported}
@@ -35,7 +35,7 @@ use Rattle.history.specs.Demand.{seen-in, marks, NoStart}
 use Rattle.history.proofs.Subscriptions.{wish-in, view}
 use Rattle.history.proofs.Signals.{Signals, signals, silent-after}
 use Rattle.history.proofs.Sendings.{Sent, sent-append}
-use Rattle.history.proofs.Sessions.{closing, Like, sub-at, newest, StepAsRead, elsewhere-steps, tells-of, sees-steps, told-steps}
+use Rattle.history.proofs.Sessions.{closing, Like, sub-at, StepAsRead, elsewhere-steps, tells-of, sees-steps, told-steps}
 use Rattle.history.proofs.Sessions.{then-steps}
 use Rattle.history.proofs.Calls.{session-read, sub-of, like-wish, by-refusal, Moves, Beside, moves-by}
 
@@ -281,7 +281,7 @@ module _ (st : Settings) where
 
   pub course-of : (w : World) (past : List Turn) (cs : List (Lent × Call)) → Agrees st w past → NoStart (turns w cs)
       → (s : ℕ) → s < session-count → (kind : ℕ) → kind < length kinds
-      → Course (newest kind) (w .shared .events) (view st (sub-of s kind w)) (marks st s kind past (turns w cs))
+      → Course (room-of kind) (w .shared .events) (view st (sub-of s kind w)) (marks st s kind past (turns w cs))
   course-of w past [] a ns s h kind u = end
   course-of w past (c ∷ cs) a ns s h kind u =
       let m = moves st w past (c .0) (c .1) a (ns .0) in
@@ -293,11 +293,12 @@ module _ (st : Settings) where
 
   -- DEMAND 3, of every run of the model's calls after a start
   module _ (cs : List (Lent × Call)) (ns : NoStart (turns (begun st 0) cs)) (s : ℕ) (h : s < session-count) where
-    begun-course : (kind : ℕ) → kind < length kinds → Course (newest kind) 0 none-waits (marks st s kind [] (turns (begun st 0) cs))
+    begun-course : (kind : ℕ) → kind < length kinds → Course (room-of kind) 0 none-waits (marks st s kind [] (turns (begun st 0) cs))
     begun-course kind u = rw (view-begun s h kind) at (course-of (begun st 0) [] cs agrees-begun ns s h kind u)
 
     pub demand-3-of-runs : (kind : ℕ) → kind < length kinds → Demand3 (marks st s kind [] (turns (begun st 0) cs))
     demand-3-of-runs kind u = demand-3 (begun-course kind u)
 
-    pub in-time-of-runs : InTime (marks st s tightenings [] (turns (begun st 0) cs))
-    in-time-of-runs = goes-out-in-time (begun-course tightenings (omega arith))
+    pub in-time-of-runs : (kind most : ℕ) → kind < length kinds → room-of kind ≡ up-to most
+        → InTime most (marks st s kind [] (turns (begun st 0) cs))
+    in-time-of-runs kind most u e = goes-out-in-time (rw e at (begun-course kind u))

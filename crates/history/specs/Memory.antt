@@ -12,7 +12,7 @@ use Rattle.model.specs.Bytes.{is-digit, all}
 use Rattle.model.specs.Records.{Settings}
 use Rattle.model.specs.Runs.{Message}
 use Rattle.model.specs.Messages.{number-asked}
-use Rattle.model.specs.Events.{Result, Event, identified, tightened}
+use Rattle.model.specs.Events.{Result, Event, identified, tightened, alarmed}
 use Rattle.model.specs.Memory.{asked-for}
 use Rattle.model.specs.Frames.{frame-0004, frame-0065}
 use Rattle.controller.specs.Trace.{Made}
@@ -27,6 +27,7 @@ abbrev pub and-of : Option Event → List Result → List Result
 and-of none rs = rs
 and-of (some (identified x)) rs = rs
 and-of (some (tightened r)) rs = r ∷ rs
+and-of (some (alarmed vs)) rs = rs
 
 abbrev pub tightenings-in : Settings → List Turn → List Result
 tightenings-in st [] = []

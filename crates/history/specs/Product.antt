@@ -8,7 +8,7 @@ use lib.Dec.{eqb}
 use lib.ListN.{length, take}
 use Rattle.model.specs.Limits.{session-count}
 use Rattle.model.specs.Records.{Settings, read-settings}
-use Rattle.model.specs.Kinds.{kinds, tightenings}
+use Rattle.model.specs.Kinds.{up-to, kinds, room-of}
 use Rattle.model.specs.World.{begun}
 use Rattle.model.specs.Calls.{output}
 use Rattle.model.specs.Sights.{starts}
@@ -55,5 +55,7 @@ pub record Meets (slice : List ℕ) (size : ℕ) (ms : List Made) : Type 0 where
   pub told-apart : (s : ℕ) → s < session-count → ToldApart settings s (turns-of settings size ms)
   pub notices : (s : ℕ) → s < session-count → (kind : ℕ) → kind < length kinds
       → Demand3 (marks settings s kind [] (turns-of settings size ms))
-  pub in-time : (s : ℕ) → s < session-count → InTime (marks settings s tightenings [] (turns-of settings size ms))
+  -- of every kind of which several wait
+  pub in-time : (s : ℕ) → s < session-count → (kind most : ℕ) → kind < length kinds → room-of kind ≡ up-to most
+      → InTime most (marks settings s kind [] (turns-of settings size ms))
   pub few-frames : (s : ℕ) → s < session-count → FewFrames settings s (turns-of settings size ms)

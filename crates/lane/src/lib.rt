@@ -61,9 +61,14 @@ fn row_of(kind: usize) -> Row
             size: model::IDENTIFIER_LENGTH,
             newest: true,
         },
-        _ => Row {
+        model::TIGHTENINGS => Row {
             most: Session::TIGHTENINGS_HELD,
             size: model::RESULT_LENGTH,
+            newest: false,
+        },
+        _ => Row {
+            most: Session::ALARMS_HELD,
+            size: model::ALARM_LENGTH,
             newest: false,
         },
     }

@@ -5,7 +5,7 @@ use mathlib.Core.List.{List, []}
 use mathlib.Core.Option.{Option, none, some}
 use Prim.Native.Nat.{ℕ, _<_}
 use lib.Dec.{eqb}
-use lib.ListN.{getD}
+use lib.ListN.{length, getD}
 use borrow.Author.Tests.{eqb-true}
 use Rattle.model.specs.Messages.{Entry, entry, Revisions, not-read, revisions, mirrors, table, entry-of}
 use Rattle.message.specs.Inner.{any, messages, Spans, read, is-listed, Lists}
@@ -54,13 +54,13 @@ entry-at k = getD table k beyond
 abbrev row-at : ℕ → List ℕ
 row-at k = getD messages k []
 
-rule : (k : ℕ) → k < 11 → Says (row-at k) (entry-at k)
+rule : (k : ℕ) → k < length messages → Says (row-at k) (entry-at k)
 rule k h = says-tells (row-at k) (entry-at k) (at-each says messages table [] beyond refl k h)
 
 -- ==== a number and its row
 
 -- the entry of the number that a row has
-pub found : (mid k : ℕ) → k < 11 → entry-of mid ≡ some (entry-at k) → getD (row-at k) 0 0 ≡ mid
+pub found : (mid k : ℕ) → k < length messages → entry-of mid ≡ some (entry-at k) → getD (row-at k) 0 0 ≡ mid
     → Lists mid (read (row-at k)) (entry-of mid)
 found mid k h z e = let s = rule k h in rw z (sym e ∙ s .0, s .1, s .2, s .3)
 

@@ -35,6 +35,9 @@ messages =
     ∷ row 60 20 20 1 6
     ∷ row 62 20 20 0 any
     ∷ row 63 20 20 0 any
+    ∷ row 70 20 20 1 1
+    ∷ row 72 20 20 0 any
+    ∷ row 73 20 20 0 any
     ∷ row 64 30 30 1 1
     ∷ row 9999 20 20 0 any
     ∷ []

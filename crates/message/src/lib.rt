@@ -1,4 +1,4 @@
-// What a message does, and the error that it has (01, "What a message does"; 02, P2): decided by value, whatever the numbers are.
+// What a message does, and the error that it has (01, "What a message does"; 02, P2 and P5): decided by value, whatever the numbers are.
 ghost use mathlib.Core.Path.{_≡_};
 ghost use mathlib.Core.Bool.{true, cond, _&&_};
 ghost use mathlib.Core.Option.{none, some};
@@ -8,6 +8,7 @@ ghost use Rattle.model.specs.Messages.{entry-of, number-asked as number-asked-i
 ghost use Rattle.message.specs.Meaning.{effect-in, effect-listed, answered, meant as meant-by, is-among, standing-of};
 ghost use Rattle.message.specs.Meaning.{standing-with, error-in, error-number};
 ghost use Rattle.message.specs.Inner.{read, ListsAll, wants-digits, wanted, OwnError};
+use model::ALARMS;
 use model::IDENTIFIERS;
 use model::KIND_COUNT;
 use model::NUMBER_DIGITS;
@@ -51,7 +52,7 @@ pub fn gets_reply(e: Effect) -> bool
 const ANY: u64 = 0xFFFF_FFFF_FFFF_FFFF;
 
 // A message's number, its least and greatest length, its least and greatest revision.
-const MESSAGES: [[u64; 5]; 11] = [
+const MESSAGES: [[u64; 5]; 14] = [
     [1, 20, 20, 1, 1],
     [3, 20, 20, 0, ANY],
     [50, 21, 45, 1, 1],
@@ -61,6 +62,9 @@ const MESSAGES: [[u64; 5]; 11] = [
     [60, 20, 20, 1, 6],
     [62, 20, 20, 0, ANY],
     [63, 20, 20, 0, ANY],
+    [70, 20, 20, 1, 1],
+    [72, 20, 20, 0, ANY],
+    [73, 20, 20, 0, ANY],
     [64, 30, 30, 1, 1],
     [9999, 20, 20, 0, ANY],
 ];
@@ -135,8 +139,23 @@ fn listed_of(mid: u64) -> Listed
             },
             MESSAGES[8],
         ),
-        64 => with_row(Effect::Fetches { error: 15 }, MESSAGES[9]),
-        9999 => with_row(Effect::Mirrors, MESSAGES[10]),
+        70 => with_row(
+            Effect::Subscribes {
+                kind: ALARMS,
+                error: 11,
+            },
+            MESSAGES[9],
+        ),
+        72 => with_row(Effect::Acknowledges { kind: ALARMS }, MESSAGES[10]),
+        73 => with_row(
+            Effect::Unsubscribes {
+                kind: ALARMS,
+                error: 12,
+            },
+            MESSAGES[11],
+        ),
+        64 => with_row(Effect::Fetches { error: 15 }, MESSAGES[12]),
+        9999 => with_row(Effect::Mirrors, MESSAGES[13]),
         _ => with_row(Effect::Unknown, [0; 5]),
     }
 }

@@ -8,18 +8,18 @@ use lib.ListN.{length, getD}
 use native.Mathlib.Omega.{arith}
 use Rattle.model.specs.Limits.{header-length, identifier-length, copy-every, given-up-at, output-least}
 use Rattle.model.specs.Bytes.{spaces, digits}
-use Rattle.model.specs.Records.{Settings, settings-length, settings-of, tightening-length, tightening-of}
-use Rattle.model.specs.Events.{Result, identified, tightened, Notice}
-use Rattle.model.specs.Layouts.{characters, data-from, data-length, Layouts, revision-count, layouts-0052, layouts-0061}
+use Rattle.model.specs.Records.{Settings, settings-length, settings-of, tightening-length, tightening-of, alarm-length, alarm-of}
+use Rattle.model.specs.Events.{Result, identified, tightened, alarmed, Notice}
+use Rattle.model.specs.Layouts.{characters, data-from, data-length, Layouts, revision-count, layouts-0052, layouts-0061, layouts-0071}
 use Rattle.model.specs.Frames.{header, frame, frame-0002, frame-0065, event-frame}
-use Rattle.model.specs.Kinds.{Room, Kind, kinds, kind-at, identifiers, tightenings, copy-most, copies-most, longest-reply, event-most}
-use Rattle.model.specs.Kinds.{receive-most, tick-most, call-most}
+use Rattle.model.specs.Kinds.{Room, Kind, kinds, kind-at, identifiers, tightenings, alarms, copy-most, copies-most}
+use Rattle.model.specs.Kinds.{longest-reply, event-most, receive-most, tick-most, call-most}
 use Rattle.model.specs.Notices.{empty, busy, Subscription, unsubscribed, plain, acked, Deed, nothing, beats, news, asks, drops, acks}
 use Rattle.model.specs.Notices.{next-one, act}
 use Rattle.model.specs.Messages.{not-read, revisions, starts, stops, identifies, subscribes, unsubscribes, acknowledges, fetches}
 use Rattle.model.specs.Messages.{mirrors, entry, table}
 
--- 01, "What a message does"; 02, P2 and P4
+-- 01, "What a message does"; 02, P2, P4 and P5
 pub the-table : table
     ≡ entry 0001 20 20 (revisions 1 1) starts
     ∷ entry 0003 20 20 not-read stops
@@ -30,6 +30,9 @@ pub the-table : table
     ∷ entry 0060 20 20 (revisions 1 6) (subscribes tightenings 09)
     ∷ entry 0062 20 20 not-read (acknowledges tightenings)
     ∷ entry 0063 20 20 not-read (unsubscribes tightenings 10)
+    ∷ entry 0070 20 20 (revisions 1 1) (subscribes alarms 11)
+    ∷ entry 0072 20 20 not-read (acknowledges alarms)
+    ∷ entry 0073 20 20 not-read (unsubscribes alarms 12)
     ∷ entry 0064 30 30 (revisions 1 1) (fetches 15)
     ∷ entry 9999 20 20 not-read mirrors
     ∷ []
@@ -50,11 +53,12 @@ frames =
     ∷ frame-0065 result
     ∷ event-frame sample (revision-count layouts-0052) false (identified (spaces identifier-length))
     ∷ event-frame sample (revision-count layouts-0061) false (tightened result)
+    ∷ event-frame sample (revision-count layouts-0071) false (alarmed (alarm-of (spaces alarm-length)))
     ∷ []
 
 pub the-lengths : map length frames
     ≡ 57 ∷ longest-reply ∷ map (λ k. k .longest) kinds
-unfolding frame-0002 frame-0065 event-frame frame header data-from characters digits settings-of tightening-of
+unfolding frame-0002 frame-0065 event-frame frame header data-from characters digits settings-of tightening-of alarm-of
 the-lengths = refl
 
 -- and how long a frame of each kind is, by the revision, from 1 on
@@ -64,6 +68,7 @@ lengths ls = map (λ l. header-length + data-length l) (ls .older ++ ls .newest 
 pub lengths-by-revision : map (λ k. lengths (k .layouts)) kinds
     ≡ (45 ∷ 128 ∷ [])
     ∷ (231 ∷ 385 ∷ 419 ∷ 500 ∷ 506 ∷ 526 ∷ [])
+    ∷ (53 ∷ [])
     ∷ []
 lengths-by-revision = refl
 

@@ -14,9 +14,9 @@ use Rattle.model.specs.Limits.{header-length, identifier-length, number-
 use Rattle.model.specs.Bytes.{NUL, dash, colon, is-digit, all, places, decimal}
 use Rattle.model.specs.Records.{is-record, payload, Item, number, text, time, item-length, payload-length, parts-from, good-in-time}
 use Rattle.model.specs.Records.{is-time-from, good-item, good-parts, good-payload, good-record, value-of, values-of, values}
-use Rattle.model.specs.Records.{settings-record-kind, tightening-record-kind, scanned-record-kind, settings-items, settings-of}
-use Rattle.model.specs.Records.{read-settings, tightening-items, tightening-of, identifier-in, scanned-items, Tool, scanned}
-use Rattle.model.specs.Records.{tightening, read-tool}
+use Rattle.model.specs.Records.{settings-record-kind, tightening-record-kind, scanned-record-kind, alarm-record-kind, settings-items}
+use Rattle.model.specs.Records.{settings-of, read-settings, tightening-items, tightening-of, identifier-in, scanned-items}
+use Rattle.model.specs.Records.{alarm-items, alarm-of, Tool, scanned, tightening, alarm, read-tool}
 use Rattle.model.specs.Runs.{Run, longer, cut, Message, is-message, message-of, read-run}
 use Rattle.model.specs.Messages.{Effect, starts, stops, identifies, subscribes, unsubscribes, acknowledges, fetches, mirrors}
 use Rattle.model.specs.Messages.{Entry, table, listed, entry-of, Error, already-started, wrong-length, wrong-revision, wrong-data}
@@ -104,24 +104,28 @@ clean-start slice = go (good-record settings-record-kind settings-items slice) r
 abbrev pub CleanTool : Tool → Type 0
 CleanTool (scanned x) = Identifier x
 CleanTool (tightening x t) = Identifier x × Every Fit t × (all-within reported-items t ≡ true)
+CleanTool (alarm vs) = Every Fit vs × (all-within alarm-items vs ≡ true)
 
 -- and a tool record is good
 pub clean-tool : (slice : List ℕ) → IfAny CleanTool (read-tool slice)
-unfolding read-tool tightening-of
+unfolding read-tool tightening-of alarm-of
 clean-tool slice =
-    go (good-record tightening-record-kind tightening-items slice) (good-record scanned-record-kind scanned-items slice) refl refl
+    go (good-record tightening-record-kind tightening-items slice) (good-record scanned-record-kind scanned-items slice)
+    (good-record alarm-record-kind alarm-items slice) refl refl refl
   where
-    go : (a b : Bool) → good-record tightening-record-kind tightening-items slice ≡ a
-        → good-record scanned-record-kind scanned-items slice ≡ b → IfAny CleanTool (read-tool slice)
-    go true b e f =
+    go : (a b c : Bool) → good-record tightening-record-kind tightening-items slice ≡ a
+        → good-record scanned-record-kind scanned-items slice ≡ b → good-record alarm-record-kind alarm-items slice ≡ c
+        → IfAny CleanTool (read-tool slice)
+    go true b c e f g =
         let v = good-said tightening-record-kind tightening-items slice refl e in
         let n = length (identifier-in (payload slice)) in
         let w = both (eqb n identifier-length) (all-within reported-items (tightening-of (payload slice))) (v .1) in
         rw e (record { clean = v .0 .0; whole = eqb-true n identifier-length (w .0) }, v .0 .1, w .1)
-    go false true e f =
+    go false true c e f g =
         let v = good-said scanned-record-kind scanned-items slice refl f in
         rw (e, f) record { clean = subst Text (take-all identifier-length (payload slice) (omega arith)) (v .0 .0); whole = v .2 }
-    go false false e f = rw (e, f) tt
+    go false false true e f g = let v = good-said alarm-record-kind alarm-items slice refl g in rw (e, f, g) (v .0, v .1)
+    go false false false e f g = rw (e, f, g) tt
 
 -- ==== runs: a piece of bytes ends before its NUL, and so nothing that is kept has one
 

@@ -9,7 +9,7 @@ use mathlib.Core.Option.{Option, none, some, Option·map as option-map}
 use lib.Dec.{eqb}
 use lib.ListN.{getD, length-map, List·getD-map}
 use Rattle.model.specs.Limits.{given-up-at, copy-every, idle-limit}
-use Rattle.model.specs.Records.{Settings, Tool, scanned, tightening, read-settings, read-tool}
+use Rattle.model.specs.Records.{Settings, Tool, scanned, tightening, alarm, read-settings, read-tool}
 use Rattle.model.specs.Kinds.{Room, the-newest, up-to, room-of}
 use Rattle.model.specs.Runs.{Run, empty-run, longer, Piece, cut, Message, read-run}
 use Rattle.model.specs.Messages.{Effect, starts, stops, identifies, subscribes, unsubscribes, acknowledges, fetches, mirrors}
@@ -308,6 +308,7 @@ reported-erased : (g : Shared) (o : Option Tool) → option-map (reported (unnum
 reported-erased g none = refl
 reported-erased g (some (scanned x)) = refl
 reported-erased g (some (tightening x t)) = refl
+reported-erased g (some (alarm vs)) = refl
 
 alike : (w : World) (c : Call) → Alike w (moments w c)
 alike w (start slice) = alike-start w (read-settings slice)

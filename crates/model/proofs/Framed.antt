@@ -14,9 +14,9 @@ use Rattle.model.specs.Bytes.{NUL, space, digit-0, digit-1, is-digit, is
 use Rattle.model.specs.Records.{Value, counted, said, text-in, value-at, number-at, text-at, Settings, tightening-items}
 use Rattle.model.specs.Layouts.{Sources, settings, source, Row, number, text, blank, unreported, known, width-of, characters}
 use Rattle.model.specs.Layouts.{label-length, Layout, data-from, data-of, layout-0002, layout-0004, layout-0005, layout-0065}
-use Rattle.model.specs.Layouts.{Layouts, layout-at, layouts-0052, layouts-0061}
+use Rattle.model.specs.Layouts.{Layouts, layout-at, layouts-0052, layouts-0061, layouts-0071}
 use Rattle.model.specs.Kinds.{kind-at}
-use Rattle.model.specs.Events.{Result, Event, identified, tightened, kind-of, result-values, told-of}
+use Rattle.model.specs.Events.{Result, Event, identified, tightened, alarmed, kind-of, result-values, told-of}
 use Rattle.model.specs.Sharing.{last-after, in-force-after, kept-after}
 use Rattle.model.specs.Frames.{header, frame, sources, nothing, frame-0002, frame-0004, frame-0005, kept-sources, frame-0065}
 use Rattle.model.specs.Frames.{event-frame}
@@ -44,6 +44,10 @@ module _ {A : Type 0} (P : A → Type 0) where
   every-take zero xs h = tt
   every-take (suc n) [] h = tt
   every-take (suc n) (x ∷ xs) h = (h .0, every-take n xs (h .1))
+
+  pub every-replicate : (n : ℕ) (x : A) → P x → Every P (replicate n x)
+  every-replicate zero x h = tt
+  every-replicate (suc n) x h = (h, every-replicate n x h)
 
   pub every-at : (xs : List A) (i : ℕ) (d : A) → P d → Every P xs → P (getD xs i d)
   every-at [] i d h k = h
@@ -258,6 +262,7 @@ framed-0065 r h =
 slim-notice : (e : Event) (revision : ℕ) → slim (layout-at ((kind-at (kind-of e)) .layouts) revision) ≡ true
 slim-notice (identified x) revision = at-every slim layouts-0052 refl revision
 slim-notice (tightened r) revision = at-every slim layouts-0061 refl revision
+slim-notice (alarmed vs) revision = at-every slim layouts-0071 refl revision
 
 module _ (st : Settings) (clean : CleanSettings st) (revision : ℕ) (no-acknowledge : Bool) where
   pub framed-event : (e : Event) → CleanEvent e → Framed (event-frame st revision no-acknowledge e)
@@ -272,3 +277,4 @@ module _ (st : Settings) (clean : CleanSettings st) (revision : ℕ) (no-acknowl
   unfolding event-frame frame header digits
   notice-event (identified x) = refl
   notice-event (tightened r) = refl
+  notice-event (alarmed vs) = refl

@@ -4,13 +4,12 @@ use mathlib.Core.Path.{_≡_, refl, sym, ap}
 use mathlib.Core.Bool.{Bool, true, false, not, _&&_, _||_, true≢false}
 use mathlib.Core.List.{List, [], _∷_}
 use native.Mathlib.Omega.{arith}
-use lib.Dec.{leb, eqb}
+use lib.Dec.{eqb}
 use lib.ListN.{length, getD}
 use borrow.Author.Tests.{eqb-false, not-true}
-use Rattle.model.specs.Limits.{tightenings-held}
 use Rattle.model.specs.Bytes.{all}
 use Rattle.model.specs.Layouts.{Layout, layout-at}
-use Rattle.model.specs.Kinds.{Room, the-newest, up-to, Kind, kinds, kind-at}
+use Rattle.model.specs.Kinds.{Kind, kinds, kind-at}
 use Rattle.model.specs.Wire.{has-notice}
 use Rattle.model.proofs.Framed.{both, at-every}
 
@@ -53,15 +52,6 @@ differ-at (k ∷ ks) d h (suc i) (suc j) u v e =
 
 pub notices-differ : (i j : ℕ) → i < length kinds → j < length kinds → (kind-at i) .notice ≡ (kind-at j) .notice → i ≡ j
 notices-differ i j u v e = differ-at kinds _ refl i j u v e
-
--- ==== their rooms: none holds more than tightenings do
-
-abbrev pub small : Room → Bool
-small the-newest = true
-small (up-to most) = leb most tightenings-held
-
-pub rooms-small : (i : ℕ) → i < length kinds → small ((kind-at i) .room) ≡ true
-rooms-small i u = all-at (λ k. small (k .room)) kinds _ refl i u
 
 -- ==== their layouts: what a test finds of each of them it finds of every kind and revision
 

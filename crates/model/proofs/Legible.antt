@@ -11,11 +11,12 @@ use borrow.Author.Tests.{leb-true, ltb-true, eqb-true, le-leb, lt-ltb, eq-eqb}
 use Rattle.model.specs.Limits.{identifier-length, number-length, number-greatest, results-kept}
 use Rattle.model.specs.Bytes.{space, digit-0, digit-1, all, digits}
 use Rattle.model.specs.Records.{Item, number as number-item, text as text-item, time, Value, counted, said, number-at, text-at}
-use Rattle.model.specs.Records.{Settings, settings-items, tightening-items, result-items, scanned-items}
+use Rattle.model.specs.Records.{Settings, settings-items, tightening-items, result-items, scanned-items, alarm-items}
 use Rattle.model.specs.Layouts.{Sources, settings, source, Row, number, text, blank, unreported, known, characters, Layout}
-use Rattle.model.specs.Layouts.{data-from, data-of, layout-0002, layout-0004, layout-0005, layout-0065, layouts-0052, layouts-0061}
+use Rattle.model.specs.Layouts.{data-from, data-of, layout-0002, layout-0004, layout-0005, layout-0065, layouts-0052}
+use Rattle.model.specs.Layouts.{layouts-0061, layouts-0071}
 use Rattle.model.specs.Kinds.{kind-at}
-use Rattle.model.specs.Events.{Result, Event, identified, tightened, kind-of, told-of}
+use Rattle.model.specs.Events.{Result, Event, identified, tightened, alarmed, kind-of, told-of}
 use Rattle.model.specs.Frames.{header, frame, sources, nothing, frame-0002, frame-0004, frame-0005, kept-sources, frame-0065}
 use Rattle.model.specs.Frames.{event-frame}
 use Rattle.model.specs.FieldsRead.{legible, read-fields, read-frame, values-in, number-below, text-of, passes-at, row-fits}
@@ -115,6 +116,7 @@ back-0065 r h =
 notice-fits : (e : Event) (revision : ℕ) → all (row-fits settings-items (items-of e)) ((layout-for e revision) .rows) ≡ true
 notice-fits (identified x) revision = at-every (λ l. all (row-fits settings-items scanned-items) (l .rows)) layouts-0052 refl revision
 notice-fits (tightened r) revision = at-every (λ l. all (row-fits settings-items result-items) (l .rows)) layouts-0061 refl revision
+notice-fits (alarmed vs) revision = at-every (λ l. all (row-fits settings-items alarm-items) (l .rows)) layouts-0071 refl revision
 
 pub event-back : (st : Settings) (e : Event) → settings-within st ≡ true → told-within e ≡ true → (revision : ℕ) (no-acknowledge : Bool)
     → read-frame (layout-for e revision) (event-frame st revision no-acknowledge e)
@@ -140,7 +142,7 @@ copy-back st e h k id revision no-acknowledge = record {
   back = event-back st e (h .within) (k .within) revision no-acknowledge;
 }
 
--- ==== events: an identifier, and a tightening whose values are good and whose number there is
+-- ==== events: an identifier, a tightening whose values are good and whose number there is, an alarm whose values are good
 
 pub identified-clean : (x : List ℕ) → Identifier x → CleanEvent (identified x)
 identified-clean x h = record {
@@ -179,3 +181,6 @@ tightened-clean r h k w n =
       in-force = λ y l. l;
       kept = λ rs l. every-take CleanResult results-kept (r ∷ rs) (own, l);
     }
+
+pub alarmed-clean : (vs : List Value) → Every Fit vs → all-within alarm-items vs ≡ true → CleanEvent (alarmed vs)
+alarmed-clean vs k w = record { texts = k; within = w; last = λ n l. l; in-force = λ y l. l; kept = λ rs l. l }

@@ -20,7 +20,7 @@ use Rattle.model.specs.Events.{Result, Notice, kind-of}
 use Rattle.model.specs.Memory.{numbered, newest, asked-for}
 use Rattle.model.specs.Sharing.{Shared, notice-of}
 use Rattle.model.specs.Frames.{frame-0004, event-frame}
-use Rattle.model.specs.Kinds.{Room, the-newest, up-to, room-of}
+use Rattle.model.specs.Kinds.{Room, the-newest, up-to, kinds, room-of}
 use Rattle.model.specs.Notices.{Pending, empty, busy, Subscription, unsubscribed, plain, acked}
 use Rattle.model.specs.Notices.{has-room, Deed, nothing, beats, news, asks, drops, acks, next-one, waits, act}
 use Rattle.model.specs.Row.{Tagged, tag, row, said}
@@ -32,7 +32,8 @@ use Rattle.model.specs.Local.{end-run, end-run-opened, Local, opening, h
 use Rattle.model.specs.Local.{receive-opened, receive, step, identifier-run, announces}
 use Rattle.model.specs.Wire.{Every, NoNUL, Framed, Answers, welcomes, refuses, accepts, tells, mirrors as mirror, is-notice}
 use Rattle.model.specs.FieldsRead.{ReadsBack, ReplyReads, reads-0002, reads-0004, reads-0005, reads-0065, reads-9999}
-use Rattle.model.proofs.Framed.{left, right, every-append, either, IfAny, nul-append, nul-spaces, nul-text, Identifier}
+use Rattle.model.proofs.Framed.{left, right, every-append, every-replicate, either, IfAny, nul-append, nul-spaces}
+use Rattle.model.proofs.Framed.{nul-text, Identifier}
 use Rattle.model.proofs.Framed.{CleanSettings, CleanResult, CleanEvent, framed-0002, framed-0004, framed-0005, framed-0065}
 use Rattle.model.proofs.Framed.{framed-event, notice-event}
 use Rattle.model.proofs.Legible.{back-0002, back-0004, back-0005, back-0065, copy-back}
@@ -303,7 +304,8 @@ module _ (g : Shared) (clean : CleanSettings (g .settings)) (old : Every CleanRe
       go true e none k =
           let st = g .settings in
           let reads = reads-0002 (back-0002 st (clean .within)) in
-          ((tt, (tt, (tt, tt))), answers refl (welcomes st (eqb-true (m .mid) 0001 e)) (framed-0002 st clean) reads tt)
+          let none-held = every-replicate CleanSub (length kinds) unsubscribed tt in
+          ((tt, none-held), answers refl (welcomes st (eqb-true (m .mid) 0001 e)) (framed-0002 st clean) reads tt)
       go true e (some x) k = (tt, refused-clean m x (omega (arith, eqb-true (m .mid) 0001 e)) (ltb-true (code x) 100 k))
       go false e x k = (tt, quiet tt)
 

@@ -11,7 +11,7 @@ use lib.ListN.{replicate}
 use borrow.Author.Tests.{eqb-false, eq-eqb}
 use Rattle.model.specs.Limits.{session-count, number-greatest}
 use Rattle.model.specs.Bytes.{is-space, all}
-use Rattle.model.specs.Records.{Settings, read-settings, Tool, scanned, tightening, read-tool}
+use Rattle.model.specs.Records.{Settings, read-settings, Tool, scanned, tightening, alarm, read-tool}
 use Rattle.model.specs.Runs.{Piece, cut, Message}
 use Rattle.model.specs.Events.{Event, identified, identifier-of}
 use Rattle.model.specs.Sharing.{reported}
@@ -27,7 +27,7 @@ use Rattle.model.specs.Wire.{Every, Framed, Answers}
 use Rattle.model.specs.FieldsRead.{ReplyReads}
 use Rattle.model.proofs.Framed.{every-append, every-at, IfAny, either, Identifier, identifier-spaces, CleanSettings, CleanResult}
 use Rattle.model.proofs.Framed.{CleanEvent}
-use Rattle.model.proofs.Legible.{identified-clean, tightened-clean}
+use Rattle.model.proofs.Legible.{identified-clean, tightened-clean, alarmed-clean}
 use Rattle.model.proofs.Clean.{clean-start, CleanTool, clean-tool, nul-cut, there}
 use Rattle.model.proofs.Sent.{Follows, Says, quiet, answers, row-every, said-every, CleanSession, CleanLocal, completes, heard}
 use Rattle.model.proofs.Sent.{tag-every, step-clean, announces-clean}
@@ -140,6 +140,7 @@ reported-clean : (w : World) (o : Option Tool) → CleanWorld w → IfAny CleanT
     → IfAny CleanEvent (option-map (reported (w .shared)) o)
 reported-clean w none h c e = tt
 reported-clean w (some (scanned x)) h c e = identified-clean x c
+reported-clean w (some (alarm vs)) h c e = alarmed-clean vs (c .0) (c .1)
 reported-clean w (some (tightening x t)) h c e =
     let last = h .last in
     tightened-clean (record { number = w .shared .last + 1; identifier = identifier-of x (w .shared .in-force); tightening = t })

@@ -8,7 +8,7 @@ use lib.ListN.{length}
 use Rattle.model.specs.Limits.{session-count, table-least, output-least, number-greatest, answer-least, answer-too-short}
 use Rattle.model.specs.Bytes.{in-bytes}
 use Rattle.model.specs.Tests.{Test, _gives_, first}
-use Rattle.model.specs.Records.{Settings, read-settings, Tool, scanned, tightening, read-tool}
+use Rattle.model.specs.Records.{Settings, read-settings, Tool, scanned, tightening, alarm, read-tool}
 use Rattle.model.specs.Runs.{cut, consumed-by}
 use Rattle.model.specs.Events.{Event, identified, kind-of}
 use Rattle.model.specs.Sharing.{reported}
@@ -68,6 +68,7 @@ abbrev pub is-tightening : Option Tool → Bool
 is-tightening none = false
 is-tightening (some (scanned x)) = false
 is-tightening (some (tightening x t)) = true
+is-tightening (some (alarm vs)) = false
 
 -- what was read of a tool record's slice, and the last number
 abbrev pub tool-tests : Option Tool → ℕ → List (Test ℕ)

@@ -8,12 +8,12 @@ use lib.ListN.{length, take, drop, replicate}
 use Rattle.model.specs.Limits.{header-length, time-length}
 use Rattle.model.specs.Bytes.{digit-0, spaces, decimal}
 use Rattle.model.specs.Records.{Item, number as number-item, text as text-item, time, Value, counted, said, number-at, text-at}
-use Rattle.model.specs.Records.{Settings, settings-items, scanned-items, result-items}
+use Rattle.model.specs.Records.{Settings, settings-items, scanned-items, result-items, alarm-items}
 use Rattle.model.specs.Layouts.{Sources, settings, source, Row, number, text, blank, unreported, known, width-of, label-length}
 use Rattle.model.specs.Layouts.{Layout, layout-0002, layout-0004, layout-0005, layout-0065, layout-at}
 use Rattle.model.specs.Runs.{Message}
 use Rattle.model.specs.Kinds.{kind-at}
-use Rattle.model.specs.Events.{Result, Event, identified, tightened, kind-of, told-of}
+use Rattle.model.specs.Events.{Result, Event, identified, tightened, alarmed, kind-of, told-of}
 use Rattle.model.specs.Frames.{sources, frame-0002, frame-0004, frame-0005, kept-sources, frame-0065, event-frame}
 use Rattle.model.specs.Session.{Copy}
 
@@ -130,6 +130,7 @@ all-within (e ∷ es) (v ∷ vs) = is-within e v && all-within es vs
 abbrev pub items-of : Event → List Item
 items-of (identified x) = scanned-items
 items-of (tightened r) = result-items
+items-of (alarmed vs) = alarm-items
 
 -- settings, and events, of which each value is
 abbrev pub settings-within : Settings → Bool

@@ -1,11 +1,11 @@
--- 01, "What a message does", "Notices and the clock" and "Frames we write": the kinds of notice, a row each, with all that tells one kind
--- from another.
+-- 01, "What a message does", "Notices and the clock" and "Frames we write", and 02, P5: the kinds of notice, a row each, with all that
+-- tells one kind from another.
 use Prim.Native.Nat.{ℕ, suc, _+_, _*_}
 use mathlib.Core.List.{List, [], _∷_}
 use lib.ListN.{length, getD}
-use Rattle.model.specs.Limits.{session-count, tightenings-held}
+use Rattle.model.specs.Limits.{session-count, tightenings-held, alarms-held}
 use Rattle.model.specs.Records.{record-head}
-use Rattle.model.specs.Layouts.{Layouts, layouts-0052, layouts-0061}
+use Rattle.model.specs.Layouts.{Layouts, layouts-0052, layouts-0061, layouts-0071}
 
 -- how many notices a kind holds: beside the open one the newest alone waits; or so many in all, the open one counted
 pub data Room : Type 0 where
@@ -46,6 +46,7 @@ abbrev pub kinds : List Kind
 kinds =
     a-kind 0051 0052 0053 0054 06 07 the-newest layouts-0052 128
     ∷ a-kind 0060 0061 0062 0063 09 10 (up-to tightenings-held) layouts-0061 526
+    ∷ a-kind 0070 0071 0072 0073 11 12 (up-to alarms-held) layouts-0071 53
     ∷ []
 
 -- their places
@@ -54,6 +55,9 @@ identifiers = 0
 
 abbrev pub tightenings : ℕ
 tightenings = 1
+
+abbrev pub alarms : ℕ
+alarms = 2
 
 -- (past the last there is none)
 abbrev pub kind-at : ℕ → Kind

@@ -142,6 +142,13 @@ identifier-rows =
 abbrev pub layouts-0052 : Layouts
 layouts-0052 = record { older = first-of identifier-rows false 1 ∷ []; newest = first-of identifier-rows true 4 }
 
+-- 02, P5: 0071 (000, Table 35): error code, controller ready, tool ready, time
+abbrev pub alarm-rows : List Row
+alarm-rows = text 4 told 0 ∷ number 1 told 1 ∷ number 1 told 2 ∷ text time-length told 3 ∷ []
+
+abbrev pub layouts-0071 : Layouts
+layouts-0071 = record { older = []; newest = first-of alarm-rows true 4 }
+
 -- torques: minimum, maximum, target, the torque
 abbrev pub torque-rows : List Row
 torque-rows = number 6 told 8 ∷ number 6 told 9 ∷ number 6 told 10 ∷ number 6 told 11 ∷ []

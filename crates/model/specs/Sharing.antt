@@ -1,12 +1,12 @@
 -- What all sessions share, and what is left of it by an event or a start. 01, "What the product holds", "House records" and "Frames
--- we write"; 02, P2.
+-- we write"; 02, P2. An alarm leaves it as it was, but for the count of events.
 use Prim.Native.Nat.{ℕ, suc, _+_}
 use mathlib.Core.List.{List, []}
 use mathlib.Core.Option.{Option, none, some}
 use Rattle.model.specs.Limits.{identifier-length}
 use Rattle.model.specs.Bytes.{spaces}
-use Rattle.model.specs.Records.{Settings, Tool, scanned, tightening}
-use Rattle.model.specs.Events.{Result, Event, identified, tightened, identifier-of, Notice}
+use Rattle.model.specs.Records.{Settings, Tool, scanned, tightening, alarm}
+use Rattle.model.specs.Events.{Result, Event, identified, tightened, alarmed, identifier-of, Notice}
 use Rattle.model.specs.Memory.{kept-with}
 
 pub record Shared : Type 0 where
@@ -29,16 +29,19 @@ shared-begun st events =
 abbrev pub in-force-after : List ℕ → Event → List ℕ
 in-force-after x (identified y) = y
 in-force-after x (tightened r) = x
+in-force-after x (alarmed vs) = x
 
 -- an event of a tightening makes its number the last, whether a session takes it or not
 abbrev pub last-after : ℕ → Event → ℕ
 last-after n (identified y) = n
 last-after n (tightened r) = r .number
+last-after n (alarmed vs) = n
 
 -- and it is kept, whether a session takes it or not
 abbrev pub kept-after : List Result → Event → List Result
 kept-after rs (identified y) = rs
 kept-after rs (tightened r) = kept-with r rs
+kept-after rs (alarmed vs) = rs
 
 abbrev pub shared-after : Shared → Event → Shared
 shared-after g e = record {
@@ -69,3 +72,4 @@ abbrev pub reported : Shared → Tool → Event
 reported g (scanned x) = identified x
 reported g (tightening x t) =
     tightened (record { number = g .last + 1; identifier = identifier-of x (g .in-force); tightening = t })
+reported g (alarm vs) = alarmed vs

@@ -5,15 +5,16 @@ use native.Mathlib.Omega.{arith}
 use mathlib.Core.Bool.{Bool, true, false, _&&_}
 use mathlib.Core.List.{List}
 use lib.Dec.{eqb}
-use lib.ListN.{length, take, drop, drop-of-length-le}
+use lib.ListN.{length, take, drop, drop-of-length-le, List·getD-append}
+use lib.Seq.{getD-drop}
 use borrow.Author.Tests.{eq-eqb, ne-eqb}
 use Rattle.model.specs.Bytes.{all, little, places}
 use Rattle.model.specs.Records.{Item, time, item-length, is-record, good-item, payload-length, parts, parts-from, good-parts}
-use Rattle.model.specs.Records.{record-head, good-payload, good-record}
+use Rattle.model.specs.Records.{record-head, good-payload, good-record, settings-items, tightening-items, scanned-items, alarm-items}
 use Rattle.text.proofs.Lists.{drop-next}
 use Rattle.record.specs.declared.Items.{Items}
-use Rattle.record.specs.declared.Items.the-variants.{Settings, Tightening, Scanned}
-use Rattle.record.specs.Items.{items-of, item-at, readable}
+use Rattle.record.specs.declared.Items.the-variants.{Settings, Tightening, Scanned, Alarm}
+use Rattle.record.specs.Items.{items-of, all-items, first-of, item-at, readable}
 
 -- ==== a record's head
 
@@ -34,6 +35,26 @@ pub all-readable : (items : Items) → all readable (items-of items) ≡ true
 all-readable Settings = refl
 all-readable Tightening = refl
 all-readable Scanned = refl
+all-readable Alarm = refl
+
+-- so many of all there are, from that one on; and those of a record
+abbrev pub among : ℕ → ℕ → List Item
+among from n = take n (drop from all-items)
+
+pub own-among : (items : Items) → among (first-of items) (length (items-of items)) ≡ items-of items
+own-among Settings = refl
+own-among Tightening = refl
+own-among Scanned = refl
+own-among Alarm = refl
+
+-- item k of a record is among those of all
+pub item-among : (items : Items) (k : ℕ) → k < length (items-of items)
+    → (first-of items + k < length all-items) × (item-at all-items (first-of items + k) ≡ item-at (items-of items) k)
+item-among Settings k h = (omega arith, sym (getD-drop 0 all-items k time) ∙ List·getD-append settings-items (drop 5 all-items) time k h)
+item-among Tightening k h =
+    (omega arith, sym (getD-drop 5 all-items k time) ∙ List·getD-append tightening-items (drop 24 all-items) time k h)
+item-among Scanned k h = (omega arith, sym (getD-drop 24 all-items k time) ∙ List·getD-append scanned-items alarm-items time k h)
+item-among Alarm k h = (omega arith, sym (getD-drop 25 all-items k time))
 
 -- ==== a loop that tests an item a turn: what is left of the test is all of it
 

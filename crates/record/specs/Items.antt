@@ -1,25 +1,37 @@
 -- The items of a payload as the code has them, in the model's terms. 01, "House records".
 use Prim.Native.Nat.{ℕ}
 use mathlib.Core.Bool.{Bool, true}
-use mathlib.Core.List.{List}
+use mathlib.Core.List.{List, _++_}
 use lib.Dec.{leb}
 use lib.ListN.{getD}
-use Rattle.model.specs.Records.{number, text, time, settings-items, tightening-items, scanned-items}
+use Rattle.model.specs.Records.{number, text, time, settings-items, tightening-items, scanned-items, alarm-items}
 use Rattle.model.specs.Records.{Item as ModelItem}
 use Rattle.record.specs.declared.Item.{Item}
-use Rattle.record.specs.declared.Item.the-variants.{Number, Text, Time}
+use Rattle.record.specs.declared.Item.the-variants.{Number, Text, Code, Time}
 use Rattle.record.specs.declared.Items.{Items}
-use Rattle.record.specs.declared.Items.the-variants.{Settings, Tightening, Scanned}
+use Rattle.record.specs.declared.Items.the-variants.{Settings, Tightening, Scanned, Alarm}
 
 abbrev pub item-of : Item → ModelItem
 item-of (Number size greatest) = number size greatest
 item-of (Text size) = text size
+item-of Code = text 4
 item-of Time = time
 
 abbrev pub items-of : Items → List ModelItem
 items-of Settings = settings-items
 items-of Tightening = tightening-items
 items-of Scanned = scanned-items
+items-of Alarm = alarm-items
+
+-- those of every record, one behind the other; and which of them is a record's first
+abbrev pub all-items : List ModelItem
+all-items = settings-items ++ tightening-items ++ scanned-items ++ alarm-items
+
+abbrev pub first-of : Items → ℕ
+first-of Settings = 0
+first-of Tightening = 5
+first-of Scanned = 24
+first-of Alarm = 25
 
 -- item k, from 0
 abbrev pub item-at : List ModelItem → ℕ → ModelItem

@@ -14,14 +14,14 @@ ghost use Rattle.model.specs.Records.{
   parts,
   good-parts,
   good-record as good-record-of,
-  settings-items,
-  tightening-items,
   read-settings,
   read-tool,
 };
 ghost use Rattle.model.specs.Events.{identifier-of};
-ghost use Rattle.record.specs.Items.{item-of, item-at, items-of, readable};
+ghost use Rattle.record.specs.Items.{item-of, item-at, items-of, all-items, first-of, readable};
 ghost use Rattle.record.specs.Tools.{settings-in, tool-in};
+use model::ALARM_LENGTH;
+use model::ALARM_RECORD_KIND;
 use model::IDENTIFIER_LENGTH;
 use model::NUMBER_GREATEST;
 use model::NUMBER_LENGTH;
@@ -60,70 +60,88 @@ pub fn is_time(s: &[u8]) -> bool
     true
 }
 
-// ---- payloads: their items, counted from 0. They stand in the arms of a match: a table would be laid on the stack in each call
+// ---- payloads: their items, counted from 0. They stand in the arms of one match: a table would be laid on the stack in each call, and a
+// match for each record would be chosen anew for each item
 
 enum Item {
     // in how many bytes, and the greatest that is good
     Number(usize, u64),
     // of how many bytes
     Text(usize),
+    // a text of CODE_LENGTH bytes: so the compiler knows how long every other text is
+    Code,
     Time,
 }
+
+const CODE_LENGTH: usize = 4;
 
 // Whose items.
 enum Items {
     Settings,
     Tightening,
     Scanned,
+    Alarm,
 }
 
-fn settings_item(k: usize) -> Item
-    requires { ⌜ k < length settings-items ⌝ }
-    ensures { λ r. ⌜ item-of r ≡ item-at settings-items k ⌝ }
+// Item k of all there are, one record's behind another's.
+fn item_at(k: usize) -> Item
+    requires { ⌜ k < length all-items ⌝ }
+    ensures { λ r. ⌜ item-of r ≡ item-at all-items k ⌝ }
 {
     match k {
-        // cell, channel, granted, name, last tightening number
+        // settings: cell, channel, granted, name, last tightening number
         0 => Item::Number(2, 9_999),
         1 => Item::Number(1, 99),
         2 => Item::Number(1, 1),
         3 => Item::Text(IDENTIFIER_LENGTH),
-        _ => Item::Number(NUMBER_LENGTH, NUMBER_GREATEST),
-    }
-}
-
-fn tightening_item(k: usize) -> Item
-    requires { ⌜ k < length tightening-items ⌝ }
-    ensures { λ r. ⌜ item-of r ≡ item-at tightening-items k ⌝ }
-{
-    match k {
-        // identifier, job, parameter set, batch size, batch counter
-        0 => Item::Text(IDENTIFIER_LENGTH),
-        1 => Item::Number(1, 99),
-        2 => Item::Number(2, 999),
-        3 => Item::Number(2, 9_999),
-        4 => Item::Number(2, 9_999),
+        4 => Item::Number(NUMBER_LENGTH, NUMBER_GREATEST),
+        // tightening: identifier, job, parameter set, batch size, batch counter
+        5 => Item::Text(IDENTIFIER_LENGTH),
+        6 => Item::Number(1, 99),
+        7 => Item::Number(2, 999),
+        8 => Item::Number(2, 9_999),
+        9 => Item::Number(2, 9_999),
         // tightening status, torque status, angle status
-        5 => Item::Number(1, 1),
-        6 => Item::Number(1, 2),
-        7 => Item::Number(1, 2),
+        10 => Item::Number(1, 1),
+        11 => Item::Number(1, 2),
+        12 => Item::Number(1, 2),
         // torques: min, max, target, the torque
-        8 => Item::Number(4, 999_999),
-        9 => Item::Number(4, 999_999),
-        10 => Item::Number(4, 999_999),
-        11 => Item::Number(4, 999_999),
+        13 => Item::Number(4, 999_999),
+        14 => Item::Number(4, 999_999),
+        15 => Item::Number(4, 999_999),
+        16 => Item::Number(4, 999_999),
         // angles: min, max, target, the angle
-        12 => Item::Number(4, 99_999),
-        13 => Item::Number(4, 99_999),
-        14 => Item::Number(4, 99_999),
-        15 => Item::Number(4, 99_999),
+        17 => Item::Number(4, 99_999),
+        18 => Item::Number(4, 99_999),
+        19 => Item::Number(4, 99_999),
+        20 => Item::Number(4, 99_999),
         // time, parameter set change time, batch status
-        16 => Item::Time,
-        17 => Item::Time,
-        _ => Item::Number(1, 2),
+        21 => Item::Time,
+        22 => Item::Time,
+        23 => Item::Number(1, 2),
+        // identifier scanned
+        24 => Item::Text(IDENTIFIER_LENGTH),
+        // alarm: error code, controller ready, tool ready, time
+        25 => Item::Code,
+        26 => Item::Number(1, 1),
+        27 => Item::Number(1, 1),
+        _ => Item::Time,
     }
 }
 
-// How many items there are.
+// Which of them is a record's first.
+fn first(items: Items) -> usize
+    ensures { λ r. ⌜ r ≡ first-of items ⌝ }
+{
+    match items {
+        Items::Settings => 0,
+        Items::Tightening => 5,
+        Items::Scanned => 24,
+        Items::Alarm => 25,
+    }
+}
+
+// How many it has.
 fn count(items: Items) -> usize
     ensures { λ r. ⌜ r ≡ length (items-of items) ⌝ }
 {
@@ -131,18 +149,7 @@ fn count(items: Items) -> usize
         Items::Settings => 5,
         Items::Tightening => 19,
         Items::Scanned => 1,
-    }
-}
-
-// Item k.
-fn item_at(items: Items, k: usize) -> Item
-    requires { ⌜ k < length (items-of items) ⌝ }
-    ensures { λ r. ⌜ item-of r ≡ item-at (items-of items) k ⌝ }
-{
-    match items {
-        Items::Settings => settings_item(k),
-        Items::Tightening => tightening_item(k),
-        Items::Scanned => Item::Text(IDENTIFIER_LENGTH),
+        Items::Alarm => 4,
     }
 }
 
@@ -152,6 +159,7 @@ fn item_length(item: Item) -> usize
     match item {
         Item::Number(size, greatest) => size,
         Item::Text(size) => size,
+        Item::Code => CODE_LENGTH,
         Item::Time => TIME_LENGTH,
     }
 }
@@ -164,6 +172,7 @@ fn good_item(item: Item, s: &[u8]) -> bool
     match item {
         Item::Number(size, greatest) => text::little(s, 0, size) <= greatest,
         Item::Text(size) => text::is_text(s),
+        Item::Code => text::is_text(s),
         Item::Time => is_time(s),
     }
 }
@@ -173,11 +182,12 @@ fn good_items(items: Items, s: &[u8]) -> bool
     requires { ⌜ length (now s) ≡ payload-length (items-of items) ⌝ }
     ensures { λ r. ⌜ r ≡ good-parts (items-of items) (parts (items-of items) (now (s .entry))) ⌝ }
 {
+    let from = first(items);
     let n = count(items);
     let mut at = 0;
     let mut k = 0;
     while k < n {
-        let item = item_at(items, k);
+        let item = item_at(from + k);
         let end = at + item_length(item);
         if !good_item(item, &s[at..end]) {
             return false;
@@ -242,6 +252,7 @@ pub enum RecordKind {
     Bad,
     Tightening,
     Scanned,
+    Alarm,
 }
 
 pub fn tool_record_kind(slice: &[u8]) -> RecordKind
@@ -262,6 +273,9 @@ pub fn tool_record_kind(slice: &[u8]) -> RecordKind
         Items::Scanned,
     ) {
         return RecordKind::Scanned;
+    }
+    if good_record(slice, ALARM_RECORD_KIND, ALARM_LENGTH, Items::Alarm) {
+        return RecordKind::Alarm;
     }
     RecordKind::Bad
 }

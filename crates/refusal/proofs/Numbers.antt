@@ -19,7 +19,7 @@ use Rattle.model.specs.Calls.{start, open-session, hang-up-session, bytes, one-
 use Rattle.model.specs.Calls as model
 use Rattle.table.specs.Table.{decode, table-formed, Table}
 use Rattle.record.specs.declared.RecordKind.{RecordKind}
-use Rattle.record.specs.declared.RecordKind.the-variants.{Bad, Tightening, Scanned}
+use Rattle.record.specs.declared.RecordKind.the-variants.{Bad, Tightening, Scanned, Alarm}
 use Rattle.record.specs.Tools.{settings-in, tool-in}
 use Rattle.refusal.specs.Numbers.{lent, number, tool-number}
 
@@ -101,6 +101,7 @@ unfolding refusal tool-number
 tool-refused t n Bad slice q e = rw (sym e) q
 tool-refused t n Tightening slice q e = rw (sym e) q
 tool-refused t n Scanned slice q e = rw (sym e) q
+tool-refused t n Alarm slice q e = rw (sym e) q
 
 -- received bytes are refused as a hang-up is
 pub bytes-refused : {r : ℕ} (t : List ℕ) (n s : ℕ) (bs : List ℕ) → r ≡ number t n (hang-up-session s) → r ≡ number t n (bytes s bs)

@@ -92,5 +92,6 @@ pub fn tool_record(table: &[u8], output: usize, record_kind: RecordKind) -> u64
             0
         }
         RecordKind::Scanned => 0,
+        RecordKind::Alarm => 0,
     }
 }

@@ -1,4 +1,4 @@
--- A session in its region of the table, 1,024 bytes: its phase and idle count, its run, and a lane for each kind of notice.
+-- A session in its region of the table, 1,152 bytes: its phase and idle count, its run, and a lane for each kind of notice.
 -- docs/TABLE.md has the map.
 use mathlib.Core.Path.{_≡_}
 use Prim.Native.Nat.{ℕ}
@@ -22,7 +22,7 @@ use Rattle.lane.specs.Lane.{lane-of, lane-formed}
 -- ==== its areas
 
 abbrev pub region-size : ℕ
-region-size = 1_024
+region-size = 1_152
 
 abbrev pub head-area : List ℕ → List ℕ
 head-area r = take head-size (drop 0 r)
@@ -32,7 +32,7 @@ run-area r = take run-size (drop 8 r)
 
 -- by kind: where its lane begins
 abbrev pub lane-at : ℕ → ℕ
-lane-at kind = getD (56 ∷ 128 ∷ []) kind 0
+lane-at kind = getD (56 ∷ 128 ∷ 1_024 ∷ []) kind 0
 
 -- what f reads in the lane of each kind
 abbrev pub lanes : {A : Type 0} → (ℕ → List ℕ → A) → List ℕ → List A

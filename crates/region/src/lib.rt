@@ -27,6 +27,7 @@ use message::Standing;
 use model::IDENTIFIER_LENGTH;
 use model::IDENTIFIERS;
 use model::KIND_COUNT;
+use model::TIGHTENINGS;
 use session::Decision;
 use session::Deed;
 use session::Idling;
@@ -35,7 +36,7 @@ use session::Reply;
 use session::Session;
 
 // How many bytes it has.
-pub const SIZE: usize = 1024;
+pub const SIZE: usize = 1152;
 
 // Where the phase and the idle count end, and where the run is.
 const HEAD_END: usize = 2;
@@ -51,7 +52,8 @@ fn lane_at(kind: usize) -> usize
 {
     match kind {
         IDENTIFIERS => 56,
-        _ => 128,
+        TIGHTENINGS => 128,
+        _ => 1024,
     }
 }
 

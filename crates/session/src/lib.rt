@@ -98,6 +98,9 @@ impl Session {
     // Tightenings that a session holds, the open one included.
     pub const TIGHTENINGS_HELD: u64 = 8;
 
+    // Alarms, the open one included.
+    pub const ALARMS_HELD: u64 = 4;
+
     // How an opening begins.
     pub fn fresh() -> Session
         ensures { λ r. ⌜ r ≡ fresh-session ⌝ }

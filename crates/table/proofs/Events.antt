@@ -1,5 +1,5 @@
 -- An event: who takes it, and what it leaves to all sessions.
-use mathlib.Core.Path.{_≡_, sym, ap, ap₂, subst, _∙_}
+use mathlib.Core.Path.{_≡_, refl, sym, ap, ap₂, subst, _∙_}
 use Prim.Native.Nat.{ℕ, suc, _+_, _*_, _^_, _≤_, _<_}
 use native.Mathlib.Nat.{add-zero, add-suc, suc-add, pow-suc, pow-le-pow-right}
 use native.Mathlib.Numerals.{add-one}
@@ -13,7 +13,7 @@ use Rattle.model.specs.Limits.{session-count}
 use Rattle.model.specs.Records.{settings-of}
 use Rattle.model.specs.Sharing.{Shared}
 use Rattle.model.specs.Session.{Session, closed}
-use Rattle.model.specs.Kinds.{identifiers}
+use Rattle.model.specs.Kinds.{kinds, identifiers, tightenings, alarms}
 use Rattle.model.specs.Events.{Event, Result, result-as}
 use Rattle.model.specs.Memory.{kept-with}
 use Rattle.model.specs.Local.{Local, event, takes, step}
@@ -109,9 +109,16 @@ front-means t a payload x n rs h k =
     becomes-of l (front-size t a l s) (front-past t a l s) (subst (Holds payload x n rs) (sym (front-shared t a l s)) k)
     (rw (front-regions t a l s region-formed) (formed-parts t h .1)) (front-regions t a l s session-of)
 
--- an identifier has no number
-pub identifier-to : {t place : List ℕ} → Table t → length place ≡ place-size identifiers → EventTo t identifiers place
-identifier-to h e = record { table = h; known = omega arith; place = e; number = λ q. absurd (omega arith) }
+-- what is no tightening has no number
+module _ {t place : List ℕ} (h : Table t) where
+  other-to : (kind : ℕ) → kind < length kinds → (kind ≡ tightenings → ⊥) → length place ≡ place-size kind → EventTo t kind place
+  other-to kind few n e = record { table = h; known = few; place = e; number = λ q. absurd (n q) }
+
+  pub identifier-to : length place ≡ place-size identifiers → EventTo t identifiers place
+  identifier-to e = other-to identifiers (omega arith) (λ q. omega arith) e
+
+  pub alarm-to : length place ≡ place-size alarms → EventTo t alarms place
+  alarm-to e = other-to alarms (omega arith) (λ q. omega arith) e
 
 -- the sessions that see it leave the last number as it was
 pub still-to : {t t₁ place : List ℕ} {kind : ℕ} (l : Local) → EventTo t kind place → Becomes t (next (decode t) (to-all l)) t₁
@@ -124,18 +131,18 @@ still-to l h b = record {
 }
 
 -- a tightening is the next
-pub comes-next : {t place : List ℕ} {kind : ℕ} → EventTo t kind place → kind ≡ 1 → Next (shared-area t) place
+pub comes-next : {t place : List ℕ} {kind : ℕ} → EventTo t kind place → kind ≡ tightenings → Next (shared-area t) place
 unfolding decode result-of result-as
 comes-next {t} h e = record { area = shared-good t (h .table); size = h .place ∙ ap place-size e; number = h .number e }
 
 module _ (t a : List ℕ) (kind : ℕ) (place : List ℕ) (h : EventTo t kind place) where
-  pub noted-identifier : kind ≡ 0
+  pub noted-identifier : kind ≡ identifiers
       → Holds (settings-part (shared-area t)) place (last-of (shared-area t)) (kept-of (shared-area t)) a
       → Becomes t (noted (decode t) (event-in kind place)) (front t a)
   unfolding decode
   noted-identifier e k = rw e (front-means t a _ _ _ _ (h .table) k)
 
-  pub noted-tightening : kind ≡ 1
+  pub noted-tightening : kind ≡ tightenings
       → let n = suc (last-of (shared-area t)) in
       Holds (settings-part (shared-area t)) (in-force-of (shared-area t)) n (kept-with (result-as n place) (kept-of (shared-area t))) a
       → Becomes t (noted (decode t) (event-in kind place)) (front t a)
@@ -144,6 +151,12 @@ module _ (t a : List ℕ) (kind : ℕ) (place : List ℕ) (h : EventTo t kind pl
       rw e (front-means t a _ _ _ _ (h .table)
       (subst (λ (n : ℕ). Holds (settings-part (shared-area t)) (in-force-of (shared-area t)) n
       (kept-with (result-as n place) (kept-of (shared-area t))) a) (sym (h .number e)) k))
+
+-- an alarm leaves nothing
+pub noted-alarm : {t place : List ℕ} {kind : ℕ} → EventTo t kind place → kind ≡ alarms
+    → Becomes t (noted (decode t) (event-in kind place)) t
+unfolding decode
+noted-alarm h e = rw e record { table = h .table; size = refl; past = refl; meaning = refl }
 
 -- ==== one after another
 

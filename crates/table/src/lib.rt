@@ -25,6 +25,7 @@ ghost use Rattle.table.specs.Passes.{Received};
 use frame::Asked;
 use frame::To;
 use message::Common;
+use model::ALARMS;
 use model::IDENTIFIER_LENGTH;
 use model::IDENTIFIERS;
 use model::KIND_COUNT;
@@ -372,7 +373,7 @@ fn tell(table: &mut [u8], out: &mut [u8], at: usize, kind: usize, place: &[u8]) 
     Told { at, taken }
 }
 
-// What the event leaves to all sessions: the identifier in force, or the last number and the tightening that has it.
+// What the event leaves to all sessions: the identifier in force, or the last number and the tightening that has it; an alarm nothing.
 fn note(table: &mut [u8], kind: usize, place: &[u8])
     requires { ⌜ EventTo (now table) kind (now place) ⌝ }
     ensures { λ _. ⌜ Becomes (now (table .entry)) (noted (decode (now (table .entry))) (event-in kind (now (place .entry))))
@@ -380,6 +381,9 @@ fn note(table: &mut [u8], kind: usize, place: &[u8])
 {
     if kind == IDENTIFIERS {
         shared::put_in_force(&mut table[0..SHARED], place);
+        return;
+    }
+    if kind == ALARMS {
         return;
     }
     shared::remember(&mut table[0..SHARED], place);

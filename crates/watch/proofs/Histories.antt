@@ -10,6 +10,7 @@ use lib.Dec.{eqb}
 use lib.ListN.{length, length-append}
 use borrow.Author.Tests.{eq-eqb, ne-eqb}
 use Rattle.model.specs.Limits.{copy-every, given-up-at, most-repeats, most-copies, longest-wait}
+use Rattle.model.specs.Kinds.{Room, up-to}
 use Rattle.watch.specs.Marks.{Seen, Mark, copies-among, all-sent, copies, tick-count, ticks-open, or-later, frame-of, Every, Origin}
 use Rattle.watch.specs.Marks.{Stays, Held, taken}
 use Rattle.watch.specs.Course.{PendingSeen, empty, busy, Eff, Rises, Course, end, call}
@@ -34,7 +35,7 @@ copies-join n (m ∷ xs) ys =
     omega (arith, copies-append n (m .sent) (all-sent (xs ++ ys)), copies-append n (m .sent) (all-sent xs))
 
 -- the first calls of a history are one
-pub course-before : {z : Bool} {k : ℕ} {q : PendingSeen} (xs ys : List Mark) → Course z k q (xs ++ ys) → Course z k q xs
+pub course-before : {room : Room} {k : ℕ} {q : PendingSeen} (xs ys : List Mark) → Course room k q (xs ++ ys) → Course room k q xs
 course-before [] ys c = end
 course-before (m ∷ xs) ys (call e r f c) = call e r f (course-before xs ys c)
 
@@ -68,7 +69,7 @@ still-not n q′ k′ es (single z g) h = absurd (omega arith)
 
 -- ==== the count
 
-pub gone : (n : ℕ) {z : Bool} {k : ℕ} {q : PendingSeen} {ms : List Mark} → Course z k q ms → Gone n q k → copies n ms ≡ 0
+pub gone : (n : ℕ) {room : Room} {k : ℕ} {q : PendingSeen} {ms : List Mark} → Course room k q ms → Gone n q k → copies n ms ≡ 0
 gone n end g = refl
 gone n (call {m = m} {ms = ms} e r f c) g =
     let y = gone-step n f g in
@@ -76,7 +77,7 @@ gone n (call {m = m} {ms = ms} e r f c) g =
     omega (arith, copies-append n (m .sent) (all-sent ms))
 
 -- n is open and its clock is d: what is still to come of it
-pub opened : (n d : ℕ) {z : Bool} {k : ℕ} {q : PendingSeen} {ms : List Mark} → Course z k q ms → OpenAt n d q k
+pub opened : (n d : ℕ) {room : Room} {k : ℕ} {q : PendingSeen} {ms : List Mark} → Course room k q ms → OpenAt n d q k
     → copies n ms + d / copy-every ≡ min most-repeats ((d + ticks-open ms) / copy-every)
 opened n d {k = k} {q = q} end g = let h = open-lt n d q k g in omega arith
 opened n d {k = k} {q = q} (call {k′ = k′} {q′ = q′} {m = m} {ms = ms} e r f c) g =
@@ -85,8 +86,8 @@ opened n d {k = k} {q = q} (call {k′ = k′} {q′ = q′} {m = m} {ms = ms} e
     (λ d′. opened n d′ c) (gone n c))
 
 -- by the call that sends the first copy
-pub counted : (n : ℕ) {z : Bool} {k : ℕ} {q : PendingSeen} (before : List Mark) (m : Mark) (later : List Mark)
-    → Course z k q (before ++ m ∷ later) → Good q k → NotOpen n q → copies n before ≡ 0 → 0 < copies-among n (m .sent)
+pub counted : (n : ℕ) {room : Room} {k : ℕ} {q : PendingSeen} (before : List Mark) (m : Mark) (later : List Mark)
+    → Course room k q (before ++ m ∷ later) → Good q k → NotOpen n q → copies n before ≡ 0 → 0 < copies-among n (m .sent)
     → copies n (before ++ m ∷ later) ≡ cond (m .asked) (1 + min most-repeats (ticks-open later / copy-every)) 1
 counted n [] m later (call {k′ = k′} {q′ = q′} e r f c) g u z h =
     rw (copies-append n (m .sent) (all-sent later))
@@ -104,7 +105,7 @@ abbrev Framed : (ℕ → Option (List ℕ)) → Seen → Type 0
 Framed F x = F (x .id) ≡ some (x .frame)
 
 -- the events of the history have the frames that F says
-pub framed : (F : ℕ → Option (List ℕ)) {z : Bool} {k : ℕ} {q : PendingSeen} {ms : List Mark} → Course z k q ms
+pub framed : (F : ℕ → Option (List ℕ)) {room : Room} {k : ℕ} {q : PendingSeen} {ms : List Mark} → Course room k q ms
     → ((n : ℕ) → k ≤ n → frame-of n ms ≡ F n) → Every (Framed F) (all q) → Every (Framed F) (all-sent ms)
 framed F end u g = tt
 framed F (call {k = k} {k′ = k′} {m = m} {ms = ms} e r f c) u g =
@@ -131,15 +132,15 @@ held-new : (past : List Mark) (m : Mark) → m .still ≡ true → (x : Seen) �
 held-new [] m e x o = inl (o, (e, tt))
 held-new (y ∷ past) m e x o = inr (held-new past m e x o)
 
-held-call : {z : Bool} {k k′ : ℕ} {q q′ : PendingSeen} (past : List Mark) (m : Mark) → m .number ≡ k
-    → Eff z k k′ (m .event) (m .took) (m .asked) (m .closes) (m .tick) (m .subscribed) (m .still) q q′ (m .sent)
+held-call : {room : Room} {k k′ : ℕ} {q q′ : PendingSeen} (past : List Mark) (m : Mark) → m .number ≡ k
+    → Eff room k k′ (m .event) (m .took) (m .asked) (m .closes) (m .tick) (m .subscribed) (m .still) q q′ (m .sent)
     → Every (λ x. Held x past) (all q) → Every (λ x. Held x (past ++ m ∷ [])) (m .sent) × Every (λ x. Held x (past ++ m ∷ [])) (all q′)
 held-call past m e f g =
     held-step (λ x. Held x past) (λ x. Held x (past ++ m ∷ [])) f
     (λ b u v w. held-new past m w _ (record { number = e; frame = u; took = v })) (held-on past m) g
 
-pub held : {z : Bool} {k : ℕ} {q : PendingSeen} (past before : List Mark) (m : Mark) (later : List Mark)
-    → Course z k q (before ++ m ∷ later)
+pub held : {room : Room} {k : ℕ} {q : PendingSeen} (past before : List Mark) (m : Mark) (later : List Mark)
+    → Course room k q (before ++ m ∷ later)
     → Every (λ x. Held x past) (all q) → Every (λ x. Held x ((past ++ before) ++ m ∷ [])) (m .sent)
 held past [] m later (call e r f c) g = rw (append-nil past) ((held-call past m e f g) .0)
 held past (b ∷ before) m later (call e r f c) g =
@@ -148,8 +149,8 @@ held past (b ∷ before) m later (call e r f c) g =
 
 -- ==== what came before a call that leaves the session not subscribed
 
-pub dropped : (n : ℕ) {z : Bool} {k : ℕ} {q : PendingSeen} (before : List Mark) (c : Mark) (later : List Mark)
-    → Course z k q (before ++ c ∷ later) → c .still ≡ false → n < c .number → copies n (c ∷ later) ≡ 0
+pub dropped : (n : ℕ) {room : Room} {k : ℕ} {q : PendingSeen} (before : List Mark) (c : Mark) (later : List Mark)
+    → Course room k q (before ++ c ∷ later) → c .still ≡ false → n < c .number → copies n (c ∷ later) ≡ 0
 dropped n [] c later (call {k = k} e r f h) w l =
     let y = dropped-step n (rw w at f) (omega arith) in
     let g = gone n h (y .1) in
@@ -158,14 +159,14 @@ dropped n (b ∷ before) c later (call e r f h) w l = dropped n before c later h
 
 -- ==== only to subscribers
 
-pub subscribers : {z : Bool} {k : ℕ} {q : PendingSeen} {ms : List Mark} → Course z k q ms
+pub subscribers : {room : Room} {k : ℕ} {q : PendingSeen} {ms : List Mark} → Course room k q ms
     → Every (λ (m : Mark). 0 < length (m .sent) → (m .subscribed ≡ true) × (m .still ≡ true)) ms
 subscribers end = tt
 subscribers (call e r f c) = (λ h. subscribed-step f h, subscribers c)
 
 -- ==== most-copies (six) at most for each event that was taken, and what is still to come of those that were pending
 
-pub bounded : {z : Bool} {k : ℕ} {q : PendingSeen} {ms : List Mark} → Course z k q ms → Good q k
+pub bounded : {room : Room} {k : ℕ} {q : PendingSeen} {ms : List Mark} → Course room k q ms → Good q k
     → length (all-sent ms) ≤ credit q + most-copies * taken ms
 bounded end g = omega arith
 bounded {q = q} (call {k′ = k′} {q′ = q′} {m = m} {ms = ms} e r f c) g =
@@ -177,14 +178,14 @@ bounded {q = q} (call {k′ = k′} {q′ = q′} {m = m} {ms = ms} e r f c) g =
     more true h ih = omega (arith, length-append (m .sent) (all-sent ms))
     more false h ih = omega (arith, length-append (m .sent) (all-sent ms))
 
--- ==== in time, of a kind of which all wait
+-- ==== in time, of a kind of which several wait
 
 module _ (n : ℕ) where
   late : (d : ℕ) (q : PendingSeen) → Due n d q → d ≤ 0 → ⊥
   late d empty g l = g
   late d (busy x c q) g l = omega arith
 
-  pub in-time : (d : ℕ) {k : ℕ} {q : PendingSeen} {ms : List Mark} → Course false k q ms → Due n d q → Stays ms
+  pub in-time : (d : ℕ) {most k : ℕ} {q : PendingSeen} {ms : List Mark} → Course (up-to most) k q ms → Due n d q → Stays ms
       → d ≤ tick-count ms → 0 < copies n ms
   in-time d {q = q} end g u l = absurd (late d q g l)
   in-time d (call {k = k} {k′ = k′} {q = q} {q′ = q′} {m = m} {ms = ms} e r f c) g u l =
@@ -198,13 +199,13 @@ module _ (n : ℕ) where
       go false (inr h) l ih = let y = ih d h l in omega (arith, copies-append n (m .sent) (all-sent ms))
 
 -- taken by this call, sent within the longest wait
-pub taken-in-time : {k : ℕ} {q : PendingSeen} (before : List Mark) (m : Mark) (later : List Mark) → Course false k q (before ++ m ∷ later)
-    → Good q k
-    → m .took ≡ true → Stays (m ∷ later) → longest-wait ≤ tick-count later → 0 < copies (m .number) (m ∷ later)
-taken-in-time [] m later (call {k = k} {q′ = q′} e r f c) g t u l =
+pub taken-in-time : {most k : ℕ} {q : PendingSeen} (before : List Mark) (m : Mark) (later : List Mark)
+    → Course (up-to most) k q (before ++ m ∷ later) → Good q k
+    → m .took ≡ true → Stays (m ∷ later) → longest-wait most ≤ tick-count later → 0 < copies (m .number) (m ∷ later)
+taken-in-time {most} [] m later (call {k = k} {q′ = q′} e r f c) g t u l =
     subst (λ (n : ℕ). 0 < copies n (m ∷ later)) (sym e) (go (due-taken (rw t at f) g))
   where
-    go : (0 < copies-among k (m .sent)) ⊎ Due k longest-wait q′ → 0 < copies k (m ∷ later)
+    go : (0 < copies-among k (m .sent)) ⊎ Due k (longest-wait most) q′ → 0 < copies k (m ∷ later)
     go (inl h) = omega (arith, copies-append k (m .sent) (all-sent later))
-    go (inr h) = let y = in-time k longest-wait c h (u .1) l in omega (arith, copies-append k (m .sent) (all-sent later))
+    go (inr h) = let y = in-time k (longest-wait most) c h (u .1) l in omega (arith, copies-append k (m .sent) (all-sent later))
 taken-in-time (b ∷ before) m later (call e r f c) g t u l = taken-in-time before m later c (good-step f g) t u l

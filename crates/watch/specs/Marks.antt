@@ -130,7 +130,8 @@ pub record Demand3 (ms : List Mark) : Type 0 where
   -- none reaches a session that is not started and subscribed, before the call and after it
   pub only-subscribed : Every (λ m. 0 < length (m .sent) → (m .subscribed ≡ true) × (m .still ≡ true)) ms
 
--- a kind of which all wait: what is taken goes out within the longest wait (840 ticks), where the session stays started and subscribed
-abbrev pub InTime : List Mark → Type 0
-InTime ms = (before : List Mark) (m : Mark) (later : List Mark) → ms ≡ before ++ m ∷ later → m .took ≡ true
-    → Stays (m ∷ later) → longest-wait ≤ tick-count later → 0 < copies (m .number) (m ∷ later)
+-- a kind of which several wait, so many in all with the open one: what is taken goes out within its longest wait (tightenings: 840 ticks,
+-- alarms: 360), where the session stays started and subscribed
+abbrev pub InTime : ℕ → List Mark → Type 0
+InTime most ms = (before : List Mark) (m : Mark) (later : List Mark) → ms ≡ before ++ m ∷ later → m .took ≡ true
+    → Stays (m ∷ later) → longest-wait most ≤ tick-count later → 0 < copies (m .number) (m ∷ later)

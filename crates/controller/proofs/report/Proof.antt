@@ -1,7 +1,8 @@
 -- `controller::report` meets its contract.
 use borrow.Author.Needs.{needs}
-use Rattle.table.proofs.Events.{identifier-to}
-use Rattle.controller.proofs.Tools.{tightening-to, tightening-size, scan-size, bad-reported, tightening-reported, scan-reported}
+use Rattle.table.proofs.Events.{identifier-to, alarm-to}
+use Rattle.controller.proofs.Tools.{tightening-to, tightening-size, scan-size, alarm-size, bad-reported, tightening-reported}
+use Rattle.controller.proofs.Tools.{scan-reported, alarm-reported}
 use Rattle.controller.proofs.report.Statement.{statement}
 use Rattle.controller.proofs.report.Tie as tie
 
@@ -18,10 +19,15 @@ report-spec =
     (λ c κs. search (needs, tightening-to))
     (λ c. search needs)
     (λ c κs. search (needs, scan-size, identifier-to))
+    (λ c. search needs)
+    (λ c κs. search (needs, alarm-size, alarm-to))
     (λ c. search (needs, bad-reported))
     (λ c. search needs)
     (λ c. search needs)
     (λ c. search (needs, tightening-reported))
     (λ c. search needs)
     (λ c. search needs)
-    (λ c. search (needs, scan-reported)))
+    (λ c. search (needs, scan-reported))
+    (λ c. search needs)
+    (λ c. search needs)
+    (λ c. search (needs, alarm-reported)))

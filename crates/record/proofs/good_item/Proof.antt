@@ -53,6 +53,9 @@ good-item-spec =
     (λ c κs. search needs)
     (λ c. search needs)
     (λ c κs. search needs)
+    (λ c. search needs)
+    (λ c κs. search needs)
     returns
     (λ c. test-of _ (c .before .before .item2 .given .1) (c .is-text .ensures))
-    (λ c. test-of _ (c .before .enum-told .given .1) (c .is-time .ensures)))
+    (λ c. test-of _ (c .before .enum-told .given .1) (c .is-text2 .ensures))
+    (λ c. test-of _ (c .before .enum-told2 .given .1) (c .is-time .ensures)))

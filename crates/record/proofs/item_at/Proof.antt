@@ -1,37 +1,20 @@
--- `record::item_at` meets its contract, by whose items they are.
-use borrow.Author.Needs.{needs}
-use mathlib.Core.Path.{_≡_, refl, sym, ap, subst, _∙_}
-use Prim.Native.Nat.{ℕ, _<_}
-use native.Mathlib.Omega.{arith}
+-- `record::item_at` meets its contract: its arms are the items.
 use lib.ListN.{length}
-use Rattle.record.specs.declared.Items.{Items}
-use Rattle.record.specs.Items.{items-of, item-at}
+use Prim.Native.Nat.{_-_}
+use Rattle.record.specs.Items.{all-items}
+use Rattle.record.proofs.Arms.{last-arm}
 use Rattle.record.proofs.item_at.Statement.{statement}
 use Rattle.record.proofs.item_at.Tie as tie
-
--- what is asked of a number, and what is answered, of the items that they are
-module _ {f g : Items} {k : ℕ} (e : f ≡ g) where
-  asked : k < length (items-of f) → k < length (items-of g)
-  asked h = subst (λ (x : Items). k < length (items-of x)) e h
-
-  answered : {j : ℕ} → j ≡ k → item-at (items-of g) j ≡ item-at (items-of f) k
-  answered n = ap (item-at (items-of g)) n ∙ sym (ap (λ (x : Items). item-at (items-of x) k) e)
-
-returns-3 : tie.Need-returns-3
-returns-3 c =
-    let e = c .enum-told3 .given .1 in
-    let few = asked e (c .before .before .pre) in
-    answered e {j = 0} (omega arith)
 
 pub item-at-spec : {M : Type 1} → statement M
 item-at-spec =
     tie.close
     (tie.spec
-    (λ c. search needs)
-    (λ c κs. asked (c .enum-told .given .1) (c .before .before .pre))
-    (λ c. search needs)
-    (λ c κs. asked (c .enum-told2 .given .1) (c .before .before .pre))
-    (λ c. search needs)
-    (λ c. c .settings-item .ensures ∙ answered (c .before .enum-told .given .1) refl)
-    (λ c. c .tightening-item .ensures ∙ answered (c .before .enum-told2 .given .1) refl)
-    returns-3)
+    (λ c. rw (c .match .keys1)) (λ c. rw (c .match .keys2)) (λ c. rw (c .match .keys3)) (λ c. rw (c .match .keys4))
+    (λ c. rw (c .match .keys5)) (λ c. rw (c .match .keys6)) (λ c. rw (c .match .keys7)) (λ c. rw (c .match .keys8))
+    (λ c. rw (c .match .keys9)) (λ c. rw (c .match .keys10)) (λ c. rw (c .match .keys11)) (λ c. rw (c .match .keys12))
+    (λ c. rw (c .match .keys13)) (λ c. rw (c .match .keys14)) (λ c. rw (c .match .keys15)) (λ c. rw (c .match .keys16))
+    (λ c. rw (c .match .keys17)) (λ c. rw (c .match .keys18)) (λ c. rw (c .match .keys19)) (λ c. rw (c .match .keys20))
+    (λ c. rw (c .match .keys21)) (λ c. rw (c .match .keys22)) (λ c. rw (c .match .keys23)) (λ c. rw (c .match .keys24))
+    (λ c. rw (c .match .keys25)) (λ c. rw (c .match .keys26)) (λ c. rw (c .match .keys27)) (λ c. rw (c .match .keys28))
+    (λ c. rw (last-arm (length all-items - 1) _ (c .match .rest) (c .before .pre))))

@@ -2,16 +2,17 @@
 use borrow.Author.Needs.{needs}
 use mathlib.Core.Path.{_≡_, ap, _∙_}
 use native.Mathlib.Omega.{arith}
+use Rattle.model.specs.Kinds.{tightenings}
 use Rattle.frame.specs.Places.{place-size}
 use Rattle.table.proofs.Regions.{shared-good}
-use Rattle.table.proofs.Events.{noted-identifier, comes-next, noted-tightening}
+use Rattle.table.proofs.Events.{noted-identifier, comes-next, noted-tightening, noted-alarm}
 use Rattle.table.proofs.note.Statement.{statement}
 use Rattle.table.proofs.note.Tie as tie
 
 -- it is a tightening
-module _ (c : tie.Else1) where
-  second : c .before .before .before .args .kind ≡ 1
-  second = let few = c .before .before .before .pre .known in omega (arith, c .if1 .left)
+module _ (c : tie.Else2) where
+  tightening : c .before .before .before .before .args .kind ≡ tightenings
+  tightening = let few = c .before .before .before .before .pre .known in omega (arith, c .before .if1 .left, c .if2 .left)
 
 pub note-spec : {M : Type 1} → statement M
 note-spec =
@@ -24,10 +25,11 @@ note-spec =
     (λ c. search needs)
     (λ c. let k = c .before .before in let i = k .before .before in
     noted-identifier _ _ _ _ (i .before .before .before .pre) (i .if1 .taken) (k .put-in-force .ensures))
+    (λ c. noted-alarm (c .before .before .before .before .pre) (c .if2 .taken))
     (λ c. search needs)
     (λ c. search needs)
     (λ c. search needs)
-    (λ c κs. let i = c .before in comes-next (i .before .before .before .pre) (second i))
+    (λ c κs. let i = c .before in comes-next (i .before .before .before .before .pre) (tightening i))
     (λ c. search needs)
     (λ c. let k = c .before .before in let i = k .before .before in
-    noted-tightening _ _ _ _ (i .before .before .before .pre) (second i) (k .remember .ensures)))
+    noted-tightening _ _ _ _ (i .before .before .before .before .pre) (tightening i) (k .remember .ensures)))
