@@ -14,7 +14,7 @@ use Rattle.model.specs.Records.{record-head, good-payload, good-record, setting
 use Rattle.text.proofs.Lists.{drop-next}
 use Rattle.record.specs.declared.Items.{Items}
 use Rattle.record.specs.declared.Items.the-variants.{Settings, Tightening, Scanned, Alarm}
-use Rattle.record.specs.Items.{items-of, all-items, first-of, item-at, readable}
+use Rattle.record.specs.Items.{items-of, all-items, first-among, item-at, readable}
 
 -- ==== a record's head
 
@@ -41,7 +41,7 @@ all-readable Alarm = refl
 abbrev pub among : ℕ → ℕ → List Item
 among from n = take n (drop from all-items)
 
-pub own-among : (items : Items) → among (first-of items) (length (items-of items)) ≡ items-of items
+pub own-among : (items : Items) → among (first-among items) (length (items-of items)) ≡ items-of items
 own-among Settings = refl
 own-among Tightening = refl
 own-among Scanned = refl
@@ -49,7 +49,7 @@ own-among Alarm = refl
 
 -- item k of a record is among those of all
 pub item-among : (items : Items) (k : ℕ) → k < length (items-of items)
-    → (first-of items + k < length all-items) × (item-at all-items (first-of items + k) ≡ item-at (items-of items) k)
+    → (first-among items + k < length all-items) × (item-at all-items (first-among items + k) ≡ item-at (items-of items) k)
 item-among Settings k h = (omega arith, sym (getD-drop 0 all-items k time) ∙ List·getD-append settings-items (drop 5 all-items) time k h)
 item-among Tightening k h =
     (omega arith, sym (getD-drop 5 all-items k time) ∙ List·getD-append tightening-items (drop 24 all-items) time k h)

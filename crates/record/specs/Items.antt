@@ -27,11 +27,11 @@ items-of Alarm = alarm-items
 abbrev pub all-items : List ModelItem
 all-items = settings-items ++ tightening-items ++ scanned-items ++ alarm-items
 
-abbrev pub first-of : Items → ℕ
-first-of Settings = 0
-first-of Tightening = 5
-first-of Scanned = 24
-first-of Alarm = 25
+abbrev pub first-among : Items → ℕ
+first-among Settings = 0
+first-among Tightening = 5
+first-among Scanned = 24
+first-among Alarm = 25
 
 -- item k, from 0
 abbrev pub item-at : List ModelItem → ℕ → ModelItem

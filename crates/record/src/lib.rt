@@ -18,7 +18,7 @@ ghost use Rattle.model.specs.Records.{
   read-tool,
 };
 ghost use Rattle.model.specs.Events.{identifier-of};
-ghost use Rattle.record.specs.Items.{item-of, item-at, items-of, all-items, first-of, readable};
+ghost use Rattle.record.specs.Items.{item-of, item-at, items-of, all-items, first-among, readable};
 ghost use Rattle.record.specs.Tools.{settings-in, tool-in};
 use model::ALARM_LENGTH;
 use model::ALARM_RECORD_KIND;
@@ -131,7 +131,7 @@ fn item_at(k: usize) -> Item
 
 // Which of them is a record's first.
 fn first(items: Items) -> usize
-    ensures { λ r. ⌜ r ≡ first-of items ⌝ }
+    ensures { λ r. ⌜ r ≡ first-among items ⌝ }
 {
     match items {
         Items::Settings => 0,
