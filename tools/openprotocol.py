@@ -71,7 +71,8 @@ class Stream:
 
 # ---- layouts: rows, and whether a field's number stands before each
 
-SPACES, ZEROS, ONES = b" ", b"0", b"1"  # rows that have no value: one character fills them; the others are numbers and texts
+SPACES, ZEROS, ONES = b" ", b"0", b"1"  # rows that have no value: one character fills them; the others are numbers, limits and texts
+LIMIT = "limit"  # a number, or spaces where it was never set: None here
 
 
 @dataclass(frozen=True)
@@ -81,12 +82,19 @@ class Row:
     name: str  # of the field whose value it shows: what a house record has is called the same there
 
     def write(self, fields):
-        if self.sort == NUMBER:
+        if self.sort == LIMIT and fields[self.name] is None:
+            return SPACES * self.width
+        if self.sort in (NUMBER, LIMIT):
             return b"%0*d" % (self.width, fields[self.name])
         return filled(fields[self.name], self.width) if self.sort == TEXT else self.sort * self.width
 
     def read(self, value):
-        return int(value) if self.sort == NUMBER else value.decode("ascii").rstrip(" ")
+        """ValueError says what is wrong with it."""
+        if self.sort == LIMIT and value == SPACES * self.width:
+            return None
+        if self.sort in (NUMBER, LIMIT) and not value.isdigit():
+            raise ValueError("%s is %r" % (self.name, value))
+        return int(value) if self.sort in (NUMBER, LIMIT) else value.decode("ascii").rstrip(" ")
 
 
 NUMBERED, PLAIN = True, False
@@ -120,8 +128,14 @@ class Layout:
 CONTROLLER = [Row(NUMBER, 4, "cell"), Row(NUMBER, 2, "channel"), Row(TEXT, TEXT_SIZE, "name")]
 
 BATCH = [Row(NUMBER, 4, "batch_size"), Row(NUMBER, 4, "batch_counter")]
-TORQUES = [Row(NUMBER, 6, name) for name in ("torque_min", "torque_max", "torque_target", "torque")]
-ANGLES = [Row(NUMBER, 5, name) for name in ("angle_min", "angle_max", "angle_target", "angle")]
+
+
+def measured(what, width):
+    """A torque or an angle, behind its limits."""
+    return [*(Row(LIMIT, width, what + "_" + which) for which in ("min", "max", "target")), Row(NUMBER, width, what)]
+
+
+TORQUES, ANGLES = measured("torque", 6), measured("angle", 5)
 TIMES = [Row(TEXT, TIME_SIZE, "time"), Row(TEXT, TIME_SIZE, "change_time")]
 
 # 0061 from revision 2 on (000, Tables 22 to 26); what the controller's tool does not report is zeros, texts too, and the unit is Nm.
