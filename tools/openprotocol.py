@@ -9,7 +9,7 @@ read into named fields, or written of them, by layouts.
 
 from dataclasses import dataclass
 
-from house_records import CODE_SIZE, NUMBER, TEXT, TEXT_SIZE, TIME_SIZE, filled
+from house_records import CODE_SIZE, LIMIT, NUMBER, NUMBERS, TEXT, TEXT_SIZE, TIME_SIZE, filled
 
 HEADER = 20
 
@@ -72,7 +72,7 @@ class Stream:
 # ---- layouts: rows, and whether a field's number stands before each
 
 SPACES, ZEROS, ONES = b" ", b"0", b"1"  # rows that have no value: one character fills them; the others are numbers, limits and texts
-LIMIT = "limit"  # a number, or spaces where it was never set: None here
+LIMITS = ("min", "max", "target")  # of a torque or an angle; one that was never set is None, and spaces in a frame
 
 
 @dataclass(frozen=True)
@@ -84,7 +84,7 @@ class Row:
     def write(self, fields):
         if self.sort == LIMIT and fields[self.name] is None:
             return SPACES * self.width
-        if self.sort in (NUMBER, LIMIT):
+        if self.sort in NUMBERS:
             return b"%0*d" % (self.width, fields[self.name])
         return filled(fields[self.name], self.width) if self.sort == TEXT else self.sort * self.width
 
@@ -92,9 +92,9 @@ class Row:
         """ValueError says what is wrong with it."""
         if self.sort == LIMIT and value == SPACES * self.width:
             return None
-        if self.sort in (NUMBER, LIMIT) and not value.isdigit():
+        if self.sort in NUMBERS and not value.isdigit():
             raise ValueError("%s is %r" % (self.name, value))
-        return int(value) if self.sort in (NUMBER, LIMIT) else value.decode("ascii").rstrip(" ")
+        return int(value) if self.sort in NUMBERS else value.decode("ascii").rstrip(" ")
 
 
 NUMBERED, PLAIN = True, False
@@ -132,7 +132,7 @@ BATCH = [Row(NUMBER, 4, "batch_size"), Row(NUMBER, 4, "batch_counter")]
 
 def measured(what, width):
     """A torque or an angle, behind its limits."""
-    return [*(Row(LIMIT, width, what + "_" + which) for which in ("min", "max", "target")), Row(NUMBER, width, what)]
+    return [*(Row(LIMIT, width, what + "_" + which) for which in LIMITS), Row(NUMBER, width, what)]
 
 
 TORQUES, ANGLES = measured("torque", 6), measured("angle", 5)
@@ -270,6 +270,12 @@ def read(run):
         return Frame(mid, revision, run[11:12], LAYOUTS[mid, revision].read(run))
     except ValueError as wrong:
         raise ValueError("not a frame of the controller: %r: %s" % (run, wrong)) from None
+
+
+def missing_limits(fields, what):
+    """In words, which limits of a torque or an angle were never set; one who has none of the three has no window."""
+    missing = [which for which in LIMITS if fields[what + "_" + which] is None]
+    return ["no %s %s" % (what, which) for which in (["window"] if len(missing) == len(LIMITS) else missing)]
 
 
 def write(mid, fields, revision=1, byte_12=b" "):
