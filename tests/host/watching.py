@@ -247,16 +247,16 @@ def watch_takes_no_other_spaces(place):
             continue
         raise harness.Wrong("%s of revision %d is read as %r where %r stands" % (name, revision, read, characters))
     controller = Controller(place, "--count", "1")
-    for times, (revision, name, characters) in enumerate(((1, "number", b" " * 10), (6, "number", b" " * 10), (5, "torque", b" " * 6),
-                                                          (1, "angle_min", b"   60"), (2, "torque_max", b"2600  ")), 1):
+    sent = [(1, "number", b" " * 10), (5, "torque", b" " * 6), (1, "angle_min", b"   60"), (2, "torque_max", b"2600  ")]
+    for revision, name, characters in sent:
         link = controller.start()
         link.send(result_run(revision, put=[(name, characters)]))
-        controller.watch.wait_for("%s is %r" % (name, characters), 1 if times != 2 else 2)
+        controller.watch.wait_for("%s is %r" % (name, characters))
         equal(link.receive(), b"", "what watch sends for %r as %s" % (characters, name))
     link = controller.start()
     link.send(result_run(1))
     lines = controller.end(link, 0, openprotocol.message(openprotocol.ACKNOWLEDGE_RESULT), *controller.FAREWELL)
-    equal([sum(words in line for line in lines) for words in ("link lost: not a frame of the controller", "result 1 ")], [times, 1], "lines")
+    equal([sum(words in line for line in lines) for words in ("link lost: not a frame", "result 1 ")], [len(sent), 1], "lines")
     place.said.append("%d fields" % len(wrong))
 
 
