@@ -108,7 +108,7 @@ def counts():
         ("mutants", "mutants of the second implementation, for `make -C tests mutants`", len(mutants.mutants(read(mutants.SOURCE)))),
         ("host-tests", "tests of the host in `make test`", len(HOST_TESTS) - long),
         ("long-host-tests", "further ones in `make soak`", long),
-        ("host-faults", "planted faults of the host, for `make soak`", len(HOST_FAULTS)),
+        ("host-faults", "planted faults of the host, of watch and of ladder, for `make soak`", len(HOST_FAULTS)),
     ]
 
 
@@ -154,7 +154,7 @@ def tables():
         "records": records(),
         "sizes": table(("Crate", "Specs", "Code", "Proofs"), sizes()),
         "host-tests": "".join(host_test(*named) for named in HOST_TESTS.items()),
-        "host-faults": table(("Fault", "In", "Found by"), [(name, f"`host/{file}`", f"`{test}`") for name, test, file, *_ in HOST_FAULTS]),
+        "host-faults": table(("Fault", "In", "Found by"), [(name, f"`{file}`", f"`{test}`") for name, test, file, *_ in HOST_FAULTS]),
     }
 
 
