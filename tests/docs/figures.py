@@ -139,9 +139,11 @@ def host_test(name, test):
 
 def records():
     """The items of each house record's payload, as tools/house_records.py has them."""
+    def values(item):
+        return (f"to {item.greatest}" if item.greatest else item.sort) + (" or none" if item.sort == house_records.LIMIT else "")
+
     def items(payload):
-        return ", ".join(f"{item.name.replace('_', ' ')} ({item.size}, {f'to {item.greatest}' if item.greatest else item.sort})"
-                         for item in payload.items.values())
+        return ", ".join(f"{item.name.replace('_', ' ')} ({item.size}, {values(item)})" for item in payload.items.values())
 
     def name(kind):
         return next(name.lower() for name, value in vars(house_records).items() if name.isupper() and value == kind)
