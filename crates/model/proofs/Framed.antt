@@ -126,9 +126,15 @@ four-digits n h = omega arith
 digit-test : (n : ℕ) → is-digit (0x30 + n % 10) ≡ true
 digit-test n = rw (le-leb 0x30 (0x30 + n % 10) (omega arith), le-leb (0x30 + n % 10) 0x39 (omega arith))
 
-digits-test : (n : ℕ) → all is-digit (digits 4 n) ≡ true
+all-append : (test : ℕ → Bool) (xs ys : List ℕ) → all test xs ≡ true → all test ys ≡ true → all test (xs ++ ys) ≡ true
+all-append test [] ys h k = k
+all-append test (x ∷ xs) ys h k = let t = both (test x) (all test xs) h in rw (t .0) (all-append test xs ys (t .1) k)
+
+pub digits-test : (width n : ℕ) → all is-digit (digits width n) ≡ true
 unfolding digits
-digits-test n = rw (digit-test n, digit-test (n / 10), digit-test (n / 10 / 10), digit-test (n / 10 / 10 / 10))
+digits-test zero n = refl
+digits-test (suc width) n =
+    all-append is-digit (digits width (n / 10)) ((0x30 + n % 10) ∷ []) (digits-test width (n / 10)) (rw (digit-test n))
 
 module _ (mid revision byte-12 : ℕ) (bs : List ℕ) where
   nul-frame : Shown byte-12 → NoNUL bs → NoNUL (frame mid revision byte-12 bs)
@@ -140,7 +146,7 @@ module _ (mid revision byte-12 : ℕ) (bs : List ℕ) where
   framed h k short = record {
     no-NUL = nul-frame h k;
     has-header = omega arith;
-    in-digits = digits-test (20 + length bs);
+    in-digits = digits-test 4 (20 + length bs);
     own-length = four-digits (20 + length bs) (omega arith) ∙ omega arith;
   }
 

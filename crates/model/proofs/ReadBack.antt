@@ -12,8 +12,8 @@ use Rattle.model.specs.Bytes.{space, digit-0, all, digits, decimal, deci
 use Rattle.model.specs.Records.{counted, number-at, text-at}
 use Rattle.model.specs.Layouts.{Sources, source, Row, number, text, blank, unreported, known, width-of, characters}
 use Rattle.model.specs.Layouts.{label-length, label, data-from}
-use Rattle.model.specs.FieldsRead.{read-field, read-fields, value-in, legible}
-use Rattle.model.proofs.Framed.{length-digits}
+use Rattle.model.specs.FieldsRead.{read-number, read-field, read-fields, value-in, legible}
+use Rattle.model.proofs.Framed.{length-digits, digits-test}
 
 -- ==== digits, read
 
@@ -30,6 +30,9 @@ decimal-digits (suc w) n h =
     ∙ ap (λ (k : ℕ). k * 10 + (0x30 + n % 10 - 0x30)) (decimal-digits w (n / 10) less)
     ∙ ap (λ (k : ℕ). n / 10 * 10 + k) (omega arith) ∙ div-add-mod' n 10
 
+number-back : (w n : ℕ) → n < 10 ^ w → read-number (digits w n) ≡ counted n
+number-back w n h = rw (digits-test w n) (ap counted (decimal-digits w n h))
+
 -- ==== one field
 
 module _ (b : Sources) where
@@ -38,11 +41,11 @@ module _ (b : Sources) where
       → (length (characters b row) ≡ width-of row) × (read-field row (characters b row) ≡ value-in b row)
   unfolding characters
   field-back (number w f i) e =
-      let n = number-at (source b f) i in (length-digits w n, ap counted (decimal-digits w n (ltb-true n (10 ^ w) e)))
+      let n = number-at (source b f) i in (length-digits w n, number-back w n (ltb-true n (10 ^ w) e))
   field-back (text w f i) e = (eqb-true (length (text-at (source b f) i)) w e, refl)
   field-back (blank w) e = (length-replicate w space, refl)
   field-back (unreported w) e = (length-replicate w digit-0, refl)
-  field-back (known w n) e = (length-digits w n, ap counted (decimal-digits w n (ltb-true n (10 ^ w) e)))
+  field-back (known w n) e = (length-digits w n, number-back w n (ltb-true n (10 ^ w) e))
 
   -- ==== all of them
 

@@ -6,7 +6,7 @@ use mathlib.Core.List.{List, [], _∷_, map}
 use lib.Dec.{leb, eqb, ltb}
 use lib.ListN.{length, take, drop, replicate}
 use Rattle.model.specs.Limits.{header-length, time-length}
-use Rattle.model.specs.Bytes.{digit-0, spaces, decimal}
+use Rattle.model.specs.Bytes.{digit-0, is-digit, all, spaces, decimal}
 use Rattle.model.specs.Records.{Item, number as number-item, text as text-item, time, Value, counted, said, number-at, text-at}
 use Rattle.model.specs.Records.{Settings, settings-items, scanned-items, result-items, alarm-items}
 use Rattle.model.specs.Layouts.{Sources, settings, source, Row, number, text, blank, unreported, known, width-of, label-length}
@@ -17,13 +17,16 @@ use Rattle.model.specs.Events.{Result, Event, identified, tightened, ala
 use Rattle.model.specs.Frames.{sources, frame-0002, frame-0004, frame-0005, kept-sources, frame-0065, event-frame}
 use Rattle.model.specs.Session.{Copy}
 
--- the value that a field's characters say
+-- the value that a field's characters say: of a number what its digits give, and where there is anything but digits no number
+abbrev pub read-number : List ℕ → Value
+read-number cs = cond (all is-digit cs) (counted (decimal cs)) (said cs)
+
 abbrev pub read-field : Row → List ℕ → Value
-read-field (number width from i) cs = counted (decimal cs)
+read-field (number width from i) cs = read-number cs
 read-field (text width from i) cs = said cs
 read-field (blank width) cs = said cs
 read-field (unreported width) cs = said cs
-read-field (known width n) cs = counted (decimal cs)
+read-field (known width n) cs = read-number cs
 
 -- the values of data that begins with these rows
 unfoldable pub read-fields : Bool → List Row → List ℕ → List Value
