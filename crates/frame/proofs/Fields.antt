@@ -1,5 +1,5 @@
 -- Fields one behind the other, and the field of each sort of row.
-use mathlib.Core.Path.{_≡_, refl, sym, ap, subst}
+use mathlib.Core.Path.{_≡_, refl, sym, ap, subst, _∙_}
 use Prim.Native.Nat.{ℕ, zero, suc, _+_, _≤_, _<_}
 use native.Mathlib.Nat.{add-zero}
 use native.Mathlib.Numerals.{add-one}
@@ -9,9 +9,9 @@ use mathlib.Core.List.{List, [], _∷_, _++_}
 use lib.ListN.{length, take, drop, replicate, length-drop, length-replicate, replicate-append-replicate}
 use lib.Seq.{length-take-le}
 use Rattle.model.specs.Bytes.{digit-0, digits, spaces}
-use Rattle.model.specs.Records.{number-at, text-at}
-use Rattle.model.specs.Layouts.{Sources, source, Row, number, text, blank, unreported, known, characters, width-of, data-from}
-use Rattle.model.specs.Layouts.{rows-length}
+use Rattle.model.specs.Records.{limit-of, number-at, limit-at, text-at}
+use Rattle.model.specs.Layouts.{Sources, source, Row, number, limit, text, blank, unreported, known, limit-characters, characters}
+use Rattle.model.specs.Layouts.{width-of, data-from, rows-length}
 use Rattle.model.specs.Frames.{nothing}
 use Rattle.model.proofs.ReadBack.{data-append}
 use Rattle.text.specs.Put.{Written}
@@ -55,6 +55,13 @@ module _ (b : Sources) where
     unfolding characters
     number-then width from i rows e p q = field-then (number width from i) rows refl (ap (digits width) e) p q
 
+    pub limit-then : (width from i : ℕ) (rows : List Row) {v x : ℕ} → v ≡ x → limit-of x ≡ limit-at (source b from) i
+        → Written o at (2 + width) (numbered n (limit-characters width (limit-of v))) r₁ o₁ → FieldsPut b (n + 1) rows o₁ r₁ r₂ o₂
+        → FieldsPut b n (limit width from i ∷ rows) o at r₂ o₂
+    unfolding characters
+    limit-then width from i rows e f p q =
+        field-then (limit width from i) rows refl (ap (λ (n : ℕ). limit-characters width (limit-of n)) e ∙ ap (limit-characters width) f) p q
+
     pub known-then : (width v : ℕ) (rows : List Row) → Written o at (2 + width) (numbered n (digits width v)) r₁ o₁
         → FieldsPut b (n + 1) rows o₁ r₁ r₂ o₂ → FieldsPut b n (known width v ∷ rows) o at r₂ o₂
     unfolding characters
@@ -80,19 +87,21 @@ module _ (b : Sources) where
   unfolding data-from
   fields-none {at = at} n = record { place = sym (add-zero at); put = record { output = refl; place = sym (add-zero at) } }
 
-  -- ==== four numbers of one width
+  -- ==== three limits, and the value that they are of, of one width
 
-  pub four-numbers : (n width from i : ℕ) {o o₁ o₂ o₃ o₄ : List ℕ} {at r₁ r₂ r₃ r₄ v₁ v₂ v₃ v₄ : ℕ}
-      → v₁ ≡ number-at (source b from) i → Written o at (2 + width) (numbered n (digits width v₁)) r₁ o₁
-      → v₂ ≡ number-at (source b from) (i + 1) → Written o₁ r₁ (2 + width) (numbered (n + 1) (digits width v₂)) r₂ o₂
-      → v₃ ≡ number-at (source b from) (i + 2) → Written o₂ r₂ (2 + width) (numbered (n + 1 + 1) (digits width v₃)) r₃ o₃
+  pub limits-then-value : (n width from i : ℕ) {o o₁ o₂ o₃ o₄ : List ℕ} {at r₁ r₂ r₃ r₄ v₁ v₂ v₃ v₄ x₁ x₂ x₃ : ℕ}
+      → v₁ ≡ x₁ → limit-of x₁ ≡ limit-at (source b from) i
+      → Written o at (2 + width) (numbered n (limit-characters width (limit-of v₁))) r₁ o₁
+      → v₂ ≡ x₂ → limit-of x₂ ≡ limit-at (source b from) (i + 1)
+      → Written o₁ r₁ (2 + width) (numbered (n + 1) (limit-characters width (limit-of v₂))) r₂ o₂
+      → v₃ ≡ x₃ → limit-of x₃ ≡ limit-at (source b from) (i + 2)
+      → Written o₂ r₂ (2 + width) (numbered (n + 1 + 1) (limit-characters width (limit-of v₃))) r₃ o₃
       → v₄ ≡ number-at (source b from) (i + 3) → Written o₃ r₃ (2 + width) (numbered (n + 1 + 1 + 1) (digits width v₄)) r₄ o₄
-      → FieldsPut b n
-      (number width from i ∷ number width from (i + 1) ∷ number width from (i + 2) ∷ number width from (i + 3) ∷ []) o at r₄ o₄
-  four-numbers n width from i e p f q g s h t =
-      number-then n width from i _ e p
-      (number-then (n + 1) width from (i + 1) _ f q
-      (number-then (n + 1 + 1) width from (i + 2) _ g s
+      → FieldsPut b n (limit width from i ∷ limit width from (i + 1) ∷ limit width from (i + 2) ∷ number width from (i + 3) ∷ []) o at r₄ o₄
+  limits-then-value n width from i e e′ p f f′ q g g′ s h t =
+      limit-then n width from i _ e e′ p
+      (limit-then (n + 1) width from (i + 1) _ f f′ q
+      (limit-then (n + 1 + 1) width from (i + 2) _ g g′ s
       (number-then (n + 1 + 1 + 1) width from (i + 3) [] h t (fields-none (n + 1 + 1 + 1 + 1)))))
 
   -- ==== fields of one width that the tool does not report: one more behind so many

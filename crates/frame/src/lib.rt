@@ -8,8 +8,9 @@ ghost use Rattle.model.specs.Limits.{header-length, identifier-length};
 ghost use Rattle.model.specs.Bytes.{space, digit-0, is-digit, is-space, all, digits, spaces};
 ghost use Rattle.model.specs.Runs.{is-flag as is-flag-byte, revision-of, is-message as is-message-run};
 ghost use Rattle.model.specs.Records.{record-head, payload-length, settings-of, settings-length, scanned-items};
-ghost use Rattle.model.specs.Records.{tightening-items, tightening-length, result-items, alarm-items, alarm-length};
-ghost use Rattle.model.specs.Layouts.{controller-rows, identifier-rows, layout-0065, torque-rows, angle-rows, result-rows, alarm-rows};
+ghost use Rattle.model.specs.Records.{limit-of, tightening-items, tightening-length, result-items, alarm-items, alarm-length};
+ghost use Rattle.model.specs.Layouts.{limit-characters, controller-rows, identifier-rows, layout-0065, torque-rows, angle-rows};
+ghost use Rattle.model.specs.Layouts.{result-rows, alarm-rows};
 ghost use Rattle.model.specs.Kinds.{kinds, kind-at, copy-most, reply-most};
 ghost use Rattle.model.specs.Events.{result-as};
 ghost use Rattle.model.specs.Frames.{frame-0002, frame-0004, frame-0005, frame-0065, event-frame, frame-record, close-record};
@@ -249,6 +250,18 @@ fn put_blank(out: &mut [u8], at: usize, field: u64, width: usize) -> usize
     text::fill(out, at, width, b' ')
 }
 
+// A limit in so many characters: its digits, or spaces where it was never set.
+fn put_limit(out: &mut [u8], at: usize, field: u64, width: usize, n: u64) -> usize
+    requires { ⌜ at + (2 + width) ≤ length (now out) ⌝ }
+    ensures { λ r. ⌜ Written (now (out .entry)) at (2 + width) (numbered field (limit-characters width (limit-of n))) r
+        (now (out .exit)) ⌝ }
+{
+    if n == model::NEVER_SET {
+        return put_blank(out, at, field, width);
+    }
+    put_number(out, at, field, width, n)
+}
+
 // What the tool does not report, a number or a text: zeros.
 fn put_zeros(out: &mut [u8], at: usize, field: u64, width: usize) -> usize
     requires { ⌜ at + (2 + width) ≤ length (now out) ⌝ }
@@ -336,9 +349,9 @@ fn put_torques(out: &mut [u8], at: usize, told: &[u8]) -> usize
     ensures { λ r. ⌜ FieldsPut (told-values tightening-items (now (told .entry))) 12 torque-rows (now (out .entry)) at r
         (now (out .exit)) ⌝ }
 {
-    let at = put_number(out, at, 12, 6, text::little(told, 35, 4));
-    let at = put_number(out, at, 13, 6, text::little(told, 39, 4));
-    let at = put_number(out, at, 14, 6, text::little(told, 43, 4));
+    let at = put_limit(out, at, 12, 6, text::little(told, 35, 4));
+    let at = put_limit(out, at, 13, 6, text::little(told, 39, 4));
+    let at = put_limit(out, at, 14, 6, text::little(told, 43, 4));
     put_number(out, at, 15, 6, text::little(told, 47, 4))
 }
 
@@ -348,9 +361,9 @@ fn put_angles(out: &mut [u8], at: usize, told: &[u8]) -> usize
     ensures { λ r. ⌜ FieldsPut (told-values tightening-items (now (told .entry))) 16 angle-rows (now (out .entry)) at r
         (now (out .exit)) ⌝ }
 {
-    let at = put_number(out, at, 16, 5, text::little(told, 51, 4));
-    let at = put_number(out, at, 17, 5, text::little(told, 55, 4));
-    let at = put_number(out, at, 18, 5, text::little(told, 59, 4));
+    let at = put_limit(out, at, 16, 5, text::little(told, 51, 4));
+    let at = put_limit(out, at, 17, 5, text::little(told, 55, 4));
+    let at = put_limit(out, at, 18, 5, text::little(told, 59, 4));
     put_number(out, at, 19, 5, text::little(told, 63, 4))
 }
 
@@ -423,9 +436,9 @@ fn put_later_torques(out: &mut [u8], at: usize, told: &[u8]) -> usize
     ensures { λ r. ⌜ FieldsPut (told-values tightening-items (now (told .entry))) 21 torque-rows (now (out .entry)) at r
         (now (out .exit)) ⌝ }
 {
-    let at = put_number(out, at, 21, 6, text::little(told, 35, 4));
-    let at = put_number(out, at, 22, 6, text::little(told, 39, 4));
-    let at = put_number(out, at, 23, 6, text::little(told, 43, 4));
+    let at = put_limit(out, at, 21, 6, text::little(told, 35, 4));
+    let at = put_limit(out, at, 22, 6, text::little(told, 39, 4));
+    let at = put_limit(out, at, 23, 6, text::little(told, 43, 4));
     put_number(out, at, 24, 6, text::little(told, 47, 4))
 }
 
@@ -435,9 +448,9 @@ fn put_later_angles(out: &mut [u8], at: usize, told: &[u8]) -> usize
     ensures { λ r. ⌜ FieldsPut (told-values tightening-items (now (told .entry))) 25 angle-rows (now (out .entry)) at r
         (now (out .exit)) ⌝ }
 {
-    let at = put_number(out, at, 25, 5, text::little(told, 51, 4));
-    let at = put_number(out, at, 26, 5, text::little(told, 55, 4));
-    let at = put_number(out, at, 27, 5, text::little(told, 59, 4));
+    let at = put_limit(out, at, 25, 5, text::little(told, 51, 4));
+    let at = put_limit(out, at, 26, 5, text::little(told, 55, 4));
+    let at = put_limit(out, at, 27, 5, text::little(told, 59, 4));
     put_number(out, at, 28, 5, text::little(told, 63, 4))
 }
 

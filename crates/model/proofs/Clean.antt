@@ -2,7 +2,7 @@
 -- NUL, so that nothing of it has one.
 use Prim.Native.Nat.{ℕ, suc, _+_, _≤_, _<_}
 use mathlib.Core.Path.{_≡_, refl, sym, _∙_, subst}
-use mathlib.Core.Bool.{Bool, true, false, cond, not, _&&_, _||_}
+use mathlib.Core.Bool.{Bool, true, false, cond, not, _&&_, _||_, true≢false}
 use mathlib.Core.List.{List, [], _∷_, _++_}
 use mathlib.Core.Option.{Option, none, some}
 use native.Mathlib.Omega.{arith}
@@ -10,10 +10,11 @@ use lib.Dec.{leb, ltb, eqb}
 use lib.ListN.{length, take, drop, length-take, length-drop}
 use lib.Seq.{take-all, take-take, length-take-le}
 use borrow.Author.Tests.{leb-true, eqb-true, eqb-false, eq-eqb, not-false}
-use Rattle.model.specs.Limits.{header-length, identifier-length, number-greatest, run-kept}
-use Rattle.model.specs.Bytes.{NUL, dash, colon, is-digit, all, places, decimal}
-use Rattle.model.specs.Records.{is-record, payload, Item, number, text, time, item-length, payload-length, parts-from, good-in-time}
-use Rattle.model.specs.Records.{is-time-from, good-item, good-parts, good-payload, good-record, value-of, values-of, values}
+use Rattle.model.specs.Limits.{header-length, identifier-length, number-greatest, never-set, run-kept}
+use Rattle.model.specs.Bytes.{NUL, dash, colon, is-digit, all, places, decimal, little}
+use Rattle.model.specs.Records.{is-record, payload, Item, number, limit, text, time, item-length, payload-length, parts-from}
+use Rattle.model.specs.Records.{good-in-time, is-time-from, good-item, good-parts, good-payload, good-record, limit-of, value-of}
+use Rattle.model.specs.Records.{values-of, values}
 use Rattle.model.specs.Records.{settings-record-kind, tightening-record-kind, scanned-record-kind, alarm-record-kind, settings-items}
 use Rattle.model.specs.Records.{settings-of, read-settings, tightening-items, tightening-of, identifier-in, scanned-items}
 use Rattle.model.specs.Records.{alarm-items, alarm-of, Tool, scanned, tightening, alarm, read-tool}
@@ -23,7 +24,7 @@ use Rattle.model.specs.Messages.{Entry, table, listed, entry-of, Error, 
 use Rattle.model.specs.Messages.{own, code, Standing, good-length, good-among, good-data, own-test, tested}
 use Rattle.model.specs.Tests.{first}
 use Rattle.model.specs.Wire.{Every, NoNUL, Framed}
-use Rattle.model.specs.FieldsRead.{is-within, all-within}
+use Rattle.model.specs.FieldsRead.{limit-within, is-within, all-within}
 use Rattle.model.proofs.Framed.{both, left, right, either, every-take, every-of, IfAny, Shown, nul-append, nul-text, Fit, Text}
 use Rattle.model.proofs.Framed.{Identifier, CleanSettings}
 use Rattle.model.proofs.Legible.{reported-items, number-within}
@@ -49,9 +50,18 @@ nul-time place (b ∷ bs) h =
 abbrev slim-item : Item → Bool
 slim-item e = leb (item-length e) identifier-length
 
+good-limit : (greatest n : ℕ) → (leb n greatest || eqb n never-set) ≡ true → limit-within greatest (limit-of n) ≡ true
+good-limit greatest n h = go (eqb n never-set) (leb n greatest) refl h
+  where
+    go : (a b : Bool) → leb n greatest ≡ b → (b || a) ≡ true → limit-within greatest (cond a none (some n)) ≡ true
+    go true b e k = refl
+    go false true e k = e
+    go false false e k = absurd (true≢false (sym k))
+
 good-value : (e : Item) (bs : List ℕ) → good-item e bs ≡ true → length bs ≡ item-length e
     → (slim-item e ≡ true → Fit (value-of e bs)) × (is-within e (value-of e bs) ≡ true)
 good-value (number size greatest) bs h n = (λ s. tt, h)
+good-value (limit size greatest) bs h n = (λ s. tt, good-limit greatest (little bs) h)
 good-value (text size) bs h n =
     (λ s. record { no-NUL = nul-text bs h; short = omega (arith, leb-true size identifier-length s) }, eq-eqb (length bs) size n)
 good-value time bs h n = (λ s. record { no-NUL = nul-time 1 bs h; short = omega arith }, eq-eqb (length bs) _ n)

@@ -11,8 +11,10 @@ use lib.ListN.{length, getD, take, replicate, length-append, length-replicate}
 use borrow.Author.Tests.{le-leb, leb-true}
 use Rattle.model.specs.Limits.{identifier-length, number-greatest}
 use Rattle.model.specs.Bytes.{NUL, space, digit-0, digit-1, is-digit, is-text, all, spaces, decimal, digits}
-use Rattle.model.specs.Records.{Value, counted, said, text-in, value-at, number-at, text-at, Settings, tightening-items}
-use Rattle.model.specs.Layouts.{Sources, settings, source, Row, number, text, blank, unreported, known, width-of, characters}
+use Rattle.model.specs.Records.{Value, counted, limited, said, text-in, value-at, number-at, limit-at, text-at, Settings}
+use Rattle.model.specs.Records.{tightening-items}
+use Rattle.model.specs.Layouts.{Sources, settings, source, Row, number, limit, text, blank, unreported, known, width-of}
+use Rattle.model.specs.Layouts.{limit-characters, characters}
 use Rattle.model.specs.Layouts.{label-length, Layout, data-from, data-of, layout-0002, layout-0004, layout-0005, layout-0065}
 use Rattle.model.specs.Layouts.{Layouts, layout-at, layouts-0052, layouts-0061, layouts-0071}
 use Rattle.model.specs.Kinds.{kind-at}
@@ -126,9 +128,15 @@ four-digits n h = omega arith
 digit-test : (n : ℕ) → is-digit (0x30 + n % 10) ≡ true
 digit-test n = rw (le-leb 0x30 (0x30 + n % 10) (omega arith), le-leb (0x30 + n % 10) 0x39 (omega arith))
 
-digits-test : (n : ℕ) → all is-digit (digits 4 n) ≡ true
+all-append : (test : ℕ → Bool) (xs ys : List ℕ) → all test xs ≡ true → all test ys ≡ true → all test (xs ++ ys) ≡ true
+all-append test [] ys h k = k
+all-append test (x ∷ xs) ys h k = let t = both (test x) (all test xs) h in rw (t .0) (all-append test xs ys (t .1) k)
+
+pub digits-test : (width n : ℕ) → all is-digit (digits width n) ≡ true
 unfolding digits
-digits-test n = rw (digit-test n, digit-test (n / 10), digit-test (n / 10 / 10), digit-test (n / 10 / 10 / 10))
+digits-test zero n = refl
+digits-test (suc width) n =
+    all-append is-digit (digits width (n / 10)) ((0x30 + n % 10) ∷ []) (digits-test width (n / 10)) (rw (digit-test n))
 
 module _ (mid revision byte-12 : ℕ) (bs : List ℕ) where
   nul-frame : Shown byte-12 → NoNUL bs → NoNUL (frame mid revision byte-12 bs)
@@ -140,7 +148,7 @@ module _ (mid revision byte-12 : ℕ) (bs : List ℕ) where
   framed h k short = record {
     no-NUL = nul-frame h k;
     has-header = omega arith;
-    in-digits = digits-test (20 + length bs);
+    in-digits = digits-test 4 (20 + length bs);
     own-length = four-digits (20 + length bs) (omega arith) ∙ omega arith;
   }
 
@@ -153,6 +161,7 @@ pub record Text (bs : List ℕ) : Type 0 where
 -- a value that can stand in one
 abbrev pub Fit : Value → Type 0
 Fit (counted n) = Unit {0}
+Fit (limited l) = Unit {0}
 Fit (said bs) = Text bs
 
 -- sources of which each can
@@ -162,7 +171,13 @@ pub record Fits (b : Sources) : Type 0 where
 
 fit-text : (v : Value) → Fit v → Text (text-in v)
 fit-text (counted n) h = record { no-NUL = tt; short = omega arith }
+fit-text (limited l) h = record { no-NUL = tt; short = omega arith }
 fit-text (said bs) h = h
+
+-- a limit has its width, be it a number or none, and no NUL
+pub limit-fits : (width : ℕ) (l : Option ℕ) → NoNUL (limit-characters width l) × (length (limit-characters width l) ≡ width)
+limit-fits width none = (nul-spaces width, length-replicate width space)
+limit-fits width (some n) = (nul-digits width n, length-digits width n)
 
 -- ==== layouts of which no field is longer, and which have so few that a frame's length goes into its digits
 
@@ -183,6 +198,8 @@ module _ (b : Sources) (h : Fits b) where
   field-fits (number width from i) =
       let n = number-at (source b from) i in
       (nul-digits width n, λ e. omega (arith, length-digits width n, leb-true width identifier-length e))
+  field-fits (limit width from i) =
+      let f = limit-fits width (limit-at (source b from) i) in (f .0, λ e. omega (arith, f .1, leb-true width identifier-length e))
   field-fits (text width from i) = let f = fit-source from i in (f .no-NUL, λ e. f .short)
   field-fits (blank width) = (nul-spaces width, λ e. omega (arith, length-replicate width space, leb-true width identifier-length e))
   field-fits (unreported width) =

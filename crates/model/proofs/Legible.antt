@@ -4,23 +4,26 @@ use Prim.Native.Nat.{ℕ, zero, suc, _≤_, _<_, _^_}
 use mathlib.Core.Path.{_≡_, refl, sym, ap, _∙_}
 use mathlib.Core.Bool.{Bool, true, false, cond, true≢false}
 use mathlib.Core.List.{List, [], _∷_, _++_, append-nil}
+use mathlib.Core.Option.{Option, none, some}
 use native.Mathlib.Omega.{arith}
-use lib.Dec.{leb, eqb}
+use lib.Dec.{leb, ltb, eqb}
 use lib.ListN.{length, drop}
 use borrow.Author.Tests.{leb-true, ltb-true, eqb-true, le-leb, lt-ltb, eq-eqb}
 use Rattle.model.specs.Limits.{identifier-length, number-length, number-greatest, results-kept}
 use Rattle.model.specs.Bytes.{space, digit-0, digit-1, all, digits}
-use Rattle.model.specs.Records.{Item, number as number-item, text as text-item, time, Value, counted, said, number-at, text-at}
+use Rattle.model.specs.Records.{Item, number as number-item, limit as limit-item, text as text-item, time, Value, counted, limited}
+use Rattle.model.specs.Records.{said, number-at, limit-at, text-at}
 use Rattle.model.specs.Records.{Settings, settings-items, tightening-items, result-items, scanned-items, alarm-items}
-use Rattle.model.specs.Layouts.{Sources, settings, source, Row, number, text, blank, unreported, known, characters, Layout}
+use Rattle.model.specs.Layouts.{Sources, settings, source, Row, number, limit, text, blank, unreported, known, characters, Layout}
 use Rattle.model.specs.Layouts.{data-from, data-of, layout-0002, layout-0004, layout-0005, layout-0065, layouts-0052}
 use Rattle.model.specs.Layouts.{layouts-0061, layouts-0071}
 use Rattle.model.specs.Kinds.{kind-at}
 use Rattle.model.specs.Events.{Result, Event, identified, tightened, alarmed, kind-of, told-of}
 use Rattle.model.specs.Frames.{header, frame, sources, nothing, frame-0002, frame-0004, frame-0005, kept-sources, frame-0065}
 use Rattle.model.specs.Frames.{event-frame}
-use Rattle.model.specs.FieldsRead.{legible, read-fields, read-frame, values-in, number-below, text-of, passes-at, row-fits}
-use Rattle.model.specs.FieldsRead.{layout-for, ReadsBack, is-within, all-within, items-of, settings-within, told-within}
+use Rattle.model.specs.FieldsRead.{limit-legible, legible, read-fields, read-frame, values-in, number-below, limit-below, text-of}
+use Rattle.model.specs.FieldsRead.{passes-at, row-fits, layout-for, ReadsBack, limit-within, is-within, all-within, items-of}
+use Rattle.model.specs.FieldsRead.{settings-within, told-within}
 use Rattle.model.specs.Wire.{Every}
 use Rattle.model.proofs.Framed.{both, every-append, every-take, at-every, Fit, Identifier, CleanSettings, CleanResult, CleanEvent}
 use Rattle.model.proofs.ReadBack.{read-back}
@@ -34,9 +37,29 @@ number-within bound (e ∷ es) [] i a f = absurd (true≢false (sym a))
 number-within bound (e ∷ es) (v ∷ vs) (suc i) a f = number-within bound es vs i (both (is-within e v) (all-within es vs) a .1) f
 number-within bound (number-item size greatest ∷ es) (counted n ∷ vs) zero a f =
     omega (arith, leb-true n greatest (both (leb n greatest) (all-within es vs) a .0), ltb-true greatest bound f)
+number-within bound (number-item size greatest ∷ es) (limited l ∷ vs) zero a f = absurd (true≢false (sym a))
 number-within bound (number-item size greatest ∷ es) (said bs ∷ vs) zero a f = absurd (true≢false (sym a))
+number-within bound (limit-item size greatest ∷ es) (v ∷ vs) zero a f = absurd (true≢false (sym f))
 number-within bound (text-item size ∷ es) (v ∷ vs) zero a f = absurd (true≢false (sym f))
 number-within bound (time ∷ es) (v ∷ vs) zero a f = absurd (true≢false (sym f))
+
+limit-in-width : (w greatest : ℕ) (l : Option ℕ) → ltb 0 w ≡ true → limit-within greatest l ≡ true → ltb greatest (10 ^ w) ≡ true
+    → limit-legible w l ≡ true
+limit-in-width w greatest none o a f = o
+limit-in-width w greatest (some n) o a f = lt-ltb n (10 ^ w) (omega (arith, leb-true n greatest a, ltb-true greatest (10 ^ w) f))
+
+limits-within : (w : ℕ) (es : List Item) (vs : List Value) (i : ℕ) → ltb 0 w ≡ true → all-within es vs ≡ true
+    → passes-at (limit-below (10 ^ w)) es i ≡ true → limit-legible w (limit-at vs i) ≡ true
+limits-within w [] vs i o a f = absurd (true≢false (sym f))
+limits-within w (e ∷ es) [] i o a f = absurd (true≢false (sym a))
+limits-within w (e ∷ es) (v ∷ vs) (suc i) o a f = limits-within w es vs i o (both (is-within e v) (all-within es vs) a .1) f
+limits-within w (number-item size greatest ∷ es) (v ∷ vs) zero o a f = absurd (true≢false (sym f))
+limits-within w (limit-item size greatest ∷ es) (counted n ∷ vs) zero o a f = absurd (true≢false (sym a))
+limits-within w (limit-item size greatest ∷ es) (limited l ∷ vs) zero o a f =
+    limit-in-width w greatest l o (both (limit-within greatest l) (all-within es vs) a .0) f
+limits-within w (limit-item size greatest ∷ es) (said bs ∷ vs) zero o a f = absurd (true≢false (sym a))
+limits-within w (text-item size ∷ es) (v ∷ vs) zero o a f = absurd (true≢false (sym f))
+limits-within w (time ∷ es) (v ∷ vs) zero o a f = absurd (true≢false (sym f))
 
 text-within : (w : ℕ) (es : List Item) (vs : List Value) (i : ℕ) → all-within es vs ≡ true → passes-at (text-of w) es i ≡ true
     → eqb (length (text-at vs i)) w ≡ true
@@ -44,10 +67,13 @@ text-within w [] vs i a f = absurd (true≢false (sym f))
 text-within w (e ∷ es) [] i a f = absurd (true≢false (sym a))
 text-within w (e ∷ es) (v ∷ vs) (suc i) a f = text-within w es vs i (both (is-within e v) (all-within es vs) a .1) f
 text-within w (number-item size greatest ∷ es) (v ∷ vs) zero a f = absurd (true≢false (sym f))
+text-within w (limit-item size greatest ∷ es) (v ∷ vs) zero a f = absurd (true≢false (sym f))
 text-within w (text-item size ∷ es) (counted n ∷ vs) zero a f = absurd (true≢false (sym a))
+text-within w (text-item size ∷ es) (limited l ∷ vs) zero a f = absurd (true≢false (sym a))
 text-within w (text-item size ∷ es) (said bs ∷ vs) zero a f =
     eq-eqb (length bs) w (eqb-true (length bs) size (both (eqb (length bs) size) (all-within es vs) a .0) ∙ eqb-true size w f)
 text-within w (time ∷ es) (counted n ∷ vs) zero a f = absurd (true≢false (sym a))
+text-within w (time ∷ es) (limited l ∷ vs) zero a f = absurd (true≢false (sym a))
 text-within w (time ∷ es) (said bs ∷ vs) zero a f =
     eq-eqb (length bs) w (eqb-true (length bs) _ (both _ (all-within es vs) a .0) ∙ eqb-true _ w f)
 
@@ -64,6 +90,10 @@ module _ (ss ts : List Item) (b : Sources) (s : all-within ss (b .settings) ≡ 
   fit-legible (number w from i) f =
       lt-ltb (number-at (source b from) i) (10 ^ w)
       (number-within (10 ^ w) (cond (eqb from settings) ss ts) (source b from) i (source-within from) f)
+  fit-legible (limit w from i) f =
+      let es = cond (eqb from settings) ss ts in
+      let t = both (ltb 0 w) (passes-at (limit-below (10 ^ w)) es i) f in
+      limits-within w es (source b from) i (t .0) (source-within from) (t .1)
   fit-legible (text w from i) f = text-within w (cond (eqb from settings) ss ts) (source b from) i (source-within from) f
   fit-legible (blank w) f = refl
   fit-legible (unreported w) f = refl

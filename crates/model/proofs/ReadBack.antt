@@ -5,15 +5,16 @@ use native.Mathlib.Nat.{add-zero, div-add-mod', div-lt-iff-lt-mul, pow-suc}
 use native.Mathlib.Omega.{arith}
 use mathlib.Core.Bool.{Bool, true, and-eq-true-iff}
 use mathlib.Core.List.{List, [], _∷_, _++_, map, append-assoc}
+use mathlib.Core.Option.{Option, none, some}
 use lib.ListN.{length, length-replicate}
 use lib.Seq.{take-at, drop-at}
 use borrow.Author.Tests.{ltb-true, eqb-true}
-use Rattle.model.specs.Bytes.{space, digit-0, all, digits, decimal, decimal-from}
-use Rattle.model.specs.Records.{counted, number-at, text-at}
-use Rattle.model.specs.Layouts.{Sources, source, Row, number, text, blank, unreported, known, width-of, characters}
-use Rattle.model.specs.Layouts.{label-length, label, data-from}
-use Rattle.model.specs.FieldsRead.{read-field, read-fields, value-in, legible}
-use Rattle.model.proofs.Framed.{length-digits}
+use Rattle.model.specs.Bytes.{space, digit-0, is-space, all, spaces, digits, decimal, decimal-from}
+use Rattle.model.specs.Records.{counted, limited, number-at, limit-at, text-at}
+use Rattle.model.specs.Layouts.{Sources, source, Row, number, limit, text, blank, unreported, known, width-of, limit-characters}
+use Rattle.model.specs.Layouts.{characters, label-length, label, data-from}
+use Rattle.model.specs.FieldsRead.{read-number, read-limit, read-field, read-fields, value-in, limit-legible, legible}
+use Rattle.model.proofs.Framed.{length-digits, digits-test, limit-fits}
 
 -- ==== digits, read
 
@@ -30,6 +31,19 @@ decimal-digits (suc w) n h =
     ∙ ap (λ (k : ℕ). k * 10 + (0x30 + n % 10 - 0x30)) (decimal-digits w (n / 10) less)
     ∙ ap (λ (k : ℕ). n / 10 * 10 + k) (omega arith) ∙ div-add-mod' n 10
 
+number-back : (w n : ℕ) → n < 10 ^ w → read-number (digits w n) ≡ counted n
+number-back w n h = rw (digits-test w n) (ap counted (decimal-digits w n h))
+
+all-spaces : (n : ℕ) → all is-space (spaces n) ≡ true
+all-spaces zero = refl
+all-spaces (suc n) = all-spaces n
+
+-- a limit: digits are a number, and spaces, of which there is one at least, are none
+limit-back : (w : ℕ) (l : Option ℕ) → limit-legible w l ≡ true → read-limit (limit-characters w l) ≡ limited l
+limit-back zero none e = absurd (omega (arith, ltb-true 0 0 e))
+limit-back (suc w) none e = rw (all-spaces w)
+limit-back w (some n) e = rw (digits-test w n) (ap (λ (k : ℕ). limited (some k)) (decimal-digits w n (ltb-true n (10 ^ w) e)))
+
 -- ==== one field
 
 module _ (b : Sources) where
@@ -38,11 +52,12 @@ module _ (b : Sources) where
       → (length (characters b row) ≡ width-of row) × (read-field row (characters b row) ≡ value-in b row)
   unfolding characters
   field-back (number w f i) e =
-      let n = number-at (source b f) i in (length-digits w n, ap counted (decimal-digits w n (ltb-true n (10 ^ w) e)))
+      let n = number-at (source b f) i in (length-digits w n, number-back w n (ltb-true n (10 ^ w) e))
+  field-back (limit w f i) e = let l = limit-at (source b f) i in (limit-fits w l .1, limit-back w l e)
   field-back (text w f i) e = (eqb-true (length (text-at (source b f) i)) w e, refl)
   field-back (blank w) e = (length-replicate w space, refl)
   field-back (unreported w) e = (length-replicate w digit-0, refl)
-  field-back (known w n) e = (length-digits w n, ap counted (decimal-digits w n (ltb-true n (10 ^ w) e)))
+  field-back (known w n) e = (length-digits w n, number-back w n (ltb-true n (10 ^ w) e))
 
   -- ==== all of them
 

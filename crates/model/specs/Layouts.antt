@@ -2,11 +2,12 @@
 use Prim.Native.Nat.{ℕ, suc, _+_, _-_}
 use mathlib.Core.Bool.{Bool, true, false, cond}
 use mathlib.Core.List.{List, [], _∷_, _++_, map}
+use mathlib.Core.Option.{Option, none, some}
 use lib.Dec.{eqb}
 use lib.ListN.{length, getD, take, replicate}
 use Rattle.model.specs.Limits.{identifier-length, time-length, number-digits}
 use Rattle.model.specs.Bytes.{digit-0, spaces, digits}
-use Rattle.model.specs.Records.{Value, number-at, text-at}
+use Rattle.model.specs.Records.{Value, number-at, limit-at, text-at}
 
 -- ==== what a frame is made of: the values of the settings, and those of what it tells
 
@@ -29,6 +30,7 @@ source b from = cond (eqb from settings) (b .settings) (b .told)
 pub data Row : Type 0 where
   -- width; source, and which value of it
   number : ℕ → ℕ → ℕ → Row
+  limit : ℕ → ℕ → ℕ → Row
   text : ℕ → ℕ → ℕ → Row
   -- width; a text of spaces
   blank : ℕ → Row
@@ -39,14 +41,21 @@ pub data Row : Type 0 where
 
 abbrev pub width-of : Row → ℕ
 width-of (number width from i) = width
+width-of (limit width from i) = width
 width-of (text width from i) = width
 width-of (blank width) = width
 width-of (unreported width) = width
 width-of (known width n) = width
 
+-- a limit that was never set is spaces (02, P6)
+abbrev pub limit-characters : ℕ → Option ℕ → List ℕ
+limit-characters width none = spaces width
+limit-characters width (some n) = digits width n
+
 -- the field's characters; `0` is each of what is not reported, be it a text
 unfoldable pub characters : Sources → Row → List ℕ
 characters b (number width from i) = digits width (number-at (source b from) i)
+characters b (limit width from i) = limit-characters width (limit-at (source b from) i)
 characters b (text width from i) = text-at (source b from) i
 characters b (blank width) = spaces width
 characters b (unreported width) = replicate width digit-0
@@ -151,11 +160,11 @@ layouts-0071 = record { older = []; newest = first-of alarm-rows true 4 }
 
 -- torques: minimum, maximum, target, the torque
 abbrev pub torque-rows : List Row
-torque-rows = number 6 told 8 ∷ number 6 told 9 ∷ number 6 told 10 ∷ number 6 told 11 ∷ []
+torque-rows = limit 6 told 8 ∷ limit 6 told 9 ∷ limit 6 told 10 ∷ number 6 told 11 ∷ []
 
 -- angles: minimum, maximum, target, the angle
 abbrev pub angle-rows : List Row
-angle-rows = number 5 told 12 ∷ number 5 told 13 ∷ number 5 told 14 ∷ number 5 told 15 ∷ []
+angle-rows = limit 5 told 12 ∷ limit 5 told 13 ∷ limit 5 told 14 ∷ number 5 told 15 ∷ []
 
 -- time, time of the last change of the parameter set
 abbrev pub time-rows : List Row

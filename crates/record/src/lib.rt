@@ -1,8 +1,10 @@
 // House records: which slices are good settings and tool records, and which identifier is meant.
 ghost use mathlib.Core.Path.{_≡_};
-ghost use mathlib.Core.Bool.{true};
+ghost use mathlib.Core.Bool.{true, _||_};
 ghost use Prim.Native.Nat.{_<_};
+ghost use lib.Dec.{leb, eqb};
 ghost use lib.ListN.{length, drop};
+ghost use Rattle.model.specs.Limits.{never-set};
 ghost use Rattle.model.specs.Records.{
   record-head,
   is-record as is-record-of,
@@ -23,6 +25,7 @@ ghost use Rattle.record.specs.Tools.{settings-in, tool-in};
 use model::ALARM_LENGTH;
 use model::ALARM_RECORD_KIND;
 use model::IDENTIFIER_LENGTH;
+use model::NEVER_SET;
 use model::NUMBER_GREATEST;
 use model::NUMBER_LENGTH;
 use model::RECORD_HEAD;
@@ -66,12 +69,16 @@ pub fn is_time(s: &[u8]) -> bool
 enum Item {
     // in how many bytes, and the greatest that is good
     Number(usize, u64),
+    // the greatest that is good, beside the one that means never set
+    Limit(u64),
     // of how many bytes
     Text(usize),
     // a text of CODE_LENGTH bytes: so the compiler knows how long every other text is
     Code,
     Time,
 }
+
+const LIMIT_LENGTH: usize = 4;
 
 const CODE_LENGTH: usize = 4;
 
@@ -106,14 +113,14 @@ fn item_at(k: usize) -> Item
         11 => Item::Number(1, 2),
         12 => Item::Number(1, 2),
         // torques: min, max, target, the torque
-        13 => Item::Number(4, 999_999),
-        14 => Item::Number(4, 999_999),
-        15 => Item::Number(4, 999_999),
+        13 => Item::Limit(999_999),
+        14 => Item::Limit(999_999),
+        15 => Item::Limit(999_999),
         16 => Item::Number(4, 999_999),
         // angles: min, max, target, the angle
-        17 => Item::Number(4, 99_999),
-        18 => Item::Number(4, 99_999),
-        19 => Item::Number(4, 99_999),
+        17 => Item::Limit(99_999),
+        18 => Item::Limit(99_999),
+        19 => Item::Limit(99_999),
         20 => Item::Number(4, 99_999),
         // time, parameter set change time, batch status
         21 => Item::Time,
@@ -158,10 +165,17 @@ fn item_length(item: Item) -> usize
 {
     match item {
         Item::Number(size, greatest) => size,
+        Item::Limit(greatest) => LIMIT_LENGTH,
         Item::Text(size) => size,
         Item::Code => CODE_LENGTH,
         Item::Time => TIME_LENGTH,
     }
+}
+
+fn good_limit(n: u64, greatest: u64) -> bool
+    ensures { λ r. ⌜ r ≡ leb n greatest || eqb n never-set ⌝ }
+{
+    n <= greatest || n == NEVER_SET
 }
 
 // Whether the bytes of an item are good.
@@ -171,6 +185,7 @@ fn good_item(item: Item, s: &[u8]) -> bool
 {
     match item {
         Item::Number(size, greatest) => text::little(s, 0, size) <= greatest,
+        Item::Limit(greatest) => good_limit(text::little(s, 0, LIMIT_LENGTH), greatest),
         Item::Text(size) => text::is_text(s),
         Item::Code => text::is_text(s),
         Item::Time => is_time(s),

@@ -2,17 +2,18 @@
 use borrow.Author.Needs.{needs}
 use borrow.Author.Tests.{leb-true}
 use mathlib.Core.Path.{_≡_, sym, ap, subst, _∙_}
-use mathlib.Core.Bool.{Bool, true}
+use mathlib.Core.Bool.{Bool, true, _||_}
 use mathlib.Core.List.{List}
 use Prim.Native.Nat.{ℕ}
 use native.Mathlib.Omega.{arith}
-use lib.Dec.{leb}
-use lib.ListN.{take}
+use lib.Dec.{leb, eqb}
+use lib.ListN.{length, take}
 use lib.Seq.{take-length}
+use Rattle.model.specs.Limits.{never-set}
 use Rattle.model.specs.Bytes.{little}
 use Rattle.model.specs.Records.{item-length, good-item}
 use Rattle.record.specs.declared.Item.{Item}
-use Rattle.record.specs.declared.Item.the-variants.{Number}
+use Rattle.record.specs.declared.Item.the-variants.{Number, Limit}
 use Rattle.record.specs.Items.{item-of, readable}
 use Rattle.record.proofs.good_item.Statement.{statement}
 use Rattle.record.proofs.good_item.Tie as tie
@@ -28,6 +29,14 @@ number-test : {e : Item} {size greatest n : ℕ} (bs : List ℕ) → e ≡ Numbe
     → leb n greatest ≡ good-item (item-of e) bs
 number-test {greatest = greatest} bs p h = test-of bs p (ap (λ (n : ℕ). leb n greatest) h)
 
+limit-test : {e : Item} {greatest n : ℕ} {b : Bool} (bs : List ℕ) → e ≡ Limit greatest → b ≡ (leb n greatest || eqb n never-set)
+    → n ≡ little bs → b ≡ good-item (item-of e) bs
+limit-test {greatest = greatest} bs p t h = test-of bs p (t ∙ ap (λ (n : ℕ). leb n greatest || eqb n never-set) h)
+
+-- the bytes of an item are all that is lent
+all-of : {e f : Item} (bs : List ℕ) → e ≡ f → length bs ≡ item-length (item-of e) → take (item-length (item-of f)) bs ≡ bs
+all-of bs p h = ap (λ (n : ℕ). take n bs) (sym (length-of p h)) ∙ take-length bs
+
 little-requires : tie.Need-little-requires
 little-requires c κs =
     let s = c .before .before .before .before in
@@ -40,8 +49,17 @@ returns c =
     let s = c .before .before .before .before .before in
     let e = c .before .before .item .given .1 in
     let bs = s .args .s .now in
-    let all-of-it = ap (λ (n : ℕ). take n bs) (sym (length-of e (s .pre .1))) ∙ take-length bs in
-    number-test bs e (c .little .ensures .0 ∙ ap little all-of-it)
+    number-test bs e (c .little .ensures .0 ∙ ap little (all-of bs e (s .pre .1)))
+
+little-requires-2 : tie.Need-little-requires-2
+little-requires-2 c κs = let n = length-of (c .before .item2 .given .1) (c .before .before .before .before .pre .1) in search needs
+
+returns-2 : tie.Need-returns-2
+returns-2 c =
+    let s = c .before .before .before .before .before .before in
+    let e = c .before .before .before .item2 .given .1 in
+    let bs = s .args .s .now in
+    limit-test bs e (c .good-limit .ensures) (c .before .little2 .ensures .0 ∙ ap little (all-of bs e (s .pre .1)))
 
 pub good-item-spec : {M : Type 1} → statement M
 good-item-spec =
@@ -50,12 +68,16 @@ good-item-spec =
     (λ c. search needs)
     little-requires
     (λ c. search needs)
+    little-requires-2
+    (λ c κs. search needs)
+    (λ c. search needs)
     (λ c κs. search needs)
     (λ c. search needs)
     (λ c κs. search needs)
     (λ c. search needs)
     (λ c κs. search needs)
     returns
-    (λ c. test-of _ (c .before .before .item2 .given .1) (c .is-text .ensures))
+    returns-2
+    (λ c. test-of _ (c .before .before .item3 .given .1) (c .is-text .ensures))
     (λ c. test-of _ (c .before .enum-told .given .1) (c .is-text2 .ensures))
     (λ c. test-of _ (c .before .enum-told2 .given .1) (c .is-time .ensures)))
