@@ -316,8 +316,9 @@ def build(program, sources_name, file, text, options):
 
 
 def run_tests(host, replay, names, *more):
-    """The status of the tests, and what they printed."""
-    command = [sys.executable, os.path.join(HERE, "run.py"), "--host", host, "--replay", replay, "--only", ",".join(names), *more]
+    """The status of the tests, which wait no longer for what does not come than here is time for, and what they printed."""
+    command = [sys.executable, os.path.join(HERE, "run.py"), "--host", host, "--replay", replay, "--only", ",".join(names),
+               "--seconds", "5", *more]
     done = subprocess.run(command, stdout=subprocess.PIPE, encoding="utf-8", check=False)
     return done.returncode, done.stdout
 
@@ -331,7 +332,7 @@ def find(arguments):
     else:
         host = build(program, "SOURCES", file, text, options) or host
         more[1] = build(program + "-replay", "REPLAY_SOURCES", file, text, options) or more[1]
-    status, printed = run_tests(host, options.replay, [finder], "--seconds", "5", *more)
+    status, printed = run_tests(host, options.replay, [finder], *more)
     return finder, None if status == 0 else printed.partition("WRONG: ")[2].partition("\n")[0]
 
 
