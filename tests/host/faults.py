@@ -134,8 +134,9 @@ IN_HOST = [
      'memcmp(text + 4, "0076", 4) == 0'),
     ("a fault of the demo's at another time", "the-demo", "demo.c", "write_time(now, time(NULL));\n    begin(SERIFLADDER_ALARM,",
      "write_time(now, 0);\n    begin(SERIFLADDER_ALARM,"),
-    ("the demo's missing limits told as 0", "the-demo", "demo.c",
-     "#define NO_WINDOW { SERIFLADDER_NEVER_SET, SERIFLADDER_NEVER_SET, SERIFLADDER_NEVER_SET }", "#define NO_WINDOW { 0, 0, 0 }"),
+    ("the demo's missing limits told as 0", "the-demo", "demo.c", "static void add_window(const struct window *window)\n{\n",
+     "static void add_window(const struct window *window)\n{\n    static const struct window ZEROS;\n"
+     "    window = is_set(window->least) ? window : &ZEROS;\n"),
     ("a target in the demo's missing window", "the-demo", "demo.c", "SERIFLADDER_NEVER_SET, SERIFLADDER_NEVER_SET }",
      "SERIFLADDER_NEVER_SET, 90 }"),
     ("the demo's angles all held against one window", "the-demo", "demo.c", "status(angle, &program->angle)",
