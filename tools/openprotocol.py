@@ -273,7 +273,7 @@ def read(run):
 
 
 def missing_limits(fields, what):
-    """In words, which limits of a torque or an angle were never set; one who has none of the three has no window."""
+    """In words, which limits of a torque or an angle were never set: its window where all three are missing."""
     missing = [which for which in LIMITS if fields[what + "_" + which] is None]
     return ["no %s %s" % (what, which) for which in (["window"] if len(missing) == len(LIMITS) else missing)]
 

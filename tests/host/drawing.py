@@ -122,7 +122,8 @@ def missing_limits_are_drawn(place):
             server.expect_result(fields, number)
             server.fetch(number)
             wanted += ['%d: 24.31 Nm%s, OK, identifier "BODY", taken by 0' % (number, words),
-                       'notice: tightening %d, "BODY", 24.31 Nm%s, OK' % (number, words), 'old tightening %d, "BODY", 24.31 Nm, OK' % number]
+                       'notice: tightening %d, "BODY", 24.31 Nm%s, OK' % (number, words),
+                       'old tightening %d, "BODY", 24.31 Nm, OK' % number]
         server.close()
         place.wait_for_hang_up(0, revision)
     equal(host.end(), 0, "status")

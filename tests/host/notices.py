@@ -333,8 +333,8 @@ def log_lines_in_each_revision(place):
 
 @test
 def the_demo(place):
-    """--demo scans identifiers, tightens bolts and has a fault of itself: results arrive in order, as a tool would have given them, soon one
-    whose program has an angle window and one whose program has none."""
+    """--demo scans identifiers, tightens bolts and has a fault of itself: results arrive in order, as a tool would have given them, among
+    the first of a program with an angle window and of one without."""
     host = place.host("--demo", "--demo-seconds", 1, tool=False)
     server = place.server(host).subscribe().subscribe_alarms()
     numbers, identifiers, codes, windows = [], [], [], {}

@@ -172,8 +172,8 @@ def watch_with_another_controller(place):
 
 
 def result_run(revision, number=1, put=(), **named):
-    """A 0061 in that revision of the tightening that is shown, with other values where they are named, and with whatever characters `put` has
-    for its fields; with its NUL."""
+    """A 0061 in that revision of the tightening that is shown, with other values where they are named, and with the characters that `put`
+    has for fields; with its NUL."""
     run = bytearray(openprotocol.write(openprotocol.RESULT, harness.result_fields({**SHOWN, **named}, number, revision), revision, b"0"))
     for name, characters in put:
         run[openprotocol.LAYOUTS[openprotocol.RESULT, revision].places[name]] = characters

@@ -60,7 +60,8 @@ module _ (b : Sources) where
         → FieldsPut b n (limit width from i ∷ rows) o at r₂ o₂
     unfolding characters
     limit-then width from i rows e f p q =
-        field-then (limit width from i) rows refl (ap (λ (n : ℕ). limit-characters width (limit-of n)) e ∙ ap (limit-characters width) f) p q
+        field-then (limit width from i) rows refl
+        (ap (λ (n : ℕ). limit-characters width (limit-of n)) e ∙ ap (limit-characters width) f) p q
 
     pub known-then : (width v : ℕ) (rows : List Row) → Written o at (2 + width) (numbered n (digits width v)) r₁ o₁
         → FieldsPut b (n + 1) rows o₁ r₁ r₂ o₂ → FieldsPut b n (known width v ∷ rows) o at r₂ o₂
