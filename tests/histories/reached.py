@@ -258,7 +258,7 @@ class Results:
         together = len({result.revision for result in results})
         if together > 1:
             self.times["a call that sends 0061 in %d revisions" % together] += 1
-            self.times["a call that sends 0061 in several revisions, with a limit that is none"] += bool(results[0].none)
+            self.times["a call that sends 0061 in several revisions, each with a limit that is none"] += all(one.none for one in results)
 
     def result(self, result, waited, once_more):
         """One that was sent."""

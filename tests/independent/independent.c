@@ -827,7 +827,7 @@ static char filling(enum sort sort)
 static void add_number(struct frame *frame, const struct row *row, uint32_t value)
 {
     if (is_none(row->name, value) && FAULT != NONE_AS_ITS_DIGITS)
-        add_filling(frame, ' ', row->width);
+        add_filling(frame, FAULT == UNDERSCORES_FOR_NONE ? '_' : ' ', row->width);
     else
         add_digits(frame, row->width, value);
 }
