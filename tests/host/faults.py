@@ -264,7 +264,7 @@ IN_TOOLS = [
     ("missing limits of the torque not drawn", "missing-limits-are-drawn", "ladder_rows.py",
      '    for what in ("torque", "angle"):\n        words +=', '    for what in ("angle",):\n        words +='),
     ("a missing limit of a record read as a number", "missing-limits-are-drawn", "house_records.py",
-     "return None if self.sort == LIMIT and value == LIMIT_NONE else value", "return value"),
+     "return None if self.sort == LIMIT and value == NEVER_SET else value", "return value"),
 ]
 
 FAULTS = [(name, finder, folder + "/" + file, *edit) for folder, faults in (("host", IN_HOST), ("tools", IN_TOOLS))
