@@ -7,13 +7,26 @@
 #include <string.h>
 #include <time.h>
 
-enum { BOLTS = 4, ONE_NOT_OK_IN = 8, PARAMETER_SET = 7 };
+enum { BOLTS = 4, ONE_NOT_OK_IN = 8 };
 
 /* Each so many things that it does, and the first soon, so that it is seen. */
 enum { FAULT_EACH = 20, FIRST_FAULT = 3 };
 
-/* In hundredths of Nm, and in degrees. */
-enum { TORQUE_LEAST = 2250, TORQUE_MOST = 2750, TORQUE_TARGET = 2500, ANGLE_LEAST = 70, ANGLE_MOST = 110, ANGLE_TARGET = 90 };
+/* What a torque, in hundredths of Nm, or an angle, in degrees, is held against; a limit that was never set is SERIFLADDER_NEVER_SET. */
+struct window {
+    uint32_t least, most, target;
+};
+
+#define NO_WINDOW { SERIFLADDER_NEVER_SET, SERIFLADDER_NEVER_SET, SERIFLADDER_NEVER_SET }
+
+/* The programs, by their parameter sets; the bolts of a body take turns with them. The second is torque-only: no angle is wrong there. */
+static const struct program {
+    unsigned parameter_set;
+    struct window torque, angle;
+} PROGRAMS[] = {
+    { 7, { 2250, 2750, 2500 }, { 70, 110, 90 } },
+    { 8, { 2250, 2750, 2500 }, NO_WINDOW },
+};
 
 /* A record, as it is filled from its front; a tightening is the longest. */
 static struct {
@@ -85,39 +98,58 @@ static void scan(unsigned body)
     give();
 }
 
-/* A status is 0 where the value is low, 1 where it is OK and 2 where it is high. */
-static unsigned status(unsigned value, unsigned least, unsigned most)
+static bool is_set(uint32_t limit)
 {
-    return value < least ? 0 : value > most ? 2 : 1;
+    return limit != SERIFLADDER_NEVER_SET;
+}
+
+/* A status is 0 where the value is low, 1 where it is OK and 2 where it is high: beyond a limit that was set. */
+static unsigned status(unsigned value, const struct window *window)
+{
+    if (is_set(window->least) && value < window->least)
+        return 0;
+    return is_set(window->most) && value > window->most ? 2 : 1;
+}
+
+static void add_window(const struct window *window)
+{
+    add(4, window->least);
+    add(4, window->most);
+    add(4, window->target);
+}
+
+/* The angle at which the torque is there; without a window any will do, and the bolts are longer. */
+static unsigned turned(const struct window *window, bool slips)
+{
+    if (!is_set(window->least) || !is_set(window->most))
+        return between(180, 360);
+    return slips ? between(window->most + 1, window->most + 60) : between(window->least + 8, window->most - 8);
 }
 
 /* Tightens the bolt that is the next of its batch; true where it is OK. */
 static bool tighten(unsigned done)
 {
     static char changed[TIME_LENGTH + 1]; /* when the parameter set was last changed: when the demo began */
+    const struct program *program = &PROGRAMS[done % (sizeof PROGRAMS / sizeof PROGRAMS[0])];
     char now[TIME_LENGTH + 1];
     bool slips = rand() % ONE_NOT_OK_IN == 0;
-    unsigned torque = slips ? between(1200, TORQUE_LEAST - 1) : between(TORQUE_LEAST + 100, TORQUE_MOST - 100);
-    unsigned angle = slips ? between(ANGLE_MOST + 1, ANGLE_MOST + 60) : between(ANGLE_LEAST + 8, ANGLE_MOST - 8);
+    unsigned torque = slips ? between(1200, program->torque.least - 1) : between(program->torque.least + 100, program->torque.most - 100);
+    unsigned angle = turned(&program->angle, slips);
     write_time(now, time(NULL));
     if (changed[0] == '\0')
         write_time(changed, time(NULL));
     begin(SERIFLADDER_TIGHTENING, sizeof record.bytes - SERIFLADDER_RECORD_HEADER);
     add_text(NAME_LENGTH, ""); /* the identifier in force */
     add(1, 1);                 /* job */
-    add(2, PARAMETER_SET);
+    add(2, program->parameter_set);
     add(2, BOLTS);
     add(2, slips ? done : done + 1);
     add(1, !slips);
-    add(1, status(torque, TORQUE_LEAST, TORQUE_MOST));
-    add(1, status(angle, ANGLE_LEAST, ANGLE_MOST));
-    add(4, TORQUE_LEAST);
-    add(4, TORQUE_MOST);
-    add(4, TORQUE_TARGET);
+    add(1, status(torque, &program->torque));
+    add(1, status(angle, &program->angle));
+    add_window(&program->torque);
     add(4, torque);
-    add(4, ANGLE_LEAST);
-    add(4, ANGLE_MOST);
-    add(4, ANGLE_TARGET);
+    add_window(&program->angle);
     add(4, angle);
     add_text(TIME_LENGTH, now);
     add_text(TIME_LENGTH, changed);

@@ -70,6 +70,10 @@ enum {
     SERIFLADDER_ALARM = 5       /* 25 bytes, for serifladder_record */
 };
 
+/* A limit of a tightening record that was never set. The limits are six: torque minimum, maximum and target, and those of the angle. The
+   line servers are told spaces in their place. Torque and angle themselves may not be missing: such a record is bad. */
+#define SERIFLADDER_NEVER_SET 4294967295u
+
 /* The kinds that a call writes to the output, one record behind the other, to be carried out in this order. */
 enum {
     SERIFLADDER_FRAME = 256, /* 256 + s: send the payload to session s, its NUL included */

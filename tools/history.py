@@ -15,7 +15,8 @@ The line form, one or more records a line:
     record KIND HEX                        any other record, by its kind and payload
     tail HEX                               bytes behind the last whole record
 
-Names and identifiers are filled up with spaces. In strings \\0 is NUL, \\xHH any
+Names and identifiers are filled up with spaces. A limit that was never set is
+none, as in angle_min=none. In strings \\0 is NUL, \\xHH any
 byte, \\" and \\\\ themselves. Lines that begin with # are comments; lines that begin
 with > are the output expected there (see tests/vectors/run.py).
 
@@ -26,11 +27,12 @@ import itertools
 import re
 import sys
 
-from house_records import (ALARM, BYTES, HANG_UP, NUMBER, OPEN, PAYLOADS, SCANNED, SETTINGS, TEXT, TICK, TIGHTENING, fields_of, record,
-                           record_of, split)
+from house_records import (ALARM, BYTES, HANG_UP, LIMIT, NUMBERS, OPEN, PAYLOADS, SCANNED, SETTINGS, TEXT, TICK, TIGHTENING, fields_of,
+                           record, record_of, split)
 
 WORDS = {SETTINGS: "settings", SCANNED: "scan", TIGHTENING: "tightening", ALARM: "alarm"}  # with which a line of values begins
 IN_ORDER = (SETTINGS, SCANNED)  # all values stand there, without their names
+NEVER_SET = "none"  # a limit
 
 STRING = r'"(?:[^"\\]|\\.)*"'
 TOKEN = re.compile(rf"\s*([a-z_]+=(?:{STRING}|\S+)|{STRING}(?:\*\d+)?|\S+)")
@@ -73,13 +75,27 @@ def quote(data):
     return '"' + "".join(out) + '"'
 
 
+def read_value(item, text):
+    if item.sort == LIMIT and text == NEVER_SET:
+        return None
+    if item.sort in NUMBERS:
+        return int(text)
+    return read_string(text) if text.startswith('"') else text.encode("latin-1")
+
+
+def show_value(item, value):
+    if item.sort in NUMBERS:
+        return NEVER_SET if value is None else "%d" % value
+    return quote(value)
+
+
 def read_fields(record_kind, tokens):
     """The values of a line by their names; one that has none is that of the item in its place."""
     items, fields = PAYLOADS[record_kind].items, {}
     for place, token in enumerate(tokens):
         name, text = VALUE.fullmatch(token).groups()
         item = items[name or list(items)[place]]
-        fields[item.name] = int(text) if item.sort == NUMBER else read_string(text) if text.startswith('"') else text.encode("latin-1")
+        fields[item.name] = read_value(item, text)
     return fields
 
 
@@ -141,7 +157,7 @@ def fields_line(record_kind, fields):
     for item in PAYLOADS[record_kind].items.values():
         value = fields[item.name].rstrip(b" ") if item.sort == TEXT else fields[item.name]
         if record_kind in IN_ORDER or value != item.usual:
-            shown = "%d" % value if item.sort == NUMBER else quote(value)
+            shown = show_value(item, value)
             words.append(shown if record_kind in IN_ORDER else item.name + "=" + shown)
     return " ".join(words)
 

@@ -15,7 +15,9 @@ HEAD = struct.Struct("<HH")  # the length of the payload, and the kind
 PAYLOAD_LONGEST = 8192  # of what the test program reads
 GREATEST_NUMBER = 4294967295  # of a tightening
 
-NUMBER, TEXT, TIME = "number", "text", "time"  # sorts of items
+NUMBER, LIMIT, TEXT, TIME = "number", "limit", "text", "time"  # sorts of items; a limit is a number, or None where none was set
+NUMBERS = (NUMBER, LIMIT)  # of which the bytes are a number
+LIMIT_NONE = 4294967295  # that of a limit that is None
 TEXT_SIZE, TIME_SIZE, CODE_SIZE = 25, 19, 4  # an alarm's code is a short text
 NUMBER_FORMS = {1: "B", 2: "H", 4: "I"}  # of struct, by their bytes
 
@@ -25,14 +27,19 @@ class Item:
     name: str
     sort: str
     size: int  # bytes
-    greatest: int = 0  # of a number
+    greatest: int = 0  # of a number, and of a limit that is one
     usual: object = 0  # its value where none is named
 
     def form(self):
-        return NUMBER_FORMS[self.size] if self.sort == NUMBER else "%ds" % self.size
+        return NUMBER_FORMS[self.size] if self.sort in NUMBERS else "%ds" % self.size
 
     def packed(self, value):
-        return value if self.sort == NUMBER else filled(value, self.size)
+        if self.sort == LIMIT and value is None:
+            return LIMIT_NONE
+        return value if self.sort in NUMBERS else filled(value, self.size)
+
+    def unpacked(self, value):
+        return None if self.sort == LIMIT and value == LIMIT_NONE else value
 
 
 def filled(value, size=TEXT_SIZE):
@@ -56,7 +63,7 @@ class Payload:
         return self.form.pack(*(item.packed(fields[name]) for name, item in self.items.items()))
 
     def unpack(self, payload):
-        return dict(zip(self.items, self.form.unpack(payload)))
+        return {name: item.unpacked(value) for (name, item), value in zip(self.items.items(), self.form.unpack(payload))}
 
 
 PAYLOADS = {
@@ -77,13 +84,13 @@ PAYLOADS = {
         Item("tightening_status", NUMBER, 1, 1, usual=1),
         Item("torque_status", NUMBER, 1, 2, usual=1),
         Item("angle_status", NUMBER, 1, 2, usual=1),
-        Item("torque_min", NUMBER, 4, 999999),
-        Item("torque_max", NUMBER, 4, 999999),
-        Item("torque_target", NUMBER, 4, 999999),
+        Item("torque_min", LIMIT, 4, 999999),
+        Item("torque_max", LIMIT, 4, 999999),
+        Item("torque_target", LIMIT, 4, 999999),
         Item("torque", NUMBER, 4, 999999),
-        Item("angle_min", NUMBER, 4, 99999),
-        Item("angle_max", NUMBER, 4, 99999),
-        Item("angle_target", NUMBER, 4, 99999),
+        Item("angle_min", LIMIT, 4, 99999),
+        Item("angle_max", LIMIT, 4, 99999),
+        Item("angle_target", LIMIT, 4, 99999),
         Item("angle", NUMBER, 4, 99999),
         Item("time", TIME, TIME_SIZE, usual=b"2024-01-02:03:04:05"),
         Item("change_time", TIME, TIME_SIZE, usual=b"2024-01-01:00:00:00"),

@@ -60,12 +60,12 @@ def text_bytes(data):
     return history.quote(data.rstrip(b" ").replace(b" ", b"_"))
 
 
-def torque(hundredths):
-    return "%d.%02d Nm" % divmod(hundredths, 100)
-
-
-def verdict(status):
-    return "OK" if status else "NOT OK"
+def tightening_words(fields):
+    """Its torque, which of its limits were never set, as far as it is told with limits, and whether it is OK."""
+    words = ["%d.%02d Nm" % divmod(fields["torque"], 100)]
+    for what in ("torque", "angle"):
+        words += openprotocol.missing_limits(fields, what) if what + "_min" in fields else []
+    return ", ".join([*words, "OK" if fields["tightening_status"] else "NOT OK"])
 
 
 def alarm_name(fields):
@@ -90,8 +90,8 @@ def tool_words(record_kind, payload, number=None, taken=None):
         words = alarm_words(fields)
     else:
         own = fields["identifier"]
-        words = "%s%s, %s%s" % ("" if number is None else "%d: " % number, torque(fields["torque"]), verdict(fields["tightening_status"]),
-                                ", identifier " + text_bytes(own) if own.strip(b" ") else "")
+        words = "%s%s%s" % ("" if number is None else "%d: " % number, tightening_words(fields),
+                            ", identifier " + text_bytes(own) if own.strip(b" ") else "")
     if taken or taken is not None and record_kind != SCANNED:
         words += ", taken by " + (" ".join(map(str, taken)) or "none")
     return words
@@ -159,8 +159,8 @@ def frame_words(frame):
         return "identifier " + text_bytes(fields["identifier"].encode())
     if mid == ALARMED:
         return "alarm " + alarm_words({**fields, "code": fields["code"].encode(), "time": fields["time"].encode()})
-    return "%stightening %d, %s, %s, %s" % ("old " if mid == FETCHED else "", fields["number"], text_bytes(fields["identifier"].encode()),
-                                            torque(fields["torque"]), verdict(fields["tightening_status"]))
+    return "%stightening %d, %s, %s" % ("old " if mid == FETCHED else "", fields["number"], text_bytes(fields["identifier"].encode()),
+                                        tightening_words(fields))
 
 
 # ---- notices

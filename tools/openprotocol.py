@@ -9,7 +9,7 @@ read into named fields, or written of them, by layouts.
 
 from dataclasses import dataclass
 
-from house_records import CODE_SIZE, NUMBER, TEXT, TEXT_SIZE, TIME_SIZE, filled
+from house_records import CODE_SIZE, LIMIT, NUMBER, NUMBERS, TEXT, TEXT_SIZE, TIME_SIZE, filled
 
 HEADER = 20
 
@@ -71,7 +71,8 @@ class Stream:
 
 # ---- layouts: rows, and whether a field's number stands before each
 
-SPACES, ZEROS, ONES = b" ", b"0", b"1"  # rows that have no value: one character fills them; the others are numbers and texts
+SPACES, ZEROS, ONES = b" ", b"0", b"1"  # rows that have no value: one character fills them; the others are numbers, limits and texts
+LIMITS = ("min", "max", "target")  # of a torque or an angle; one that was never set is None, and spaces in a frame
 
 
 @dataclass(frozen=True)
@@ -81,12 +82,19 @@ class Row:
     name: str  # of the field whose value it shows: what a house record has is called the same there
 
     def write(self, fields):
-        if self.sort == NUMBER:
+        if self.sort == LIMIT and fields[self.name] is None:
+            return SPACES * self.width
+        if self.sort in NUMBERS:
             return b"%0*d" % (self.width, fields[self.name])
         return filled(fields[self.name], self.width) if self.sort == TEXT else self.sort * self.width
 
     def read(self, value):
-        return int(value) if self.sort == NUMBER else value.decode("ascii").rstrip(" ")
+        """ValueError says what is wrong with it."""
+        if self.sort == LIMIT and value == SPACES * self.width:
+            return None
+        if self.sort in NUMBERS and not value.isdigit():
+            raise ValueError("%s is %r" % (self.name, value))
+        return int(value) if self.sort in NUMBERS else value.decode("ascii").rstrip(" ")
 
 
 NUMBERED, PLAIN = True, False
@@ -120,8 +128,14 @@ class Layout:
 CONTROLLER = [Row(NUMBER, 4, "cell"), Row(NUMBER, 2, "channel"), Row(TEXT, TEXT_SIZE, "name")]
 
 BATCH = [Row(NUMBER, 4, "batch_size"), Row(NUMBER, 4, "batch_counter")]
-TORQUES = [Row(NUMBER, 6, name) for name in ("torque_min", "torque_max", "torque_target", "torque")]
-ANGLES = [Row(NUMBER, 5, name) for name in ("angle_min", "angle_max", "angle_target", "angle")]
+
+
+def measured(what, width):
+    """A torque or an angle, behind its limits."""
+    return [*(Row(LIMIT, width, what + "_" + which) for which in LIMITS), Row(NUMBER, width, what)]
+
+
+TORQUES, ANGLES = measured("torque", 6), measured("angle", 5)
 TIMES = [Row(TEXT, TIME_SIZE, "time"), Row(TEXT, TIME_SIZE, "change_time")]
 
 # 0061 from revision 2 on (000, Tables 22 to 26); what the controller's tool does not report is zeros, texts too, and the unit is Nm.
@@ -256,6 +270,12 @@ def read(run):
         return Frame(mid, revision, run[11:12], LAYOUTS[mid, revision].read(run))
     except ValueError as wrong:
         raise ValueError("not a frame of the controller: %r: %s" % (run, wrong)) from None
+
+
+def missing_limits(fields, what):
+    """In words, which limits of a torque or an angle were never set: its window where all three are missing."""
+    missing = [which for which in LIMITS if fields[what + "_" + which] is None]
+    return ["no %s %s" % (what, which) for which in (["window"] if len(missing) == len(LIMITS) else missing)]
 
 
 def write(mid, fields, revision=1, byte_12=b" "):

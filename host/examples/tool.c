@@ -16,7 +16,8 @@ static void number(unsigned size, unsigned long value)
 int main(int count, char **arguments)
 {
     struct sockaddr_un address = { .sun_family = AF_UNIX };
-    const unsigned long reached[] = { 2250, 2750, 2500, 2493, 70, 110, 90, 88 }; /* torque, angle: least, most, target, reached */
+    /* torque, angle: least, most, target, reached; of the first three 4294967295 is one that was never set */
+    const unsigned long reached[] = { 2250, 2750, 2500, 2493, 70, 110, 90, 88 };
     char now[20], answer[80] = "";
     int link = socket(AF_UNIX, SOCK_STREAM, 0);
     strftime(now, sizeof now, "%Y-%m-%d:%H:%M:%S", localtime(&(time_t){ time(NULL) }));

@@ -12,7 +12,7 @@ payload = struct.pack(
     1, 7, 4, 1,                # job, parameter set, batch size, batch counter
     1, 1, 1,                   # the tightening, its torque and its angle are OK
     2250, 2750, 2500, 2493,    # torque: least, most, target, reached, in hundredths of Nm
-    70, 110, 90, 88,           # angle: the same, in degrees
+    70, 110, 90, 88,           # angle: the same, in degrees; least, most or target 4294967295: never set
     now, now, 0)               # when; when the parameter set was changed; batch status
 with socket.socket(socket.AF_UNIX) as host:
     host.settimeout(10)

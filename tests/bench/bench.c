@@ -114,6 +114,7 @@ static void note(uint64_t number)
 /* ---- what is given to the calls, made before anything is measured */
 
 static uint8_t settings[37] = { 33, 0, 3, 0, 12, 0, 3, 1 }, tightening[110] = { 106, 0, 1, 0 }, tool_alarm[29] = { 25, 0, 5, 0 };
+static uint8_t without_limits[sizeof tightening];
 static uint8_t flood[FLOOD], message_in_flood[FLOOD];
 
 static const char KEEP_ALIVE[] = "00209999001         ";
@@ -126,6 +127,9 @@ static void make_inputs(void)
     memcpy(tightening + 4, "BODY 4711", 9);
     memcpy(tightening + 71, "2026-11-15:10:20:30", 19);
     memcpy(tightening + 90, "2026-11-14:08:00:00", 19);
+    memcpy(without_limits, tightening, sizeof tightening);
+    memset(without_limits + 39, 0xff, 12); /* of the torque */
+    memset(without_limits + 55, 0xff, 12); /* of the angle */
     memcpy(tool_alarm + 4, "E404\0\1" "2026-11-15:10:20:30", 25);
     memset(flood, 'A', FLOOD);
     memset(message_in_flood, 'A', FLOOD);
@@ -168,6 +172,7 @@ static void record(unsigned i, const uint8_t *given, size_t length)
 }
 
 static void tighten(unsigned i) { record(i, tightening, sizeof tightening); }
+static void tighten_without_limits(unsigned i) { record(i, without_limits, sizeof without_limits); }
 static void raise_alarm(unsigned i) { record(i, tool_alarm, sizeof tool_alarm); }
 
 /* ---- the kinds of call: how the table gets into its state, and what is timed */
@@ -267,6 +272,7 @@ static void run_newest(unsigned i) { SEND(i, 1, "00300064001         0000000000"
 static void run_oldest(unsigned i) { SEND(i, 1, "00300064001         0000000001"); }
 static void run_tick(unsigned i) { tick(i); }
 static void run_tighten(unsigned i) { tighten(i); }
+static void run_tighten_without_limits(unsigned i) { tighten_without_limits(i); }
 static void run_alarm(unsigned i) { raise_alarm(i); }
 
 struct call_kind {
@@ -292,6 +298,7 @@ static const struct call_kind CALL_KINDS[] = {
     { "tick, copies due on four, revision 6", prepare_due_6, run_tick, 1, 4 * 531 },
     { "tick, copies of three kinds due on four", prepare_due_all, run_tick, 1, 4 * (133 + 531 + 58) },
     { "tool record to four sessions", prepare_results, run_tighten, 8, 4 * 236 },
+    { "tool record without limits to four", prepare_results, run_tighten_without_limits, 8, 4 * 236 },
     { "tool record, revisions 1, 2, 5 and 6", prepare_revisions, run_tighten, 8, 236 + 390 + 511 + 531 },
     { "tool record, an alarm to four sessions", prepare_alarms, run_alarm, 8, 4 * 58 },
     { "tool record to nobody, none kept", prepare_started, run_tighten, 8, 0 },

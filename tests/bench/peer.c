@@ -47,6 +47,8 @@ enum {
     RECORD_BAD, NUMBERS_USED_UP, SETTINGS_BAD, ANSWER_SHORT
 };
 
+#define LIMIT_NONE UINT32_MAX /* in a tightening record: no such limit was set */
+
 /* ---- the table */
 
 enum phase { CLOSED, OPENED, STARTED };
@@ -336,7 +338,8 @@ static void make_alarm(uint8_t *alarm, const uint8_t *payload)
     memcpy(alarm + 14, payload + 6, TIME);
 }
 
-/* The data field of 0061, made once when the tightening comes. The field numbers stand in the bytes that it begins with. */
+/* The data field of 0061, made once when the tightening comes. The field numbers stand in the bytes that it begins with, and the spaces of
+   a limit that is none. */
 static void make_result(uint8_t *result, const struct table *table, const uint8_t *payload, const uint8_t *identifier)
 {
     static const char FIELDS[RESULT + 1] =
@@ -354,10 +357,15 @@ static void make_result(uint8_t *result, const struct table *table, const uint8_
     result[87] = digit(payload[32]);
     result[90] = digit(payload[33]);
     result[93] = digit(payload[34]);
-    for (unsigned i = 0; i < 4; i++)
-        put_6(result + 96 + 8 * i, four(payload + 35 + 4 * i));
+    for (unsigned i = 0; i < 4; i++) {
+        uint32_t torque = four(payload + 35 + 4 * i);
+        if (torque != LIMIT_NONE)
+            put_6(result + 96 + 8 * i, torque);
+    }
     for (unsigned i = 0; i < 4; i++) {
         uint32_t angle = four(payload + 51 + 4 * i);
+        if (angle == LIMIT_NONE)
+            continue;
         result[128 + 7 * i] = digit(angle / 10000);
         put_4(result + 129 + 7 * i, angle % 10000);
     }
@@ -882,9 +890,9 @@ static bool is_tightening(const uint8_t *payload)
 {
     bool good = is_text(payload) && payload[25] <= 99 && two(payload + 26) <= 999 && two(payload + 28) <= 9999
                 && two(payload + 30) <= 9999 && payload[32] <= 1 && payload[33] <= 2 && payload[34] <= 2 && payload[105] <= 2
-                && is_time(payload + 67) && is_time(payload + 86);
-    for (unsigned i = 0; i < 4; i++)
-        good &= four(payload + 35 + 4 * i) <= 999999 && four(payload + 51 + 4 * i) <= 99999;
+                && is_time(payload + 67) && is_time(payload + 86) && four(payload + 47) <= 999999 && four(payload + 63) <= 99999;
+    for (unsigned i = 0; i < 3; i++) /* of the limits none, and 1, is 0 */
+        good &= four(payload + 35 + 4 * i) + 1 <= 1000000 && four(payload + 51 + 4 * i) + 1 <= 100000;
     return good;
 }
 

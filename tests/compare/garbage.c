@@ -329,9 +329,13 @@ static struct asked a_message(uint64_t session)
     return (struct asked){ BYTES, session, (const uint8_t *)text, strlen(text) + (starts || roll(2)) };
 }
 
+/* Each of its limits is 0 or none. */
 static struct asked a_tightening(void)
 {
+    static const unsigned LIMITS[] = { 39, 43, 47, 55, 59, 63 };
     static uint8_t record[110] = { 106, 0, 1, 0 };
+    for (unsigned i = 0; i < sizeof LIMITS / sizeof *LIMITS; i++)
+        memset(record + LIMITS[i], roll(2) ? 0xff : 0, 4);
     memset(record + 4, ' ', 25);
     memcpy(record + 71, "2024-01-02:03:04:05", 19);
     memcpy(record + 90, "2024-01-02:03:04:05", 19);

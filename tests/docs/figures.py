@@ -108,7 +108,7 @@ def counts():
         ("mutants", "mutants of the second implementation, for `make -C tests mutants`", len(mutants.mutants(read(mutants.SOURCE)))),
         ("host-tests", "tests of the host in `make test`", len(HOST_TESTS) - long),
         ("long-host-tests", "further ones in `make soak`", long),
-        ("host-faults", "planted faults of the host, for `make soak`", len(HOST_FAULTS)),
+        ("host-faults", "planted faults of the host, of watch and of ladder, for `make soak`", len(HOST_FAULTS)),
     ]
 
 
@@ -139,9 +139,11 @@ def host_test(name, test):
 
 def records():
     """The items of each house record's payload, as tools/house_records.py has them."""
+    def values(item):
+        return (f"to {item.greatest}" if item.greatest else item.sort) + (" or none" if item.sort == house_records.LIMIT else "")
+
     def items(payload):
-        return ", ".join(f"{item.name.replace('_', ' ')} ({item.size}, {f'to {item.greatest}' if item.greatest else item.sort})"
-                         for item in payload.items.values())
+        return ", ".join(f"{item.name.replace('_', ' ')} ({item.size}, {values(item)})" for item in payload.items.values())
 
     def name(kind):
         return next(name.lower() for name, value in vars(house_records).items() if name.isupper() and value == kind)
@@ -154,7 +156,7 @@ def tables():
         "records": records(),
         "sizes": table(("Crate", "Specs", "Code", "Proofs"), sizes()),
         "host-tests": "".join(host_test(*named) for named in HOST_TESTS.items()),
-        "host-faults": table(("Fault", "In", "Found by"), [(name, f"`host/{file}`", f"`{test}`") for name, test, file, *_ in HOST_FAULTS]),
+        "host-faults": table(("Fault", "In", "Found by"), [(name, f"`{file}`", f"`{test}`") for name, test, file, *_ in HOST_FAULTS]),
     }
 
 

@@ -83,14 +83,22 @@ static uint64_t scan(void)
     return serifladder_record(TABLE, OUTPUT, record, sizeof record, ANSWER);
 }
 
-static uint64_t tighten(size_t length)
+/* A tightening with a number of four bytes at that place of its record, and zeros in the others of them. */
+static uint64_t tighten_with(unsigned place, uint32_t number, size_t length)
 {
     uint8_t record[SERIFLADDER_RECORD_HEADER + TIGHTENING_PAYLOAD];
     write_header(record, TIGHTENING_PAYLOAD, SERIFLADDER_TIGHTENING);
     memset(record + 4, ' ', 25);
+    for (unsigned i = 0; i < 4; i++)
+        record[place + i] = (uint8_t)(number >> 8 * i);
     memcpy(record + 71, "2026-11-15:10:20:30", 19);
     memcpy(record + 90, "2026-11-14:08:00:00", 19);
     return serifladder_record(TABLE, OUTPUT, record, length, ANSWER);
+}
+
+static uint64_t tighten(size_t length)
+{
+    return tighten_with(39, 0, length);
 }
 
 static uint64_t alarmed(unsigned record_kind)
@@ -145,6 +153,34 @@ static void revisions(void)
     expect_answer("a tightening", tighten(SERIFLADDER_RECORD_HEADER + TIGHTENING_PAYLOAD), SERIFLADDER_DONE, 0,
                   SERIFLADDER_RECORD_HEADER + frame, 1);
     expect_record("0061 in revision 6", SERIFLADDER_FRAME, frame);
+}
+
+/* A limit that was never set goes out as spaces, between the numbers of its field and of the next; torque and angle may not be missing. */
+static void limits(void)
+{
+    static const char STARTED[] = "00200001001         ", RESULTS[] = "002000600011        ";
+    static const struct { unsigned in_record, in_frame; const char *field; } LIMITS[] = {
+        { 39, 114, "12      13" }, { 43, 122, "13      14" }, { 47, 130, "14      15" },
+        { 55, 146, "16     17" }, { 59, 153, "17     18" }, { 63, 160, "18     19" }
+    };
+    static const unsigned MEASURED[] = { 51, 67 }; /* torque and angle, in the record */
+    const size_t record = SERIFLADDER_RECORD_HEADER + TIGHTENING_PAYLOAD;
+    const uint64_t frame = 231 + 1; /* with its NUL */
+    expect("the start", start(0, 0), SERIFLADDER_DONE);
+    expect("an open", serifladder_open(TABLE, OUTPUT, 0, ANSWER), SERIFLADDER_DONE);
+    expect("0001", bytes(0, STARTED, sizeof STARTED), SERIFLADDER_DONE);
+    expect("0060", bytes(0, RESULTS, sizeof RESULTS), SERIFLADDER_DONE);
+    for (unsigned i = 0; i < sizeof LIMITS / sizeof *LIMITS; i++) {
+        unsigned place = LIMITS[i].in_record;
+        expect_answer("a limit never set", tighten_with(place, SERIFLADDER_NEVER_SET, record), SERIFLADDER_DONE, 0,
+                      SERIFLADDER_RECORD_HEADER + frame, 1);
+        expect("its spaces", memcmp(output + SERIFLADDER_RECORD_HEADER + LIMITS[i].in_frame, LIMITS[i].field, strlen(LIMITS[i].field)), 0);
+        expect_answer("a limit one below that", tighten_with(place, SERIFLADDER_NEVER_SET - 1, record), SERIFLADDER_TOOL_RECORD_BAD,
+                      0, 0, 0);
+    }
+    for (unsigned i = 0; i < sizeof MEASURED / sizeof *MEASURED; i++)
+        expect_answer("no torque, or no angle", tighten_with(MEASURED[i], SERIFLADDER_NEVER_SET, record), SERIFLADDER_TOOL_RECORD_BAD,
+                      0, 0, 0);
 }
 
 /* Four alarms are taken and one is sent, a fifth is not taken; an acknowledge sends the next. */
@@ -213,6 +249,7 @@ int main(void)
     sizes();
     history();
     revisions();
+    limits();
     alarms();
     expect("behind the table", table[SERIFLADDER_TABLE_SIZE], MARK);
     expect("behind the output", output[SERIFLADDER_OUTPUT_SIZE], MARK);

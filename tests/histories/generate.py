@@ -19,8 +19,8 @@ import sys
 
 sys.path.insert(0, os.path.join(os.path.dirname(os.path.abspath(__file__)), "..", "..", "tools"))
 
-from house_records import (ALARM, BYTES, CODE_SIZE, GREATEST_NUMBER, HANG_UP, NUMBER, OPEN, PAYLOAD_LONGEST, PAYLOADS,  # noqa: E402
-                           SCANNED, SETTINGS, TEXT, TICK, TIGHTENING, record)
+from house_records import (ALARM, BYTES, CODE_SIZE, GREATEST_NUMBER, HANG_UP, LIMIT, LIMIT_NONE, NUMBERS, OPEN,  # noqa: E402
+                           PAYLOAD_LONGEST, PAYLOADS, SCANNED, SETTINGS, TEXT, TICK, TIGHTENING, record)
 from openprotocol import message  # noqa: E402
 
 LONG_EVERY = 25  # of as many seeds one gives a history three times as long, in which a whole queue is given up
@@ -42,6 +42,8 @@ BAD_REVISIONS = (b"0  ", b"  1", b"00 ", b" 01", b"1  ", b"0 1", b"00a", b"/00",
 NO_DIGITS = (0x20, 0x2F, 0x3A, 0x3B, 0x3C, 0x3D, 0x3E, 0x3F, 0x2B, 0x2D, 0x41, 0xB0, 0x1F)
 TICK_RECORD = record(TICK)
 KEPT = 64  # tightenings, by the controller
+LIMITS = [name for name, item in PAYLOADS[TIGHTENING].items.items() if item.sort == LIMIT]
+OF_TORQUE, OF_ANGLE = LIMITS[:3], LIMITS[3:]
 
 
 class Session:
@@ -171,13 +173,23 @@ class History:
             return self.code()
         if item.sort == TEXT:
             return b"" if self.chance(0.5) else self.text()
-        if item.sort == NUMBER:
+        if item.sort == LIMIT and self.chance(0.03):
+            return LIMIT_NONE & 0xFFFF  # half of its bits
+        if item.sort in NUMBERS:
             return self.number(item.greatest) if item.greatest > 9 else self.between(0, item.greatest)
         return self.time()
 
+    def never_set(self):
+        """Which limits of a tightening are none: of most not one, of others one alone, a torque's or an angle's, all six, or any."""
+        if self.chance(0.5):
+            return []
+        return self.pick(([self.pick(LIMITS)], [self.pick(LIMITS)], [self.pick(LIMITS)], OF_TORQUE, OF_ANGLE, LIMITS,
+                          [name for name in LIMITS if self.chance(0.5)]))
+
     def fields(self, record_kind):
         """Of a tool record."""
-        return {name: self.value(item) for name, item in PAYLOADS[record_kind].items.items()}
+        fields = {name: self.value(item) for name, item in PAYLOADS[record_kind].items.items()}
+        return {**fields, **dict.fromkeys(self.never_set(), None)} if record_kind == TIGHTENING else fields
 
     def tightening_payload(self):
         return PAYLOADS[TIGHTENING].pack(self.fields(TIGHTENING))
@@ -405,10 +417,10 @@ class History:
     # ---- bad records
 
     def bad_value(self, item, value):
-        """A number out of its range, mostly by one, or as a digit, or a wrong byte in a text or a time."""
-        if item.sort == NUMBER:
-            return self.pick((item.greatest + 1, item.greatest + 1, (1 << 8 * item.size) - 1,
-                              ord("0") + value if item.greatest < 10 else item.greatest + 1))
+        """A number out of its range, by one or as far as can be, or as a digit, or a wrong byte in a text or a time."""
+        if item.sort in NUMBERS:
+            farthest = LIMIT_NONE - 1 if item.sort == LIMIT else (1 << 8 * item.size) - 1
+            return self.pick((item.greatest + 1, item.greatest + 1, farthest, ord("0") + value if item.greatest < 10 else farthest))
         text = bytearray(item.packed(value))
         where = self.between(0, item.size - 1)
         if item.sort == TEXT:
@@ -420,7 +432,8 @@ class History:
     def bad_payload(self, record_kind):
         """With one of the fields bad, or of another size where that is the last number of the settings, which can't be bad."""
         fields = self.settings_fields() if record_kind == SETTINGS else self.fields(record_kind)
-        name = self.pick(list(fields))
+        measured = record_kind == TIGHTENING and self.chance(0.3)
+        name = self.pick(("torque", "angle", self.pick(LIMITS)) if measured else list(fields))
         if name == "last":
             return self.wrong_size(PAYLOADS[record_kind].pack(fields))
         return PAYLOADS[record_kind].pack({**fields, name: self.bad_value(PAYLOADS[record_kind].items[name], fields[name])})
@@ -880,7 +893,7 @@ class History:
 
     def numbers_end(self):
         """The last number runs up to its end; bad records then too."""
-        self.start(last=GREATEST_NUMBER - self.pick((0, 0, 1, 2, 3, 4)))
+        self.start(last=GREATEST_NUMBER - self.pick((0, 0, 1, 1, 2, 3)))
         self.bring_up_some()
         for _ in range(self.between(5, 12)):
             sort = self.random.random()
@@ -896,7 +909,10 @@ class History:
                 self.event()
             else:
                 self.acknowledge(self.between(0, 3))
+        self.watch(self.pick((0, 0, 1, 20, 21)))
         for s in self.started_sessions():
+            for _ in range(self.between(0, 4)):
+                self.acknowledge(s, 62)
             self.fetch(s)
         if self.chance(0.7):
             self.start()
@@ -962,7 +978,7 @@ class History:
         (10, "long_watch"), (10, "steady"), (6, "flood"), (6, "identifiers"), (5, "alarms"), (9, "chatter"),
         (6, "ladder"), (4, "bad_records"), (10, "lifecycle"), (7, "resubscribe"), (2.5, "long_run"),
         (7, "idle_edge"), (4, "time_out_in_step"), (4, "unstarted"), (1.5, "second_start"),
-        (1.5, "numbers_end"), (2, "fullest"), (6, "old_results"), (3.5, "more_than_kept"), (4, "revisions"),
+        (2, "numbers_end"), (2, "fullest"), (6, "old_results"), (3.5, "more_than_kept"), (4, "revisions"),
     )
 
     def make(self):

@@ -3,18 +3,20 @@
 
     reached.py PROGRAM [--count N] [--first-seed N]
 
-What was sent is read off the records. What a tick gave up, in which revisions results went out,
-how 0060, 0064 and 0070 to 0073 were answered, and what became of alarms, is read off the lines of a
-test program, which is given a hang-up of session 15 behind each record: 'R 4' ends its lines."""
+What was sent is read off the records. What a tick gave up, in which revisions results went out and
+with which limits, how 0060, 0064 and 0070 to 0073 were answered, and what became of alarms, is read off
+the lines of a test program, which is given a hang-up of session 15 behind each record: 'R 4' ends its lines."""
 
 import argparse
 import collections
 import re
 import subprocess
+from dataclasses import dataclass
 
 import generate  # which puts tools on the path
-from house_records import (ALARM, BYTES, GREATEST_NUMBER, HANG_UP, OPEN, PAYLOADS, SCANNED, SETTINGS, TICK, TIGHTENING, fields_of, record,
-                           split)
+from generate import LIMITS
+from house_records import (ALARM, BYTES, GREATEST_NUMBER, HANG_UP, LIMIT, LIMIT_NONE, OPEN, PAYLOADS, SCANNED, SETTINGS, TICK, TIGHTENING,
+                           fields_of, record, split)
 from openprotocol import LAYOUTS, RESULT
 
 MARKER = record(HANG_UP + 15)
@@ -24,10 +26,23 @@ KEPT = 64  # tightenings
 ALARMS_HELD, GIVEN_UP_AFTER = 4, 120  # by a session; ticks of one that is open
 
 
+@dataclass
+class Result:
+    """What a line shows of an 0061."""
+    session: int
+    revision: int
+    number: int
+    none: list  # the limits that are none
+
+
 def result_in(line):
-    """Of a line that shows an 0061: its session, its revision and its number."""
-    found = re.match(r"(\d) S \d{4}0061(\d{3})", line)
-    return found and (int(found[1]), int(found[2]), int(line[4:][LAYOUTS[RESULT, int(found[2])].places["number"]]))
+    """None where the line shows no 0061."""
+    found = re.match(r"(\d) S (\d{4}0061(\d{3}).*)", line)
+    if not found:
+        return None
+    places = LAYOUTS[RESULT, int(found[3])].places
+    none = [name for name in LIMITS if not found[2][places[name]].strip("_")]
+    return Result(int(found[1]), int(found[3]), int(found[2][places["number"]]), none)
 
 
 class Reached:
@@ -106,7 +121,8 @@ class Memory:
 
     def begin(self, last):
         self.before = self.came  # the numbers of tightenings before the start
-        self.last, self.came, self.blank, self.step = last, {}, set(), 0
+        self.last, self.came, self.step = last, {}, 0
+        self.blank, self.none = set(), set()  # the numbers of those without an identifier, and of those with a limit that is none
         self.when.clear()
         self.sent.clear()
 
@@ -133,7 +149,7 @@ class Memory:
         elif BYTES <= record_kind < BYTES + 4:
             self.bytes(record_kind, payload, lines)
         for line in lines:
-            if (result := result_in(line)) and result[2] <= self.last - KEPT:
+            if (result := result_in(line)) and result.number <= self.last - KEPT:
                 self.times["0061 of a tightening that is kept no more"] += 1
 
     def tightened(self, payload):
@@ -141,6 +157,8 @@ class Memory:
         self.came[self.last] = self.step
         if not payload[:25].strip():
             self.blank.add(self.last)
+        if None in fields_of(TIGHTENING, payload).values():
+            self.none.add(self.last)
 
     def bytes(self, record_kind, payload, lines):
         *runs, self.sent[record_kind] = (self.sent[record_kind] + payload).split(b"\0")
@@ -171,6 +189,8 @@ class Memory:
         self.count("0065 of the newest, asked for by its number", asked == self.last)
         self.count("0065 of the oldest of 64", number == self.last - KEPT + 1)
         self.count("0065 after more than 64 tightenings", len(self.came) > KEPT)
+        self.count("0065 with the number 4,294,967,295", number == GREATEST_NUMBER)
+        self.count("0065 of a tightening with a limit that is none", number in self.none)
         self.count("0065 behind a tightening refused with 8", self.when["8"] > 0)
         for end in ("hang-up", "0003", "time-out"):
             self.count("0065 of a tightening from before a %s" % end, self.came.get(number, self.step) < self.when[end])
@@ -188,8 +208,8 @@ class Memory:
                    asked > GREATEST_NUMBER and (wrapped == 0 or wrapped > self.last - self.kept()) and wrapped <= self.last)
 
 
-class Revisions:
-    """In which revisions a history's results were sent, and how subscriptions to them changed. `times` counts it."""
+class Results:
+    """In which revisions a history's results were sent, with which limits, and how subscriptions to them changed. `times` counts it."""
 
     def __init__(self, times):
         self.times = times
@@ -208,11 +228,22 @@ class Revisions:
         if OPEN <= record_kind < BYTES and done:
             self.forget(record_kind % 16)
         self.results(record_kind, [result for line in lines if (result := result_in(line))])
+        if record_kind == TIGHTENING:
+            self.tightening(fields_of(record_kind, payload), lines)
         if BYTES <= record_kind < BYTES + 4:
             self.bytes(record_kind - BYTES, payload, lines)
         for line in lines:
             if re.match(r"\d C|\d S 00240005.{12}0003", line):
                 self.forget(int(line[0]))
+
+    def tightening(self, fields, lines):
+        """With which torques, angles and limits it is refused, and with which limits at an edge it is not."""
+        for name, item in PAYLOADS[TIGHTENING].items.items() if fields else ():
+            value, of = fields[name], "a limit" if item.sort == LIMIT else "its " + name
+            if "R 7" in lines and item.size == 4 and value in (item.greatest + 1, LIMIT_NONE - 1, LIMIT_NONE):
+                self.times["a tightening gets 7 for %s of %s" % (of, format(value, ","))] += 1
+            elif item.sort == LIMIT and value in (item.greatest, 65535) and not any(line.startswith("R ") for line in lines):
+                self.times["a limit of %s" % format(value, ",")] += 1
 
     def forget(self, s):
         for kept in (self.sent, self.asked, self.ended):
@@ -220,15 +251,25 @@ class Revisions:
 
     def results(self, record_kind, results):
         """A result that is sent for the first time by another record than its own has waited."""
-        for s, revision, number in results:
-            self.times["0061 in revision %d" % revision] += 1
-            waited = record_kind != TIGHTENING and number > self.newest[s]
-            self.times["0061 of a result that waited, in revision %d" % revision] += waited
-            self.times["0061 once more, in revision %d" % revision] += record_kind == TICK and not waited
-            self.newest[s] = number
-        together = len({revision for _, revision, _ in results})
+        for result in results:
+            waited = record_kind != TIGHTENING and result.number > self.newest[result.session]
+            self.result(result, waited, record_kind == TICK and not waited)
+            self.newest[result.session] = result.number
+        together = len({result.revision for result in results})
         if together > 1:
             self.times["a call that sends 0061 in %d revisions" % together] += 1
+            self.times["a call that sends 0061 in several revisions, each with a limit that is none"] += all(one.none for one in results)
+
+    def result(self, result, waited, once_more):
+        """One that was sent."""
+        for what, so in (("0061", True), ("0061 of a result that waited,", waited), ("0061 once more,", once_more)):
+            sent = "%s in revision %d" % (what, result.revision)
+            self.times[sent] += so
+            self.times[sent + ", with a limit that is none"] += so and bool(result.none)
+            self.times[sent + ", with the number 4,294,967,295"] += so and result.number == GREATEST_NUMBER
+        if len(result.none) in (1, len(LIMITS)):
+            alone = result.none[0] if len(result.none) == 1 else "all six limits"
+            self.times["0061 in revision %d, %s none" % (result.revision, alone)] += 1
 
     def bytes(self, s, payload, lines):
         *runs, self.sent[s] = (self.sent[s] + payload).split(b"\0")
@@ -405,7 +446,7 @@ def main():
         groups = list(groups_of(options.program, records))
         reached.identifiers(groups)
         reached.given_up(groups)
-        readers = [reader(reached.times) for reader in (Memory, Revisions, Alarms)]
+        readers = [reader(reached.times) for reader in (Memory, Results, Alarms)]
         for group in groups:
             for reader in readers:
                 reader.record(*group)

@@ -6,7 +6,7 @@ import subprocess
 import time
 
 import harness
-from harness import (ROOT, SECONDS, InTime, alarm_fields, check, equal, in_memory, openprotocol, tell_and_acknowledge, test,
+from harness import (SECONDS, InTime, alarm_fields, check, equal, in_memory, openprotocol, tell_and_acknowledge, test,
                      tightening_fields)
 from journal import Play
 
@@ -16,7 +16,7 @@ TIME = r"\d\d-\d\d \d\d:\d\d:\d\d"
 def drawn(names):
     """The rows of a picture: the time of day, and the label, which may go on in further lines, without what depends on where the picture
     begins."""
-    command = [os.path.join(ROOT, "tools", "ladder"), "--rows", "1000000", *names]
+    command = [os.path.join(harness.TOOLS, "ladder"), "--rows", "1000000", *names]
     done = subprocess.run(command, stdin=subprocess.DEVNULL, capture_output=True, timeout=SECONDS, check=False)
     equal((done.returncode, done.stderr), (0, b""), "status and errors of ladder")
     found = []
@@ -103,3 +103,28 @@ def what_a_table_holds_is_drawn(place):
         rows = [label for _, label in drawn(parts[first:])]
         check(first > 2 and told in rows, "%r is not told of parts from %d of %d on: this shows too little", told, first, len(parts))
         equal(rows[1:], whole[1 - len(rows):], "from part %d on" % (first + 1))
+
+
+@test
+def missing_limits_are_drawn(place):
+    """Of a tightening that comes, and of its 0061 in each revision, the limits are named that were never set, and no others; a 0065, which
+    has no limits, says nothing of them."""
+    made = [((), ""), (("angle_min", "angle_max", "angle_target"), ", no angle window"), (("torque_target",), ", no torque target"),
+            (("torque_min", "angle_max"), ", no torque min, no angle max"), (harness.LIMITS, ", no torque window, no angle window")]
+    host = place.host()
+    tool = place.tool()
+    wanted = []
+    for revision in openprotocol.RESULT_REVISIONS:
+        server = place.server(host).subscribe(acknowledge=False, revision=revision)
+        for missing, words in made:
+            fields = tightening_fields(0, torque=2431, tightening_status=1, identifier="BODY", **dict.fromkeys(missing))
+            number = tool.tighten(fields, "0")
+            server.expect_result(fields, number)
+            server.fetch(number)
+            wanted += ['%d: 24.31 Nm%s, OK, identifier "BODY", taken by 0' % (number, words),
+                       'notice: tightening %d, "BODY", 24.31 Nm%s, OK' % (number, words),
+                       'old tightening %d, "BODY", 24.31 Nm, OK' % number]
+        server.close()
+        place.wait_for_hang_up(0, revision)
+    equal(host.end(), 0, "status")
+    equal([label for _, label in drawn([place.journal]) if "24.31 Nm" in label], wanted, "labels")

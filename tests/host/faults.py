@@ -1,6 +1,6 @@
 #!/usr/bin/env python3
-"""Shows that the tests of the host find faults: plants each of these in a copy of its sources, builds it, and runs the test that is to
-find it.
+"""Shows that the tests of the host find faults: plants each of these in a copy of its sources, or of the tools that watch and draw, builds
+it, and runs the test that is to find it.
 
     faults.py --host PROGRAM --replay PROGRAM --archive ARCHIVE --compiler COMPILER [--runner RUNNER] [--only NAME,NAME,..]
 
@@ -72,7 +72,7 @@ void links_ready(void)
     if (getsockname(door.socket, (struct sockaddr *)&address, &size) != 0"""
 
 # The fault, the test that finds it, the file, what stands there, and what is put in its place.
-FAULTS = [
+IN_HOST = [
     ("state not written", "killed-between-results", "calls.c", "state_keep(++last);", "++last;"),
     ("state written after sending", "no-room-for-the-state", "calls.c",
      NUMBER_KEPT + RECORD_JOURNALED + RESULT_SENT,
@@ -134,6 +134,15 @@ FAULTS = [
      'memcmp(text + 4, "0076", 4) == 0'),
     ("a fault of the demo's at another time", "the-demo", "demo.c", "write_time(now, time(NULL));\n    begin(SERIFLADDER_ALARM,",
      "write_time(now, 0);\n    begin(SERIFLADDER_ALARM,"),
+    ("the demo's missing limits told as 0", "the-demo", "demo.c",
+     "#define NO_WINDOW { SERIFLADDER_NEVER_SET, SERIFLADDER_NEVER_SET, SERIFLADDER_NEVER_SET }", "#define NO_WINDOW { 0, 0, 0 }"),
+    ("a target in the demo's missing window", "the-demo", "demo.c", "SERIFLADDER_NEVER_SET, SERIFLADDER_NEVER_SET }",
+     "SERIFLADDER_NEVER_SET, 90 }"),
+    ("the demo's angles all held against one window", "the-demo", "demo.c", "status(angle, &program->angle)",
+     "status(angle, &PROGRAMS[0].angle)"),
+    ("the demo's angles too low where none is too low", "the-demo", "demo.c", "is_set(window->least) && value <", "value <"),
+    ("no program of the demo's without a window", "the-demo", "demo.c", "{ 2250, 2750, 2500 }, NO_WINDOW }",
+     "{ 2250, 2750, 2500 }, { 180, 360, 270 } }"),
     ("an alarm's serial not kept", "alarms-with-a-serial", "calls.c", "if (number == SERIFLADDER_DONE && serial != NULL)",
      "if (number == SERIFLADDER_DONE && serial != NULL && record_kind != SERIFLADDER_ALARM)"),
     ("the number read at the end of every 0061", "log-lines-in-each-revision", "sessions.c",
@@ -217,7 +226,7 @@ FAULTS = [
      STATE_MADE + ADDRESS_TAKEN),
 ]
 if tracing.possible():
-    FAULTS += [
+    IN_HOST += [
         ("a serial kept behind its record", "told-again-after-every-kill", "calls.c", SERIAL_KEPT + NUMBER_KEPT + RECORD_JOURNALED,
          NUMBER_KEPT + RECORD_JOURNALED + SERIAL_KEPT.replace("last + 1", "last")),
         ("a serial known that was not journaled", "told-again-after-every-kill", "serials.c", "if (kept[place].number > given)",
@@ -230,25 +239,69 @@ if tracing.possible():
     ]
 
 
+IN_TOOLS = [
+    ("missing limits shown as 0", "watch-shows-missing-limits", "watch", "(limit if limit is None else written(limit) for limit",
+     "(written(limit or 0) for limit"),
+    ("missing limits shown as nothing", "watch-shows-missing-limits", "watch", "words = openprotocol.missing_limits(result, what)",
+     "words = []"),
+    ("no window said where a limit is set", "watch-shows-missing-limits", "openprotocol.py",
+     "len(missing) == len(LIMITS) else missing", "len(missing) > 1 else missing"),
+    ("a limit of 0 shown as missing", "watch-shows-missing-limits", "openprotocol.py", 'fields[what + "_" + which] is None]',
+     'not fields[what + "_" + which]]'),
+    ("a limit of spaces read as 0", "watch-shows-missing-limits", "openprotocol.py", "            return None\n", "            return 0\n"),
+    ("a target that must be digits", "watch-shows-missing-limits", "openprotocol.py",
+     '*(Row(LIMIT, width, what + "_" + which) for which in LIMITS)',
+     '*(Row(NUMBER if which == "target" else LIMIT, width, what + "_" + which) for which in LIMITS)'),
+    ("a limit of digits and spaces taken", "watch-takes-no-other-spaces", "openprotocol.py",
+     "if self.sort in NUMBERS and not value.isdigit():", "if self.sort == NUMBER and not value.isdigit():"),
+    ("a number of spaces taken", "watch-takes-no-other-spaces", "openprotocol.py",
+     "if self.sort == LIMIT and value == SPACES * self.width:", "if self.sort in NUMBERS and value == SPACES * self.width:"),
+    ("blanks before digits taken", "watch-takes-no-other-spaces", "openprotocol.py", "not value.isdigit():",
+     "not value.lstrip().isdigit():"),
+    ("missing limits not drawn", "missing-limits-are-drawn", "ladder_rows.py",
+     'openprotocol.missing_limits(fields, what) if what + "_min" in fields else []', "[]"),
+    ("missing limits of the torque not drawn", "missing-limits-are-drawn", "ladder_rows.py",
+     '    for what in ("torque", "angle"):\n        words +=', '    for what in ("angle",):\n        words +='),
+    ("a missing limit of a record read as a number", "missing-limits-are-drawn", "house_records.py",
+     "return None if self.sort == LIMIT and value == LIMIT_NONE else value", "return value"),
+]
+
+FAULTS = [(name, finder, folder + "/" + file, *edit) for folder, faults in (("host", IN_HOST), ("tools", IN_TOOLS))
+          for name, finder, file, *edit in faults]
+
+
 def planted(name, file, old, new):
-    """The file of the host's sources with the fault."""
-    with open(os.path.join(ROOT, "host", file), encoding="ascii") as source:
+    """The file with the fault."""
+    with open(os.path.join(ROOT, file), encoding="ascii") as source:
         text = source.read()
     if text.count(old) != 1:
-        sys.exit("'%s' can't be planted: host/%s has its place %d times" % (name, file, text.count(old)))
+        sys.exit("'%s' can't be planted: %s has its place %d times" % (name, file, text.count(old)))
     return text.replace(old, new)
 
 
-def build(program, sources_name, file, text, options):
-    """A program of the host's with that file instead of its own, built as its Makefile says."""
-    folder = program + "-sources"
-    shutil.copytree(os.path.join(ROOT, "host"), folder)
-    with open(os.path.join(folder, file), "w", encoding="ascii") as source:
+def copied(folder, file, text):
+    """A copy of the folder in which a file stands, with that text in the file."""
+    shutil.copytree(os.path.join(ROOT, os.path.dirname(file)), folder)
+    with open(os.path.join(folder, os.path.basename(file)), "w", encoding="ascii") as source:
         source.write(text)
+    return folder
+
+
+def tools_with(folder, file, text):
+    """The tools with that file instead of their own, beside what they look for in the repository."""
+    os.mkdir(folder)
+    for name in ("target", "tests"):
+        os.symlink(os.path.abspath(os.path.join(ROOT, name)), os.path.join(folder, name))
+    return copied(os.path.join(folder, "tools"), file, text)
+
+
+def build(program, sources_name, file, text, options):
+    """A program of the host's with that file instead of its own, built as its Makefile says; None where it is not built of that file."""
+    folder = copied(program + "-sources", file, text)
     with open(os.path.join(folder, "Makefile"), encoding="ascii") as makefile:
         said = makefile.read()
     names = re.search(r"^%s := ((?:.*\\\n)*.*)$" % sources_name, said, re.M).group(1).replace("\\\n", " ").split()
-    if file not in names:
+    if os.path.basename(file) not in names:
         return None
     flags = re.search(r"^STRICT := (.*)$", said, re.M).group(1).split()
     sources = [os.path.join(folder, name) for name in names]
@@ -270,12 +323,15 @@ def run_tests(host, replay, names, *more):
 
 
 def find(arguments):
-    """Builds the host with a fault and runs the test that is to find it: the test, and what it said; None if it said nothing."""
+    """Builds what has a fault and runs the test that is to find it: the test, and what it said; None if it said nothing."""
     program, (_, finder, file, _, _), text, options = arguments
-    own_replay = os.path.join(os.path.dirname(options.host), "serifladder-replay")
-    host = build(program, "SOURCES", file, text, options) or options.host
-    own_replay = build(program + "-replay", "REPLAY_SOURCES", file, text, options) or own_replay
-    status, printed = run_tests(host, options.replay, [finder], "--seconds", "5", "--own-replay", own_replay)
+    host, more = options.host, ["--own-replay", os.path.join(os.path.dirname(options.host), "serifladder-replay")]
+    if file.startswith("tools/"):
+        more += ["--tools", tools_with(program, file, text)]
+    else:
+        host = build(program, "SOURCES", file, text, options) or host
+        more[1] = build(program + "-replay", "REPLAY_SOURCES", file, text, options) or more[1]
+    status, printed = run_tests(host, options.replay, [finder], "--seconds", "5", *more)
     return finder, None if status == 0 else printed.partition("WRONG: ")[2].partition("\n")[0]
 
 

@@ -22,12 +22,13 @@ import time
 
 HERE = os.path.dirname(os.path.abspath(__file__))
 ROOT = os.path.join(HERE, "..", "..")
-sys.path[:0] = [os.path.join(ROOT, "tools"), os.path.join(HERE, "..", "histories")]
+TOOLS = os.path.join(ROOT, "tools")  # whose watch and ladder are tried (see run.py)
+sys.path[:0] = [TOOLS, os.path.join(HERE, "..", "histories")]
 
 import lent_table  # noqa: E402, F401
 import openprotocol  # noqa: E402
-from house_records import (ALARM, BYTES, GREATEST_NUMBER, HANG_UP, OPEN, PAYLOADS, SCANNED, SETTINGS, TICK, TIGHTENING,  # noqa: E402, F401
-                           fields_of, record, record_of, split)
+from house_records import (ALARM, BYTES, GREATEST_NUMBER, HANG_UP, LIMIT, LIMIT_NONE, OPEN, PAYLOADS, SCANNED,  # noqa: E402, F401
+                           SETTINGS, TICK, TIGHTENING, fields_of, record, record_of, split)
 from openprotocol import message  # noqa: E402
 
 SECONDS = 30
@@ -105,9 +106,13 @@ def wait(condition, what, **how):
 
 # ---- records of the tool
 
+LIMITS = [name for name, item in PAYLOADS[TIGHTENING].items.items() if item.sort == LIMIT]
+
+
 def tightening_fields(i, **named):
-    """The i-th tightening: no two are alike, and fields of one range differ."""
+    """The i-th tightening: no two are alike, and fields of one range differ; of 64 in a row each lacks other limits."""
     fields = {name: (i + 10006 * place) % (item.greatest + 1) for place, (name, item) in enumerate(PAYLOADS[TIGHTENING].items.items())}
+    fields.update({name: None for place, name in enumerate(LIMITS) if i >> place & 1})
     fields.update(identifier="BODY-%07d" % i, time="2026-01-%02d:%02d:%02d:%02d" % (i % 28 + 1, i // 3600 % 24, i // 60 % 60, i % 60),
                   change_time="2025-12-31:23:59:%02d" % (i % 60), batch_status=(i + 2) % 3)
     return {**fields, **named}

@@ -333,12 +333,13 @@ def log_lines_in_each_revision(place):
 
 @test
 def the_demo(place):
-    """--demo scans identifiers, tightens bolts and has a fault of itself: results arrive in order, as a tool would have given them."""
+    """--demo scans identifiers, tightens bolts and has a fault of itself: results arrive in order, as a tool would have given them, among
+    the first of a program with an angle window and of one without."""
     host = place.host("--demo", "--demo-seconds", 1, tool=False)
     server = place.server(host).subscribe().subscribe_alarms()
-    numbers, identifiers, codes = [], [], []
-    in_time = InTime("three results, an identifier and an alarm")
-    while in_time() and (len(numbers) < 3 or not identifiers or not codes):
+    numbers, identifiers, codes, windows = [], [], [], {}
+    in_time = InTime("three results, of two programs, an identifier and an alarm", more=10)
+    while in_time() and (len(numbers) < 3 or len(windows) < 2 or not identifiers or not codes):
         frame = openprotocol.read(server.next())
         if frame.mid == openprotocol.IDENTIFIER:
             server.tell(openprotocol.ACKNOWLEDGE_IDENTIFIER)
@@ -351,8 +352,16 @@ def the_demo(place):
             equal(frame.mid, openprotocol.RESULT, "message")
             server.tell(openprotocol.ACKNOWLEDGE_RESULT)
             numbers.append(frame.fields["number"])
-            within = frame.fields["torque_min"] <= frame.fields["torque"] <= frame.fields["torque_max"]
-            equal(frame.fields["torque_status"] == 1, within, "torque status of %s" % frame.fields)
+            window = [frame.fields["angle_" + which] for which in openprotocol.LIMITS]
+            equal(windows.setdefault(frame.fields["parameter_set"], window), window, "window of a program")
+            for what in ("torque", "angle"):
+                least, greatest = frame.fields[what + "_min"], frame.fields[what + "_max"]
+                within = least is None or least <= frame.fields[what] <= greatest
+                equal(frame.fields[what + "_status"] == 1, within, "%s status of %s" % (what, frame.fields))
+            if window == [None] * 3:
+                check(not 70 <= frame.fields["angle"] <= 110, "an angle within another program's window shows too little: %s", frame.fields)
+    equal(sorted(windows.values(), key=str), [[70, 110, 90], [None] * 3], "angle windows")
+    check(len(numbers) < 8, "both programs were seen after %d results only", len(numbers))
     equal(numbers, list(range(numbers[0], numbers[0] + len(numbers))), "numbers")
     check(identifiers[-1] != "", "an empty identifier")
     check(re.fullmatch(r"E\d\d\d", codes[0]), "code %r", codes[0])

@@ -1,9 +1,10 @@
 #!/usr/bin/env python3
 """Runs the tests of the host over real sockets.
 
-    run.py --host PROGRAM --replay PROGRAM [--own-replay PROGRAM] [--only NAME,NAME,..] [--count N] [--seconds N]
+    run.py --host PROGRAM --replay PROGRAM [--own-replay PROGRAM] [--tools FOLDER] [--only NAME,NAME,..] [--count N] [--seconds N]
 
---replay is the proved test program, --own-replay the host's serifladder-replay; if it is not given it stands beside the host.
+--replay is the proved test program, --own-replay the host's serifladder-replay; if it is not given it stands beside the host. --tools is
+where watch and ladder stand, if not in the repository's tools.
 --count says how many results the load sends and, in hundreds, how many histories are made to happen; --seconds how long something
 is waited for that does not come. Without --only, the tests that take long are left out.
 Prints a line for each test. Exit status 0: none is wrong; what cannot be shown here is skipped, and counted apart."""
@@ -89,12 +90,13 @@ def main():
     parser.add_argument("--host", required=True)
     parser.add_argument("--replay", required=True)
     parser.add_argument("--own-replay")
+    parser.add_argument("--tools", default=harness.TOOLS)
     parser.add_argument("--only", type=lambda text: text.split(","))
     parser.add_argument("--count", type=int, default=2000)
     parser.add_argument("--seconds", type=int, default=harness.SECONDS)
     options = parser.parse_args()
     options.own_replay = options.own_replay or os.path.join(os.path.dirname(options.host), "serifladder-replay")
-    harness.SECONDS = options.seconds
+    harness.SECONDS, harness.TOOLS = options.seconds, options.tools
     harness.FILE_GREATEST += options.count * BYTES_A_RESULT
     harness.FAST_TICK = max(harness.FAST_TICK, 2 * seconds_to_start(options.host))
     signal.signal(signal.SIGALRM, too_long)

@@ -12,9 +12,9 @@ import time
 
 import harness
 import tracing
-from harness import (BYTES, GOOD_SETTINGS, HANG_UP, OPEN, SCANNED, SETTINGS, TICK, TIGHTENING, WITH_SERIAL, InTime, check, done, equal,
-                     fields_of, identifier_record, in_memory, openprotocol, record, record_of, tell_and_acknowledge, test,
-                     tightening_fields, tightening_record, wait, with_serial)
+from harness import (BYTES, GOOD_SETTINGS, GREATEST_NUMBER, HANG_UP, LIMIT_NONE, LIMITS, OPEN, PAYLOADS, SCANNED, SETTINGS, TICK,
+                     TIGHTENING, WITH_SERIAL, InTime, check, done, equal, fields_of, identifier_record, in_memory, old_fields, openprotocol,
+                     record, record_of, tell_and_acknowledge, test, tightening_fields, tightening_record, wait, with_serial)
 
 BAD = "7 tool record bad"
 
@@ -54,6 +54,36 @@ def refused_tool_records(place):
     equal(server.fence(), [], "something besides")
     place.finish(host, [server], [7] * len(records))
     place.said.append("%d bad records refused" % len(records))
+
+
+@test
+def limits_never_set(place):
+    """Whichever of the six limits are missing, servers are told spaces in their places, in each revision, and digits in all others: the
+    greatest number of a result, too, which is what says that a limit is missing. An old result is told as ever. A torque or an angle that
+    is missing is refused with 7, and so is a limit above its greatest that is not missing."""
+    rounds, sorts = ((1, 2, 3), (4, 5, 6)), 2 ** len(LIMITS)
+    host = place.host("--new-state", GREATEST_NUMBER - len(rounds) * sorts)
+    tool = place.tool()
+    everyone = []
+    for ended, revisions in enumerate(rounds):
+        servers = [place.server(host).subscribe(acknowledge=False, revision=revision) for revision in revisions]
+        everyone += servers
+        for i in range(sorts):
+            number = tool.tighten(tightening_fields(i), "0 1 2")
+            for server in servers:
+                server.expect_result(tightening_fields(i), number)
+            equal(servers[0].fetch(number), old_fields(tightening_fields(i), number), "old result")
+        for session, server in enumerate(servers):
+            equal(server.fence(), [], "something besides")
+            server.close()
+            place.wait_for_hang_up(session, ended + 1)
+    equal(number, GREATEST_NUMBER, "the last number")
+    bad = [("torque", LIMIT_NONE), ("angle", LIMIT_NONE)]
+    bad += [(name, number) for name in LIMITS for number in (PAYLOADS[TIGHTENING].items[name].greatest + 1, LIMIT_NONE - 1)]
+    for name, number in bad:
+        equal(tool.give(tightening_record(tightening_fields(0, **{name: number}))), BAD, "answer to a %s of %d" % (name, number))
+    check(tool.give(tightening_record(tightening_fields(0))).startswith("8 "), "there is a number behind the last")
+    place.finish(host, everyone, [7] * len(bad) + [8])
 
 
 @test

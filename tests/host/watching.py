@@ -7,14 +7,14 @@ import subprocess
 
 import harness
 import openprotocol
-from harness import ROOT, alarm_fields, check, equal, test, tightening_fields, wait
+from harness import alarm_fields, check, equal, test, tightening_fields, wait
 
 
 class Watch:
     def __init__(self, place, *arguments):
         self.path = place.path("watched-%d" % len(os.listdir(place.folder)))
         with open(self.path, "wb") as out:
-            self.process = subprocess.Popen([os.path.join(ROOT, "tools", "watch"), *arguments], stdout=out, stderr=out)
+            self.process = subprocess.Popen([os.path.join(harness.TOOLS, "watch"), *arguments], stdout=out, stderr=out)
         place.links.callback(self.end)
 
     def end(self):
@@ -81,6 +81,11 @@ class Controller:
         return [" ".join(line.split()) for line in self.watch.lines()[1:]]
 
 
+SHOWN = tightening_fields(0, identifier="BODY-0000001", torque=2431, torque_min=2200, torque_max=2600, angle=87, angle_min=60,
+                          angle_max=120, time="2026-01-31:12:34:56", tightening_status=1)
+LINE = "result 1 BODY-0000001 24.31 %s (22.00 to 26.00) 87 deg (60 to 120) 2026-01-31 12:34:56 OK"
+
+
 @test
 def watch_shows_results(place):
     """tools/watch --count 3 shows an identifier, three results and an alarm between them, keeps the link alive, and ends in order."""
@@ -90,10 +95,8 @@ def watch_shows_results(place):
     watch.wait_for("connected to 127.0.0.1:%d: controller LINE4, cell 12, channel 3" % host.port)
     host.wait_for_log("> 0005 to 0070")
     tool.scan("CAR 1", "0")
-    first = tightening_fields(1, torque=2431, torque_min=2200, torque_max=2600, angle=87, angle_min=60, angle_max=120,
-                              time="2026-01-31:12:34:56", tightening_status=1)
-    tool.tighten(first, "0")
-    tool.tighten({**first, "identifier": "", "tightening_status": 0, "torque": 2750, "torque_status": 2, "angle_status": 1}, "0")
+    tool.tighten(SHOWN, "0")
+    tool.tighten({**SHOWN, "identifier": "", "tightening_status": 0, "torque": 2750, "torque_status": 2, "angle_status": 1}, "0")
     tool.alarm({"code": "E404", "controller_ready": 1, "tool_ready": 0, "time": "2026-01-31:12:34:57"}, "0")
     host.wait_for_log("< 9999")  # it keeps the link alive while nothing comes
     tool.tighten(tightening_fields(3), "0")
@@ -168,17 +171,12 @@ def watch_with_another_controller(place):
     watch.wait_for("turned away by %s: it closed the link before it answered." % controller.address)
 
 
-SHOWN = tightening_fields(1, torque=2431, torque_min=2200, torque_max=2600, angle=87, angle_min=60, angle_max=120,
-                          time="2026-01-31:12:34:56", tightening_status=1)
-LINE = "result 1 BODY-0000001 24.31 %s (22.00 to 26.00) 87 deg (60 to 120) 2026-01-31 12:34:56 OK"
-
-
-def result_run(revision, unit=b"1"):
-    """A 0061 of the tightening that is shown, in that revision, with another unit than Nm where one is given; with its NUL."""
-    layout = openprotocol.LAYOUTS[openprotocol.RESULT, revision]
-    run = bytearray(openprotocol.write(openprotocol.RESULT, harness.result_fields(SHOWN, 1, revision), revision, b"0"))
-    if "torque_unit" in layout.places:
-        run[layout.places["torque_unit"]] = unit
+def result_run(revision, number=1, put=(), **named):
+    """A 0061 in that revision of the tightening that is shown, with other values where they are named, and with the characters that `put`
+    has for fields; with its NUL."""
+    run = bytearray(openprotocol.write(openprotocol.RESULT, harness.result_fields({**SHOWN, **named}, number, revision), revision, b"0"))
+    for name, characters in put:
+        run[openprotocol.LAYOUTS[openprotocol.RESULT, revision].places[name]] = characters
     return bytes(run) + b"\0"
 
 
@@ -191,9 +189,75 @@ def watch_in_each_revision(place):
     for revision, unit, shown in told:
         controller = Controller(place, "--count", "1", "--revision", str(revision))
         link = controller.start(revision)
-        link.send(openprotocol.write(openprotocol.ACCEPTED, {"mid": openprotocol.SUBSCRIBE_RESULTS}) + b"\0" + result_run(revision, unit))
+        told_unit = [("torque_unit", unit)] if revision >= 3 else []
+        link.send(openprotocol.write(openprotocol.ACCEPTED, {"mid": openprotocol.SUBSCRIBE_RESULTS}) + b"\0"
+                  + result_run(revision, put=told_unit))
         lines = controller.end(link, 0, openprotocol.message(openprotocol.ACKNOWLEDGE_RESULT), *controller.FAREWELL)
         equal(lines, [LINE % shown, "ended: 1 results"], "what watch shows of revision %d" % revision)
+
+
+# Limits that were never set, and what is shown in the place of both windows.
+WINDOWS = [
+    ((), "(22.00 to 26.00)", "(60 to 120)"),
+    (("angle_min", "angle_max", "angle_target"), "(22.00 to 26.00)", "(no angle window)"),
+    (("torque_min", "torque_max", "torque_target"), "(no torque window)", "(60 to 120)"),
+    (harness.LIMITS, "(no torque window)", "(no angle window)"),
+    (("torque_min", "angle_max"), "(up to 26.00, no torque min)", "(from 60, no angle max)"),
+    (("torque_max", "angle_min"), "(from 22.00, no torque max)", "(up to 120, no angle min)"),
+    (("torque_target", "angle_target"), "(22.00 to 26.00, no torque target)", "(60 to 120, no angle target)"),
+    (("torque_min", "torque_max"), "(no torque min, no torque max)", "(60 to 120)"),
+    (("angle_max", "angle_target"), "(22.00 to 26.00)", "(from 60, no angle max, no angle target)"),
+]
+
+
+@test
+def watch_shows_missing_limits(place):
+    """A limit that was never set is shown as missing, in each revision, and one of 0 as 0."""
+    for revision in openprotocol.RESULT_REVISIONS:
+        controller = Controller(place, "--count", str(len(WINDOWS) + 1), "--revision", str(revision))
+        link = controller.start(revision)
+        wanted = []
+        for number, (missing, torque, angle) in enumerate(WINDOWS, 1):
+            link.send(result_run(revision, number, **dict.fromkeys(missing)))
+            controller.expect(link, openprotocol.message(openprotocol.ACKNOWLEDGE_RESULT))
+            wanted.append("result %d BODY-0000001 24.31 Nm %s 87 deg %s 2026-01-31 12:34:56 OK" % (number, torque, angle))
+        link.send(result_run(revision, len(WINDOWS) + 1, **dict.fromkeys(harness.LIMITS, 0)))
+        lines = controller.end(link, 0, openprotocol.message(openprotocol.ACKNOWLEDGE_RESULT), *controller.FAREWELL)
+        equal(lines[:-2], wanted, "what watch shows of revision %d" % revision)
+        check("24.31 Nm (0.00 to 0.00) 87 deg (0 to 0) " in lines[-2], "limits of 0: %s", lines[-2])
+
+
+def not_numbers(row):
+    """Characters that a number's field can't have: of a limit, spaces of the whole width are not among them."""
+    wrong = [b" " * (row.width - 1) + b"0", b"0" * (row.width - 1) + b" ", b"+" + b"0" * (row.width - 1)] if row.width > 1 else [b"-"]
+    return wrong + ([] if row.sort == openprotocol.LIMIT else [b" " * row.width])
+
+
+@test
+def watch_takes_no_other_spaces(place):
+    """Spaces in a number that is no limit, the result's own above all, and a limit of digits and spaces: watch says that it is no frame,
+    acknowledges nothing, and connects again."""
+    wrong = [(revision, row.name, characters) for revision in openprotocol.RESULT_REVISIONS
+             for row in openprotocol.LAYOUTS[openprotocol.RESULT, revision].rows
+             if row.sort in (openprotocol.NUMBER, openprotocol.LIMIT) for characters in not_numbers(row)]
+    for revision, name, characters in wrong:
+        try:
+            read = openprotocol.read(result_run(revision, put=[(name, characters)])[:-1]).fields[name]
+        except ValueError:
+            continue
+        raise harness.Wrong("%s of revision %d is read as %r where %r stands" % (name, revision, read, characters))
+    controller = Controller(place, "--count", "1")
+    sent = [(1, "number", b" " * 10), (5, "torque", b" " * 6), (1, "angle_min", b"   60"), (2, "torque_max", b"2600  ")]
+    for revision, name, characters in sent:
+        link = controller.start()
+        link.send(result_run(revision, put=[(name, characters)]))
+        controller.watch.wait_for("%s is %r" % (name, characters))
+        equal(link.receive(), b"", "what watch sends for %r as %s" % (characters, name))
+    link = controller.start()
+    link.send(result_run(1))
+    lines = controller.end(link, 0, openprotocol.message(openprotocol.ACKNOWLEDGE_RESULT), *controller.FAREWELL)
+    equal([sum(words in line for line in lines) for words in ("link lost: not a frame", "result 1 ")], [len(sent), 1], "lines")
+    place.said.append("%d fields" % len(wrong))
 
 
 @test
@@ -321,7 +385,7 @@ def watch_shows_before_it_acknowledges(place):
     """A result that can't be shown is not acknowledged, nor is an alarm."""
     host = place.host()
     tool = place.tool()
-    command = [os.path.join(ROOT, "tools", "watch"), "--connect", "127.0.0.1:%d" % host.port]
+    command = [os.path.join(harness.TOOLS, "watch"), "--connect", "127.0.0.1:%d" % host.port]
     for times, (give, notice, acknowledge) in enumerate(((lambda: tool.tighten(tightening_fields(1), "0"), "0061", "0062"),
                                                          (lambda: tool.alarm(alarm_fields(1), "0"), "0071", "0072")), 1):
         watch = subprocess.Popen(command, stdout=subprocess.PIPE)

@@ -43,10 +43,13 @@ enum {
     RUN_GREATEST = 9999,
     RUN_COUNTED =                                          /* longer runs count as this long */
         FAULT == RUN_LENGTH_16_BITS ? 65535 : RUN_GREATEST + 1,
-    FRAME_GREATEST = HEADER_BYTES + RESULT_GREATEST + 1
+    FRAME_GREATEST = HEADER_BYTES + RESULT_GREATEST + 1 + (FAULT == SIX_SPACES_FOR_AN_ANGLE ? 3 : 0),
+    TORQUE_LIMIT_GREATEST = FAULT == TORQUE_LIMIT_1000000_TAKEN ? 1000000 : 999999,
+    ANGLE_LIMIT_GREATEST = FAULT == ANGLE_LIMIT_100000_TAKEN ? 100000 : 99999
 };
 
 #define LAST_NUMBER_GREATEST UINT32_C(4294967295)
+#define LIMIT_NONE UINT32_C(4294967295) /* in a record: no such limit was set */
 
 /* The numbers that a call answers. */
 enum {
@@ -302,11 +305,13 @@ enum field_name {
     ANGLE_MIN, ANGLE_MAX, ANGLE_TARGET, ANGLE,
     TIGHTENED_AT, SET_CHANGED_AT, BATCH_STATUS,
     ALARM_CODE, CONTROLLER_READY, TOOL_READY, ALARMED_AT,
-    RESULT_NUMBER, BLANK, UNREPORTED, UNREPORTED_TEXT, TORQUE_UNIT
+    RESULT_NUMBER, BLANK, UNREPORTED, UNREPORTED_LIMIT, UNREPORTED_TEXT, TORQUE_UNIT,
+    NUMBER_OR_NONE /* planted: a tightening number, as a limit */
 };
 
-/* Of the last three no value is read: one character fills them. */
-enum sort { NUMBER, TEXT, TIME, SPACES, ZEROS, ONES };
+/* A limit is a number or none, which is written as spaces. Of the last three no value is read: one
+   character fills them. */
+enum sort { NUMBER, LIMIT, TEXT, TIME, SPACES, ZEROS, ONES };
 
 /* Where the value of a field comes from: the settings, or what an event tells, which is an
    identifier, a tightening with its number behind it, or an alarm. */
@@ -317,7 +322,7 @@ struct field {
     enum source source;
     unsigned offset;   /* in the source */
     unsigned size;     /* there, in bytes */
-    uint32_t greatest; /* of a number that a record brings */
+    uint32_t greatest; /* of a number that a record brings, and of a limit that is one */
 };
 
 static const struct field FIELDS[] = {
@@ -334,14 +339,14 @@ static const struct field FIELDS[] = {
     [TIGHTENING_STATUS] = { NUMBER, EVENT, 32, 1, 1 },
     [TORQUE_STATUS] = { NUMBER, EVENT, 33, 1, 2 },
     [ANGLE_STATUS] = { NUMBER, EVENT, 34, 1, 2 },
-    [TORQUE_MIN] = { NUMBER, EVENT, 35, 4, 999999 },
-    [TORQUE_MAX] = { NUMBER, EVENT, 39, 4, 999999 },
-    [TORQUE_TARGET] = { NUMBER, EVENT, 43, 4, 999999 },
-    [TORQUE] = { NUMBER, EVENT, 47, 4, 999999 },
-    [ANGLE_MIN] = { NUMBER, EVENT, 51, 4, 99999 },
-    [ANGLE_MAX] = { NUMBER, EVENT, 55, 4, 99999 },
-    [ANGLE_TARGET] = { NUMBER, EVENT, 59, 4, 99999 },
-    [ANGLE] = { NUMBER, EVENT, 63, 4, 99999 },
+    [TORQUE_MIN] = { LIMIT, EVENT, 35, 4, TORQUE_LIMIT_GREATEST },
+    [TORQUE_MAX] = { LIMIT, EVENT, 39, 4, TORQUE_LIMIT_GREATEST },
+    [TORQUE_TARGET] = { LIMIT, EVENT, 43, 4, TORQUE_LIMIT_GREATEST },
+    [TORQUE] = { FAULT == TORQUE_NONE_TAKEN ? LIMIT : NUMBER, EVENT, 47, 4, 999999 },
+    [ANGLE_MIN] = { LIMIT, EVENT, 51, 4, ANGLE_LIMIT_GREATEST },
+    [ANGLE_MAX] = { LIMIT, EVENT, 55, 4, ANGLE_LIMIT_GREATEST },
+    [ANGLE_TARGET] = { LIMIT, EVENT, 59, 4, ANGLE_LIMIT_GREATEST },
+    [ANGLE] = { FAULT == ANGLE_NONE_TAKEN ? LIMIT : NUMBER, EVENT, 63, 4, 99999 },
     [TIGHTENED_AT] = { TIME, EVENT, 67, TIME_BYTES, 0 },
     [SET_CHANGED_AT] = { TIME, EVENT, 86, TIME_BYTES, 0 },
     [BATCH_STATUS] = { NUMBER, EVENT, 105, 1, 2 },
@@ -352,8 +357,10 @@ static const struct field FIELDS[] = {
     [RESULT_NUMBER] = { NUMBER, EVENT, TIGHTENING_BYTES, 4, 0 },
     [BLANK] = { SPACES, EVENT, 0, 0, 0 },
     [UNREPORTED] = { ZEROS, EVENT, 0, 0, 0 },
+    [UNREPORTED_LIMIT] = { ZEROS, EVENT, 0, 0, 0 },
     [UNREPORTED_TEXT] = { FAULT == UNREPORTED_TEXT_BLANK ? SPACES : ZEROS, EVENT, 0, 0, 0 },
     [TORQUE_UNIT] = { FAULT == UNIT_0 ? ZEROS : ONES, EVENT, 0, 0, 0 }, /* Nm */
+    [NUMBER_OR_NONE] = { LIMIT, EVENT, TIGHTENING_BYTES, 4, 0 },
 };
 
 static uint32_t number_in(const uint8_t *source, enum field_name name)
@@ -386,15 +393,48 @@ static bool is_record(const uint8_t *slice, size_t length, uint32_t record_kind,
         && little_endian(slice + 2, 2) == record_kind;
 }
 
+/* Does this value of a field say that there is none? Only a limit can. */
+static bool is_none(enum field_name name, uint32_t value)
+{
+    if (FIELDS[name].sort != LIMIT)
+        return false;
+    switch (FAULT) {
+    case TORQUE_LIMIT_999999_BLANK:
+        return value == LIMIT_NONE || value == 999999;
+    case ANGLE_LIMIT_99999_BLANK:
+        return value == LIMIT_NONE || (value == 99999 && name >= ANGLE_MIN);
+    case BELOW_NONE_IS_NONE:
+        return value >= LIMIT_NONE - 1;
+    case ABOVE_GREATEST_IS_NONE:
+        return value > FIELDS[name].greatest;
+    case NONE_BY_16_BITS:
+        return (uint16_t)value == (uint16_t)LIMIT_NONE;
+    case NONE_REFUSED:
+        return false;
+    case ANGLE_LIMIT_NONE_REFUSED:
+        return value == LIMIT_NONE && name < ANGLE_MIN;
+    case TARGET_NONE_REFUSED:
+        return value == LIMIT_NONE && name != TORQUE_TARGET && name != ANGLE_TARGET;
+    default:
+        return value == LIMIT_NONE;
+    }
+}
+
+static bool number_good(enum field_name name, uint32_t value)
+{
+    return value <= FIELDS[name].greatest || is_none(name, value)
+        || (FAULT == BELOW_NONE_TAKEN && FIELDS[name].sort == LIMIT && value == LIMIT_NONE - 1);
+}
+
 /* Are the fields of a payload good, from the first to the last? */
 static bool fields_good(const uint8_t *payload, enum field_name first, enum field_name last)
 {
     for (unsigned name = first; name <= last; name++) {
         const struct field *field = &FIELDS[name];
         const uint8_t *bytes = payload + field->offset;
-        bool good = field->sort == NUMBER ? little_endian(bytes, field->size) <= field->greatest
-            : field->sort == TEXT ? is_text(bytes, field->size)
-            : is_time(bytes);
+        bool good = field->sort == TEXT ? is_text(bytes, field->size)
+            : field->sort == TIME ? is_time(bytes)
+            : number_good(name, little_endian(bytes, field->size));
         if (!good)
             return false;
     }
@@ -697,6 +737,9 @@ struct layout {
     unsigned count;
 };
 
+/* Whether limits that are none have too few spaces, or too many. */
+enum { SPACES_PLANTED = FAULT == FIVE_SPACES_FOR_A_TORQUE || FAULT == SIX_SPACES_FOR_AN_ANGLE };
+
 static const struct row IDENTIFIER_ROWS[] = {
     { IDENTIFIER_TEXT, 25 }, { BLANK, 25 }, { BLANK, 25 }, { BLANK, 25 }
 };
@@ -707,7 +750,8 @@ static const struct row RESULT_ROWS[] = {
     { TIGHTENING_STATUS, 1 }, { TORQUE_STATUS, 1 }, { ANGLE_STATUS, 1 },
     { TORQUE_MIN, 6 }, { TORQUE_MAX, 6 }, { TORQUE_TARGET, 6 }, { TORQUE, 6 },
     { ANGLE_MIN, 5 }, { ANGLE_MAX, 5 }, { ANGLE_TARGET, 5 }, { ANGLE, 5 },
-    { TIGHTENED_AT, 19 }, { SET_CHANGED_AT, 19 }, { BATCH_STATUS, 1 }, { RESULT_NUMBER, 10 }
+    { TIGHTENED_AT, 19 }, { SET_CHANGED_AT, 19 }, { BATCH_STATUS, 1 },
+    { FAULT == NUMBER_BLANK_IN_0061 ? NUMBER_OR_NONE : RESULT_NUMBER, 10 }
 };
 
 /* 0061 from revision 2 on, which rearranges the fields: 000, Tables 22 to 26. */
@@ -724,11 +768,11 @@ static const struct row LATER_RESULT_ROWS[] = {
     { UNREPORTED, 10 },                                      /* 20: what went wrong */
     { TORQUE_MIN, 6 }, { TORQUE_MAX, 6 }, { TORQUE_TARGET, 6 }, { TORQUE, 6 },
     { ANGLE_MIN, 5 }, { ANGLE_MAX, 5 }, { ANGLE_TARGET, 5 }, { ANGLE, 5 },
-    { UNREPORTED, 5 }, { UNREPORTED, 5 }, { UNREPORTED, 5 }, /* 29: rundown angle, min and max before it */
-    { UNREPORTED, 3 }, { UNREPORTED, 3 }, { UNREPORTED, 3 }, /* 32: current */
-    { UNREPORTED, 6 }, { UNREPORTED, 6 }, { UNREPORTED, 6 }, /* 35: selftap torque */
-    { UNREPORTED, 6 }, { UNREPORTED, 6 }, { UNREPORTED, 6 }, /* 38: prevail torque */
-    { RESULT_NUMBER, 10 },
+    { UNREPORTED_LIMIT, 5 }, { UNREPORTED_LIMIT, 5 }, { UNREPORTED, 5 }, /* 29: rundown angle, min and max before it */
+    { UNREPORTED_LIMIT, 3 }, { UNREPORTED_LIMIT, 3 }, { UNREPORTED, 3 }, /* 32: current */
+    { UNREPORTED_LIMIT, 6 }, { UNREPORTED_LIMIT, 6 }, { UNREPORTED, 6 }, /* 35: selftap torque */
+    { UNREPORTED_LIMIT, 6 }, { UNREPORTED_LIMIT, 6 }, { UNREPORTED, 6 }, /* 38: prevail torque */
+    { FAULT == NUMBER_BLANK_IN_0061 ? NUMBER_OR_NONE : RESULT_NUMBER, 10 },
     { UNREPORTED, 5 }, { UNREPORTED, 5 }, /* 42: numbers of the job's sequence and of synchronous tightenings */
     { UNREPORTED_TEXT, 14 },              /* 44: the tool's serial number */
     { TIGHTENED_AT, 19 }, { SET_CHANGED_AT, 19 },
@@ -740,6 +784,7 @@ static const struct row LATER_RESULT_ROWS[] = {
 
 /* So many of these rows has a revision. */
 static const unsigned LATER_RESULT_COUNTS[] = {
+    [1] = 23, /* planted */
     [2] = FAULT == REVISION_2_OF_49_FIELDS ? 49 : 46, [3] = 49,
     [4] = FAULT == REVISION_4_OF_53_FIELDS ? 53 : 52, [5] = 53, [6] = 55,
     [7] = 55 /* planted */
@@ -748,7 +793,7 @@ static const unsigned LATER_RESULT_COUNTS[] = {
 static_assert(sizeof LATER_RESULT_ROWS / sizeof LATER_RESULT_ROWS[0] == 55, "revision 6 has all of them");
 
 static const struct row OLD_RESULT_ROWS[] = {
-    { RESULT_NUMBER, 10 }, { IDENTIFIER_TEXT, 25 }, { PARAMETER_SET, 3 },
+    { FAULT == NUMBER_BLANK_IN_0065 ? NUMBER_OR_NONE : RESULT_NUMBER, 10 }, { IDENTIFIER_TEXT, 25 }, { PARAMETER_SET, 3 },
     { FAULT == BATCH_SIZE_FOR_COUNTER ? BATCH_SIZE : BATCH_COUNTER, 4 },
     { TIGHTENING_STATUS, 1 }, { TORQUE_STATUS, 1 }, { ANGLE_STATUS, 1 },
     { TORQUE, 6 }, { ANGLE, 5 }, { TIGHTENED_AT, 19 }, { BATCH_STATUS, 1 }
@@ -779,16 +824,24 @@ static char filling(enum sort sort)
     return sort == SPACES ? ' ' : sort == ZEROS ? '0' : sort == ONES ? '1' : 0;
 }
 
+static void add_number(struct frame *frame, const struct row *row, uint32_t value)
+{
+    if (is_none(row->name, value) && FAULT != NONE_AS_ITS_DIGITS)
+        add_filling(frame, FAULT == UNDERSCORES_FOR_NONE ? '_' : ' ', row->width);
+    else
+        add_digits(frame, row->width, value);
+}
+
 static void add_field(struct frame *frame, const struct row *row, const uint8_t *const *sources)
 {
     const struct field *field = &FIELDS[row->name];
     const uint8_t *bytes = sources[field->source] + field->offset;
     if (filling(field->sort) != 0)
         add_filling(frame, FAULT == PARTS_ZERO_FILLED ? '0' : filling(field->sort), row->width);
-    else if (field->sort == NUMBER)
-        add_digits(frame, row->width, little_endian(bytes, field->size));
-    else
+    else if (field->sort == TEXT || field->sort == TIME)
         add_bytes(frame, bytes, row->width);
+    else
+        add_number(frame, row, little_endian(bytes, field->size));
 }
 
 static void add_fields(struct frame *frame, const struct layout *layout,
@@ -803,19 +856,65 @@ static void add_fields(struct frame *frame, const struct layout *layout,
     }
 }
 
+/* Where the data field of revision 1 has a field, and how wide it is there. */
+struct told {
+    size_t at;
+    unsigned width;
+};
+
+static struct told told_in_1(enum field_name name)
+{
+    const struct row *row = RESULT_ROWS;
+    size_t at = 2; /* behind the first field's number */
+    for (; row->name != name; row++)
+        at += row->width + 2;
+    return (struct told){ at, row->width };
+}
+
+/* Planted: is this field of a result, which is held as that data field, a limit that is none? */
+static bool none_in(const uint8_t *result, enum field_name name)
+{
+    struct told told = told_in_1(name);
+    return FIELDS[name].sort == LIMIT && all_spaces(result + told.at, told.width);
+}
+
+static bool some_none_in(const uint8_t *result)
+{
+    for (unsigned name = TORQUE_MIN; name <= ANGLE_TARGET; name++)
+        if (none_in(result, name))
+            return true;
+    return false;
+}
+
+/* Planted: a result's limits that are none become zeros. */
+static void put_zeros(uint8_t *result)
+{
+    for (unsigned name = TORQUE_MIN; name <= ANGLE_TARGET; name++)
+        if (none_in(result, name))
+            memset(result + told_in_1(name).at, '0', told_in_1(name).width);
+}
+
+/* Planted: the torque becomes spaces where its three limits are. */
+static void blank_torque(uint8_t *result)
+{
+    if (none_in(result, TORQUE_MIN) && none_in(result, TORQUE_MAX) && none_in(result, TORQUE_TARGET))
+        memset(result + told_in_1(TORQUE).at, ' ', told_in_1(TORQUE).width);
+}
+
 /* A field of a later revision out of the data field of revision 1: as it stands there, with
    zeros before it where it is wider now. */
 static void add_again(struct frame *frame, const struct row *row, const uint8_t *result)
 {
-    const struct row *told = RESULT_ROWS;
-    const uint8_t *bytes = result + 2; /* behind the first field's number */
-    for (; told->name != row->name; told++)
-        bytes += told->width + 2;
+    struct told told = told_in_1(row->name);
+    if (SPACES_PLANTED && none_in(result, row->name)) {
+        add_filling(frame, ' ', FAULT == FIVE_SPACES_FOR_A_TORQUE ? 5 : 6);
+        return;
+    }
     if (FAULT != JOB_FILLED_BEHIND)
-        add_filling(frame, '0', row->width - told->width);
-    add_bytes(frame, bytes, told->width);
+        add_filling(frame, '0', row->width - told.width);
+    add_bytes(frame, result + told.at, told.width);
     if (FAULT == JOB_FILLED_BEHIND)
-        add_filling(frame, '0', row->width - told->width);
+        add_filling(frame, '0', row->width - told.width);
 }
 
 /* Planted: the tightening number, field 41, comes behind the two times, as in revision 1. */
@@ -827,13 +926,15 @@ static unsigned in_place(unsigned i)
 /* What a revision of 0061 tells of a result, which is held as the data field of revision 1. */
 static void add_result(struct frame *frame, unsigned revision, const uint8_t *result)
 {
-    if (revision == 1) {
+    if (revision == 1 && !SPACES_PLANTED) {
         add_bytes(frame, result, RESULT_BYTES);
         return;
     }
     for (unsigned i = 0; i < LATER_RESULT_COUNTS[revision]; i++) {
-        const struct row *row = &LATER_RESULT_ROWS[in_place(i)];
+        const struct row *row = revision == 1 ? &RESULT_ROWS[i] : &LATER_RESULT_ROWS[in_place(i)];
         char filled = filling(FIELDS[row->name].sort);
+        if (FAULT == UNREPORTED_LIMITS_BLANK && row->name == UNREPORTED_LIMIT && some_none_in(result))
+            filled = ' ';
         add_digits(frame, 2, i + 1);
         if (filled != 0)
             add_filling(frame, filled, row->width);
@@ -930,12 +1031,26 @@ static unsigned told_in(const struct subscription *part, enum kind kind)
     return in_1 && kind == TIGHTENING ? 1 : part->revision;
 }
 
+/* Planted: are limits that are none told as zeros here? */
+static bool zeros_for_none(const struct subscription *part, unsigned revision)
+{
+    return (FAULT == NONE_AS_ZEROS_IN_REVISION_1 && revision == 1)
+        || (FAULT == NONE_AS_ZEROS_IN_REVISION_5 && revision == 5)
+        || (FAULT == NONE_AS_ZEROS_IN_COPIES && part->clock > 0);
+}
+
 /* Puts out a copy of a notice: an identifier, a result, or an alarm. */
 static void send_notice(const struct state *state, unsigned s, enum kind kind,
                         const uint8_t *notice, struct output *output)
 {
     const struct subscription *part = &state->session[s].subscription[kind];
     unsigned revision = told_in(part, kind);
+    uint8_t altered[RESULT_BYTES];
+    if (kind == TIGHTENING && zeros_for_none(part, revision)) {
+        memcpy(altered, notice, RESULT_BYTES);
+        put_zeros(altered);
+        notice = altered;
+    }
     bool header_of_1 = FAULT == REVISION_1_IN_THE_HEADER && kind == TIGHTENING;
     struct frame frame = begin_frame(KIND_RULES[kind].notice, header_of_1 ? 1 : revision,
                                      part->free ? '1' : '0');
@@ -1025,6 +1140,8 @@ static void hold(struct state *state, unsigned s, enum kind kind, const uint8_t 
     struct session *session = &state->session[s];
     struct subscription *part = &session->subscription[kind];
     memcpy(notices(session, kind) + part->count * KIND_RULES[kind].bytes, notice, KIND_RULES[kind].bytes);
+    if (FAULT == NONE_AS_ZEROS_WHEN_WAITED && kind == TIGHTENING && part->count > 0)
+        put_zeros(notices(session, kind) + part->count * RESULT_BYTES);
     part->count += 1;
     if (FAULT == ARRIVAL_RESETS_CLOCK)
         part->clock = 0;
@@ -1077,6 +1194,17 @@ static uint64_t identifier_event(struct state *state, const uint8_t *identifier,
     return offer_all(state, IDENTIFIER, identifier, left_out, output);
 }
 
+/* Planted: where one of the six limits is none, all are. */
+static void spread_none(uint8_t *tightening)
+{
+    bool some = false;
+    for (unsigned name = TORQUE_MIN; name <= ANGLE_TARGET; name++)
+        some |= is_none(name, number_in(tightening, name));
+    for (unsigned name = TORQUE_MIN; some && name <= ANGLE_TARGET; name++)
+        if (FIELDS[name].sort == LIMIT)
+            put_number_in(tightening, name, LIMIT_NONE);
+}
+
 /* A tightening that has come, told by the data field of a layout: with the next number, and the
    tool's own identifier or, where that is all spaces, the one in force. `late` is the planted
    fault that puts in the latter only when the field is sent. */
@@ -1089,6 +1217,8 @@ static struct frame tell(const struct layout *layout, const struct state *state,
     if (all_spaces(told, TEXT_BYTES) && FAULT != (int)late)
         memcpy(told, state->in_force, TEXT_BYTES);
     put_number_in(told, RESULT_NUMBER, number_in(state->settings, LAST) + 1);
+    if (FAULT == ONE_NONE_FOR_ALL)
+        spread_none(told);
     add_fields(&data, layout, state->settings, told);
     return data;
 }
@@ -1102,10 +1232,12 @@ static uint64_t tightening_event(struct state *state, const uint8_t *tightening,
     struct frame old_result = tell(&OLD_RESULT_1, state, tightening, STAMPED_WHEN_FETCHED);
     uint32_t number = number_in(state->settings, LAST) + 1;
     assert(result.length == RESULT_BYTES);
+    if (FAULT == TORQUE_BLANK_WITH_ITS_LIMITS)
+        blank_torque(result.bytes);
     uint64_t taken = offer_all(state, TIGHTENING, result.bytes, SESSIONS, output);
     if (FAULT != NUMBER_ONLY_WHEN_TAKEN || taken != 0)
         put_number_in(state->settings, LAST, number);
-    if (FAULT != UNTAKEN_NOT_KEPT || taken != 0)
+    if ((FAULT != UNTAKEN_NOT_KEPT || taken != 0) && !(FAULT == NONE_NOT_KEPT && some_none_in(result.bytes)))
         keep(&state->memory, old_result.bytes);
     return taken;
 }

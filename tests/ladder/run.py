@@ -288,6 +288,26 @@ def test_revisions():
         "subscribe to tightenings, revision 007", "not accepted: 0060, error 97: revision not supported"])
 
 
+def test_missing_limits():
+    """Limits that were never set are named beside a tightening, in every revision, at the copies too, and as text in the SVG; those that
+    are set, be it to 0, are not. What was fetched has no limits, and a refused record names what it lacks all the same."""
+    none = {what: " ".join("%s_%s=none" % (what, which) for which in openprotocol.LIMITS) for what in ("torque", "angle")}
+    for missing, words in (("", ""), ("torque_min=0 angle_max=0", ""), (none["angle"], ", no angle window"),
+                           (none["torque"], ", no torque window"), (" ".join(none.values()), ", no torque window, no angle window"),
+                           ("angle_min=none torque_target=none", ", no torque target, no angle min"),
+                           ("torque_max=none angle_max=none angle_target=none", ", no torque max, no angle max, no angle target")):
+        for revision in openprotocol.RESULT_REVISIONS:
+            data = made(subscribed_in(revision) + "tightening torque=4210 %s\n" % missing + fetch(0, 1) + TWENTY_TICKS)
+            text, told = draw(data), 'tightening 1, "", 42.10 Nm%s, OK' % words
+            expect("%s in revision %d" % (missing, revision), [label for label in labels(text) if "Nm" in label], [
+                "1: 42.10 Nm%s, OK, taken by 0" % words, "notice 1, copy 1 of 2: " + told, 'old tightening 1, "", 42.10 Nm, OK'])
+            expect("told at the end of it", told_at_the_end(text).startswith("notice 1 (0061 %s) to server 0, 2 copies" % told), True)
+        shown = ["".join(text.itertext()) for text in xml.etree.ElementTree.fromstring(draw(data, "--svg")).iter(SVG + "text")]
+        expect("in the SVG", "0061 notice 1, copy 1 of 2: " + told in " ".join(shown), True)
+    bad = draw(made(SUBSCRIBED + "tightening torque=1000000 %s\n" % none["angle"]))
+    expect("refused", labels(bad)[-1], "10000.00 Nm, no angle window, OK; refused, 7: tool record bad")
+
+
 def test_numbers_of_revisions():
     """A 0061 that tells of another tightening than the next is found out in every revision; one of a revision that has no layout here is
     taken as it is."""

@@ -3,10 +3,12 @@
 Each case is house records and the lines that documents 01 and 02 ask for, reckoned here from
 their rules for one session that talks alone, and from 01's arithmetic of ticks for several."""
 
+import itertools
+
 import openprotocol
 import places
-from house_records import (ALARM, BYTES, GREATEST_NUMBER, NUMBER, OPEN, PAYLOADS, SCANNED, SETTINGS, TEXT, TICK, TIGHTENING, fields_of,
-                           filled, record)
+from house_records import (ALARM, BYTES, GREATEST_NUMBER, LIMIT, NUMBERS, OPEN, PAYLOADS, SCANNED, SETTINGS, TEXT, TICK, TIGHTENING,
+                           fields_of, filled, record)
 from openprotocol import ACCEPTED, IDENTIFIER, OLD_RESULT, REFUSED, RESULT, STARTED, write
 
 GOOD_SETTINGS = {"cell": 12, "channel": 3, "granted": 1, "name": filled("LINE4"), "last": 41}
@@ -20,6 +22,7 @@ RULES = {1: (20, 20, 1), 3: (20, 20, None), 50: (21, 45, 1), 51: (20, 20, 2), 53
          70: (20, 20, 1), 72: (20, 20, None), 73: (20, 20, None), 9999: (20, 20, None)}
 RESULT_REVISIONS = range(1, 7)  # of 0061
 KEPT = 64  # tightenings
+LIMITS = [name for name, item in PAYLOADS[TIGHTENING].items.items() if item.sort == LIMIT]
 SUBSCRIBED, NOT_SUBSCRIBED = {51: 6, 60: 9, 70: 11}, {54: 7, 63: 10, 73: 12}
 SUBSCRIPTION = {51: 51, 54: 51, 60: 60, 63: 60, 70: 70, 73: 70}
 ACKNOWLEDGES = (53, 62, 72)
@@ -42,7 +45,9 @@ def is_time(text):
 def is_good(record_kind, fields):
     """Whether a record of that kind may have these fields."""
     def good(item, value):
-        return value <= item.greatest if item.sort == NUMBER else is_text(value) if item.sort == TEXT else is_time(value)
+        if item.sort == LIMIT and value is None:
+            return True
+        return value <= item.greatest if item.sort in NUMBERS else is_text(value) if item.sort == TEXT else is_time(value)
 
     return all(good(item, fields[name]) for name, item in PAYLOADS[record_kind].items.items())
 
@@ -112,6 +117,10 @@ class Steps(Case):
 
     def __init__(self, **named):
         super().__init__()
+        self.begin(**named)
+
+    def begin(self, **named):
+        """A start with these settings."""
         self.settings = {**GOOD_SETTINGS, **named}
         self.number = self.settings["last"]
         self.give(SETTINGS, self.settings)
@@ -119,8 +128,8 @@ class Steps(Case):
         self.say(1)
         self.expect(write(STARTED, self.settings))
 
-    def say(self, mid, *header):
-        self.put(BYTES, message(mid, *header) + b"\0")
+    def say(self, mid, *header, **named):
+        self.put(BYTES, message(mid, *header, **named) + b"\0")
 
     def accepted(self, mid, *header):
         self.say(mid, *header)
@@ -403,7 +412,7 @@ def kept_values():
     case = Alone()
     case.begin()
     for name, item in PAYLOADS[TIGHTENING].items.items():
-        for number in near(item) if item.sort == NUMBER else ():
+        for number in near(item) if item.sort in NUMBERS else ():
             case.tighten(tightening_fields(**{name: number}))
             case.send(message(64, data=NEWEST))
     return case.named("numbers of the tool at their limits, fetched")
@@ -436,11 +445,12 @@ def alarm_bytes():
 
 
 def near(item):
-    """Numbers about the greatest, and those that look good when bytes of them are left out."""
-    limit, bits = item.greatest, 8 * item.size
-    small = {0, 1, 9, 10, limit - 1, limit, limit + 1, limit * 2}
-    far = {limit + (1 << shift) for shift in range(0, bits)} | {1 << shift for shift in range(bits)} | {(1 << bits) - 1}
-    return sorted(number for number in small | far if 0 <= number < 1 << bits)
+    """Numbers about the greatest, those that look good when bytes of them are left out, and those about the last, which a limit is none
+    by."""
+    greatest, bits = item.greatest, 8 * item.size
+    small = {0, 1, 9, 10, greatest - 1, greatest, greatest + 1, greatest * 2}
+    far = {value for shift in range(bits) for value in (greatest + (1 << shift), 1 << shift, (1 << bits) - (1 << shift), (1 << shift) - 1)}
+    return [item.unpacked(number) for number in sorted(small | far) if 0 <= number < 1 << bits]
 
 
 def tool_numbers():
@@ -451,7 +461,7 @@ def tool_numbers():
     for revision in RESULT_REVISIONS:
         case.send(subscribe_results(revision))
         for name, item in PAYLOADS[TIGHTENING].items.items():
-            for number in near(item) if item.sort == NUMBER else ():
+            for number in near(item) if item.sort in NUMBERS else ():
                 case.tighten(tightening_fields(**{name: number}))
         case.send(message(63))
     return case.named("numbers of the tool at their limits")
@@ -459,7 +469,7 @@ def tool_numbers():
 
 def telling_fields():
     """Tightenings of which no two fields are alike, or of which all numbers are at one of their ends."""
-    numbers = [name for name, item in PAYLOADS[TIGHTENING].items.items() if item.sort == NUMBER]
+    numbers = [name for name, item in PAYLOADS[TIGHTENING].items.items() if item.sort in NUMBERS]
     limits = {name: PAYLOADS[TIGHTENING].items[name].greatest for name in numbers}
     different = dict(
         identifier=b"ABCDEFGHIJKLMNOPQRSTUVWXY", job=42, parameter_set=987, batch_size=1234, batch_counter=5678,
@@ -486,6 +496,25 @@ def places_of_results():
     return case.named("0061 at the documents' places")
 
 
+def limits_never_set():
+    """Each choice of the six limits as none, in each revision, where the documents print their places; the others have all digits
+    different, or are at their greatest. The last number of a revision is the greatest that there is, which is told in digits. 0065 has
+    no limit."""
+    choices = [chosen for count in range(len(LIMITS) + 1) for chosen in itertools.combinations(LIMITS, count)]
+    tightenings = telling_fields()[1:3]
+    case = Steps()
+    for revision in RESULT_REVISIONS:
+        case.begin(last=GREATEST_NUMBER - len(choices) * len(tightenings))
+        case.accepted(60, b"%03d" % revision, b"1")
+        for chosen in choices:
+            for fields in tightenings:
+                told = case.tighten({**fields, **dict.fromkeys(chosen, None)})
+                case.expect(places.result(revision, b"1", told))
+                case.say(64, data=NEWEST)
+                case.expect(write(OLD_RESULT, told))
+    return case.named("limits that were never set")
+
+
 def places_of_alarms():
     """0071 with each field where the documents print its place."""
     case = Steps()
@@ -501,13 +530,19 @@ def places_of_alarms():
     return case.named("0071 at the documents' places")
 
 
+def some_never_set(number, **named):
+    """The fields of a tightening, of which some limits are none, by its number: from one to all six."""
+    return tightening_fields(**named, **dict.fromkeys(LIMITS[number % len(LIMITS):], None))
+
+
 def subscribed_anew():
     """From each revision to each: a result is open and one waits, the subscription is ended, and taken up again in the other."""
     case = Steps()
 
     def result(revision):
         """The frame of the next tightening."""
-        return notice(RESULT, (revision, False), case.tighten(tightening_fields(identifier=b"T%d" % case.number, torque=case.number)))
+        fields = some_never_set(case.number, identifier=b"T%d" % case.number, torque=case.number)
+        return notice(RESULT, (revision, False), case.tighten(fields))
 
     for before in RESULT_REVISIONS:
         for after in RESULT_REVISIONS:
@@ -536,7 +571,7 @@ def settings():
     good = {"cell": 1, "channel": 2, "granted": 1, "name": b"NAME OF THE CONTROLLER 25", "last": 0}
     tried = [dict(good, name=text) for text in altered(good["name"])]
     for name, item in PAYLOADS[SETTINGS].items.items():
-        if item.sort == NUMBER:
+        if item.sort in NUMBERS:
             tried += [dict(good, **{name: number}) for number in (range(256) if item.size == 1 else near(item))]
     for one in tried:
         case.give(SETTINGS, one)
@@ -633,7 +668,7 @@ def nothing_acknowledged():
     four_subscribed(case, revisions)
     results = [[] for _ in revisions]
     for number in range(LAST + 1, LAST + 10):
-        fields = tightening_fields(identifier=b"T%d" % number, torque=number)
+        fields = some_never_set(number, identifier=b"T%d" % number, torque=number)
         case.give(TIGHTENING, fields)
         for s, revision in enumerate(revisions):
             results[s].append(result_frame((revision, False), fields, fields["identifier"], number))
@@ -663,8 +698,8 @@ def nothing_acknowledged():
 
 
 BY_RULE = [message_numbers, header_bytes, revisions, downloads, downloads_not_granted, fetches, numbers_asked, numbers_asked_from_0,
-           numbers_asked_at_the_end, kept_values, tool_texts, alarm_bytes, tool_numbers, places_of_results, places_of_alarms, settings,
-           record_lengths, record_kinds, subscribed_anew, fullest_output, nothing_acknowledged]
+           numbers_asked_at_the_end, kept_values, tool_texts, alarm_bytes, tool_numbers, places_of_results, limits_never_set,
+           places_of_alarms, settings, record_lengths, record_kinds, subscribed_anew, fullest_output, nothing_acknowledged]
 
 
 def cases():

@@ -44,9 +44,11 @@ ALARM = ((1, 21, 23, 26, "code"), (2, 27, 29, 29, "controller_ready"), (3, 30, 3
 
 
 def written(what, width, values):
-    """The value of that name, or what fills the field."""
+    """The value of that name, or what fills the field; a limit that is none is spaces (02, P6)."""
     if what in (ZEROS, NM):
         return what * width
+    if values[what] is None:
+        return b" " * width
     return b"%0*d" % (width, values[what]) if isinstance(values[what], int) else values[what].ljust(width)
 
 
