@@ -32,7 +32,7 @@ from house_records import (ALARM, BYTES, HANG_UP, LIMIT, NUMBERS, OPEN, PAYLOADS
 
 WORDS = {SETTINGS: "settings", SCANNED: "scan", TIGHTENING: "tightening", ALARM: "alarm"}  # with which a line of values begins
 IN_ORDER = (SETTINGS, SCANNED)  # all values stand there, without their names
-NEVER_SET = "none"  # a limit
+NONE = "none"  # a limit
 
 STRING = r'"(?:[^"\\]|\\.)*"'
 TOKEN = re.compile(rf"\s*([a-z_]+=(?:{STRING}|\S+)|{STRING}(?:\*\d+)?|\S+)")
@@ -76,7 +76,7 @@ def quote(data):
 
 
 def read_value(item, text):
-    if item.sort == LIMIT and text == NEVER_SET:
+    if item.sort == LIMIT and text == NONE:
         return None
     if item.sort in NUMBERS:
         return int(text)
@@ -85,7 +85,7 @@ def read_value(item, text):
 
 def show_value(item, value):
     if item.sort in NUMBERS:
-        return NEVER_SET if value is None else "%d" % value
+        return NONE if value is None else "%d" % value
     return quote(value)
 
 

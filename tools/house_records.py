@@ -17,7 +17,7 @@ GREATEST_NUMBER = 4294967295  # of a tightening
 
 NUMBER, LIMIT, TEXT, TIME = "number", "limit", "text", "time"  # sorts of items; a limit is a number, or None where none was set
 NUMBERS = (NUMBER, LIMIT)  # of which the bytes are a number
-LIMIT_NONE = 4294967295  # that of a limit that is None
+NEVER_SET = 4294967295  # that of a limit that is None
 TEXT_SIZE, TIME_SIZE, CODE_SIZE = 25, 19, 4  # an alarm's code is a short text
 NUMBER_FORMS = {1: "B", 2: "H", 4: "I"}  # of struct, by their bytes
 
@@ -35,11 +35,11 @@ class Item:
 
     def packed(self, value):
         if self.sort == LIMIT and value is None:
-            return LIMIT_NONE
+            return NEVER_SET
         return value if self.sort in NUMBERS else filled(value, self.size)
 
     def unpacked(self, value):
-        return None if self.sort == LIMIT and value == LIMIT_NONE else value
+        return None if self.sort == LIMIT and value == NEVER_SET else value
 
 
 def filled(value, size=TEXT_SIZE):

@@ -47,7 +47,7 @@ enum {
     RECORD_BAD, NUMBERS_USED_UP, SETTINGS_BAD, ANSWER_SHORT
 };
 
-#define LIMIT_NONE UINT32_MAX /* in a tightening record: no such limit was set */
+#define NEVER_SET UINT32_MAX /* in a tightening record: no such limit was set */
 
 /* ---- the table */
 
@@ -359,12 +359,12 @@ static void make_result(uint8_t *result, const struct table *table, const uint8_
     result[93] = digit(payload[34]);
     for (unsigned i = 0; i < 4; i++) {
         uint32_t torque = four(payload + 35 + 4 * i);
-        if (torque != LIMIT_NONE)
+        if (torque != NEVER_SET)
             put_6(result + 96 + 8 * i, torque);
     }
     for (unsigned i = 0; i < 4; i++) {
         uint32_t angle = four(payload + 51 + 4 * i);
-        if (angle == LIMIT_NONE)
+        if (angle == NEVER_SET)
             continue;
         result[128 + 7 * i] = digit(angle / 10000);
         put_4(result + 129 + 7 * i, angle % 10000);

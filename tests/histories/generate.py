@@ -19,7 +19,7 @@ import sys
 
 sys.path.insert(0, os.path.join(os.path.dirname(os.path.abspath(__file__)), "..", "..", "tools"))
 
-from house_records import (ALARM, BYTES, CODE_SIZE, GREATEST_NUMBER, HANG_UP, LIMIT, LIMIT_NONE, NUMBERS, OPEN,  # noqa: E402
+from house_records import (ALARM, BYTES, CODE_SIZE, GREATEST_NUMBER, HANG_UP, LIMIT, NEVER_SET, NUMBERS, OPEN,  # noqa: E402
                            PAYLOAD_LONGEST, PAYLOADS, SCANNED, SETTINGS, TEXT, TICK, TIGHTENING, record)
 from openprotocol import message  # noqa: E402
 
@@ -174,7 +174,7 @@ class History:
         if item.sort == TEXT:
             return b"" if self.chance(0.5) else self.text()
         if item.sort == LIMIT and self.chance(0.03):
-            return LIMIT_NONE & 0xFFFF  # half of its bits
+            return NEVER_SET & 0xFFFF  # half of its bits
         if item.sort in NUMBERS:
             return self.number(item.greatest) if item.greatest > 9 else self.between(0, item.greatest)
         return self.time()
@@ -419,7 +419,7 @@ class History:
     def bad_value(self, item, value):
         """A number out of its range, by one or as far as can be, or as a digit, or a wrong byte in a text or a time."""
         if item.sort in NUMBERS:
-            farthest = LIMIT_NONE - 1 if item.sort == LIMIT else (1 << 8 * item.size) - 1
+            farthest = NEVER_SET - 1 if item.sort == LIMIT else (1 << 8 * item.size) - 1
             return self.pick((item.greatest + 1, item.greatest + 1, farthest, ord("0") + value if item.greatest < 10 else farthest))
         text = bytearray(item.packed(value))
         where = self.between(0, item.size - 1)

@@ -15,7 +15,7 @@ from dataclasses import dataclass
 
 import generate  # which puts tools on the path
 from generate import LIMITS
-from house_records import (ALARM, BYTES, GREATEST_NUMBER, HANG_UP, LIMIT, LIMIT_NONE, OPEN, PAYLOADS, SCANNED, SETTINGS, TICK, TIGHTENING,
+from house_records import (ALARM, BYTES, GREATEST_NUMBER, HANG_UP, LIMIT, NEVER_SET, OPEN, PAYLOADS, SCANNED, SETTINGS, TICK, TIGHTENING,
                            fields_of, record, split)
 from openprotocol import LAYOUTS, RESULT
 
@@ -240,7 +240,7 @@ class Results:
         """With which torques, angles and limits it is refused, and with which limits at an edge it is not."""
         for name, item in PAYLOADS[TIGHTENING].items.items() if fields else ():
             value, of = fields[name], "a limit" if item.sort == LIMIT else "its " + name
-            if "R 7" in lines and item.size == 4 and value in (item.greatest + 1, LIMIT_NONE - 1, LIMIT_NONE):
+            if "R 7" in lines and item.size == 4 and value in (item.greatest + 1, NEVER_SET - 1, NEVER_SET):
                 self.times["a tightening gets 7 for %s of %s" % (of, format(value, ","))] += 1
             elif item.sort == LIMIT and value in (item.greatest, 65535) and not any(line.startswith("R ") for line in lines):
                 self.times["a limit of %s" % format(value, ",")] += 1

@@ -134,8 +134,9 @@ IN_HOST = [
      'memcmp(text + 4, "0076", 4) == 0'),
     ("a fault of the demo's at another time", "the-demo", "demo.c", "write_time(now, time(NULL));\n    begin(SERIFLADDER_ALARM,",
      "write_time(now, 0);\n    begin(SERIFLADDER_ALARM,"),
-    ("the demo's missing limits told as 0", "the-demo", "demo.c",
-     "#define NO_WINDOW { SERIFLADDER_NEVER_SET, SERIFLADDER_NEVER_SET, SERIFLADDER_NEVER_SET }", "#define NO_WINDOW { 0, 0, 0 }"),
+    ("the demo's missing limits told as 0", "the-demo", "demo.c", "static void add_window(const struct window *window)\n{\n",
+     "static void add_window(const struct window *window)\n{\n    static const struct window ZEROS;\n"
+     "    window = is_set(window->least) ? window : &ZEROS;\n"),
     ("a target in the demo's missing window", "the-demo", "demo.c", "SERIFLADDER_NEVER_SET, SERIFLADDER_NEVER_SET }",
      "SERIFLADDER_NEVER_SET, 90 }"),
     ("the demo's angles all held against one window", "the-demo", "demo.c", "status(angle, &program->angle)",
@@ -263,7 +264,7 @@ IN_TOOLS = [
     ("missing limits of the torque not drawn", "missing-limits-are-drawn", "ladder_rows.py",
      '    for what in ("torque", "angle"):\n        words +=', '    for what in ("angle",):\n        words +='),
     ("a missing limit of a record read as a number", "missing-limits-are-drawn", "house_records.py",
-     "return None if self.sort == LIMIT and value == LIMIT_NONE else value", "return value"),
+     "return None if self.sort == LIMIT and value == NEVER_SET else value", "return value"),
 ]
 
 FAULTS = [(name, finder, folder + "/" + file, *edit) for folder, faults in (("host", IN_HOST), ("tools", IN_TOOLS))
@@ -316,8 +317,9 @@ def build(program, sources_name, file, text, options):
 
 
 def run_tests(host, replay, names, *more):
-    """The status of the tests, and what they printed."""
-    command = [sys.executable, os.path.join(HERE, "run.py"), "--host", host, "--replay", replay, "--only", ",".join(names), *more]
+    """The status of the tests, which wait no longer for what does not come than here is time for, and what they printed."""
+    command = [sys.executable, os.path.join(HERE, "run.py"), "--host", host, "--replay", replay, "--only", ",".join(names),
+               "--seconds", "5", *more]
     done = subprocess.run(command, stdout=subprocess.PIPE, encoding="utf-8", check=False)
     return done.returncode, done.stdout
 
@@ -331,7 +333,7 @@ def find(arguments):
     else:
         host = build(program, "SOURCES", file, text, options) or host
         more[1] = build(program + "-replay", "REPLAY_SOURCES", file, text, options) or more[1]
-    status, printed = run_tests(host, options.replay, [finder], "--seconds", "5", *more)
+    status, printed = run_tests(host, options.replay, [finder], *more)
     return finder, None if status == 0 else printed.partition("WRONG: ")[2].partition("\n")[0]
 
 

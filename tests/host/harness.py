@@ -27,7 +27,7 @@ sys.path[:0] = [TOOLS, os.path.join(HERE, "..", "histories")]
 
 import lent_table  # noqa: E402, F401
 import openprotocol  # noqa: E402
-from house_records import (ALARM, BYTES, GREATEST_NUMBER, HANG_UP, LIMIT, LIMIT_NONE, OPEN, PAYLOADS, SCANNED,  # noqa: E402, F401
+from house_records import (ALARM, BYTES, GREATEST_NUMBER, HANG_UP, LIMIT, NEVER_SET, OPEN, PAYLOADS, SCANNED,  # noqa: E402, F401
                            SETTINGS, TICK, TIGHTENING, fields_of, record, record_of, split)
 from openprotocol import message  # noqa: E402
 

@@ -356,7 +356,7 @@ def the_demo(place):
             equal(windows.setdefault(frame.fields["parameter_set"], window), window, "window of a program")
             for what in ("torque", "angle"):
                 least, greatest = frame.fields[what + "_min"], frame.fields[what + "_max"]
-                within = least is None or least <= frame.fields[what] <= greatest
+                within = (least is None or least <= frame.fields[what]) and (greatest is None or frame.fields[what] <= greatest)
                 equal(frame.fields[what + "_status"] == 1, within, "%s status of %s" % (what, frame.fields))
             if window == [None] * 3:
                 check(not 70 <= frame.fields["angle"] <= 110, "an angle within another program's window shows too little: %s", frame.fields)

@@ -12,7 +12,7 @@ import time
 
 import harness
 import tracing
-from harness import (BYTES, GOOD_SETTINGS, GREATEST_NUMBER, HANG_UP, LIMIT_NONE, LIMITS, OPEN, PAYLOADS, SCANNED, SETTINGS, TICK,
+from harness import (BYTES, GOOD_SETTINGS, GREATEST_NUMBER, HANG_UP, LIMITS, NEVER_SET, OPEN, PAYLOADS, SCANNED, SETTINGS, TICK,
                      TIGHTENING, WITH_SERIAL, InTime, check, done, equal, fields_of, identifier_record, in_memory, old_fields, openprotocol,
                      record, record_of, tell_and_acknowledge, test, tightening_fields, tightening_record, wait, with_serial)
 
@@ -78,8 +78,8 @@ def limits_never_set(place):
             server.close()
             place.wait_for_hang_up(session, ended + 1)
     equal(number, GREATEST_NUMBER, "the last number")
-    bad = [("torque", LIMIT_NONE), ("angle", LIMIT_NONE)]
-    bad += [(name, number) for name in LIMITS for number in (PAYLOADS[TIGHTENING].items[name].greatest + 1, LIMIT_NONE - 1)]
+    bad = [("torque", NEVER_SET), ("angle", NEVER_SET)]
+    bad += [(name, number) for name in LIMITS for number in (PAYLOADS[TIGHTENING].items[name].greatest + 1, NEVER_SET - 1)]
     for name, number in bad:
         equal(tool.give(tightening_record(tightening_fields(0, **{name: number}))), BAD, "answer to a %s of %d" % (name, number))
     check(tool.give(tightening_record(tightening_fields(0))).startswith("8 "), "there is a number behind the last")

@@ -49,7 +49,7 @@ enum {
 };
 
 #define LAST_NUMBER_GREATEST UINT32_C(4294967295)
-#define LIMIT_NONE UINT32_C(4294967295) /* in a record: no such limit was set */
+#define NEVER_SET UINT32_C(4294967295) /* in a record: no such limit was set */
 
 /* The numbers that a call answers. */
 enum {
@@ -400,30 +400,30 @@ static bool is_none(enum field_name name, uint32_t value)
         return false;
     switch (FAULT) {
     case TORQUE_LIMIT_999999_BLANK:
-        return value == LIMIT_NONE || value == 999999;
+        return value == NEVER_SET || value == 999999;
     case ANGLE_LIMIT_99999_BLANK:
-        return value == LIMIT_NONE || (value == 99999 && name >= ANGLE_MIN);
+        return value == NEVER_SET || (value == 99999 && name >= ANGLE_MIN);
     case BELOW_NONE_IS_NONE:
-        return value >= LIMIT_NONE - 1;
+        return value >= NEVER_SET - 1;
     case ABOVE_GREATEST_IS_NONE:
         return value > FIELDS[name].greatest;
     case NONE_BY_16_BITS:
-        return (uint16_t)value == (uint16_t)LIMIT_NONE;
+        return (uint16_t)value == (uint16_t)NEVER_SET;
     case NONE_REFUSED:
         return false;
     case ANGLE_LIMIT_NONE_REFUSED:
-        return value == LIMIT_NONE && name < ANGLE_MIN;
+        return value == NEVER_SET && name < ANGLE_MIN;
     case TARGET_NONE_REFUSED:
-        return value == LIMIT_NONE && name != TORQUE_TARGET && name != ANGLE_TARGET;
+        return value == NEVER_SET && name != TORQUE_TARGET && name != ANGLE_TARGET;
     default:
-        return value == LIMIT_NONE;
+        return value == NEVER_SET;
     }
 }
 
 static bool number_good(enum field_name name, uint32_t value)
 {
     return value <= FIELDS[name].greatest || is_none(name, value)
-        || (FAULT == BELOW_NONE_TAKEN && FIELDS[name].sort == LIMIT && value == LIMIT_NONE - 1);
+        || (FAULT == BELOW_NONE_TAKEN && FIELDS[name].sort == LIMIT && value == NEVER_SET - 1);
 }
 
 /* Are the fields of a payload good, from the first to the last? */
@@ -1202,7 +1202,7 @@ static void spread_none(uint8_t *tightening)
         some |= is_none(name, number_in(tightening, name));
     for (unsigned name = TORQUE_MIN; some && name <= ANGLE_TARGET; name++)
         if (FIELDS[name].sort == LIMIT)
-            put_number_in(tightening, name, LIMIT_NONE);
+            put_number_in(tightening, name, NEVER_SET);
 }
 
 /* A tightening that has come, told by the data field of a layout: with the next number, and the

@@ -302,8 +302,11 @@ def test_missing_limits():
             expect("%s in revision %d" % (missing, revision), [label for label in labels(text) if "Nm" in label], [
                 "1: 42.10 Nm%s, OK, taken by 0" % words, "notice 1, copy 1 of 2: " + told, 'old tightening 1, "", 42.10 Nm, OK'])
             expect("told at the end of it", told_at_the_end(text).startswith("notice 1 (0061 %s) to server 0, 2 copies" % told), True)
-        shown = ["".join(text.itertext()) for text in xml.etree.ElementTree.fromstring(draw(data, "--svg")).iter(SVG + "text")]
+        picture = xml.etree.ElementTree.fromstring(draw(data, "--svg"))
+        shown = ["".join(text.itertext()) for text in picture.iter(SVG + "text")]
         expect("in the SVG", "0061 notice 1, copy 1 of 2: " + told in " ".join(shown), True)
+        records = [title.text for title in picture.iter(SVG + "title") if title.text.startswith("tightening")]
+        expect("its record in the SVG", [made(line) in data for line in records], [True])
     bad = draw(made(SUBSCRIBED + "tightening torque=1000000 %s\n" % none["angle"]))
     expect("refused", labels(bad)[-1], "10000.00 Nm, no angle window, OK; refused, 7: tool record bad")
 
