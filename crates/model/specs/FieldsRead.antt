@@ -25,7 +25,7 @@ use Rattle.model.specs.Session.{Copy}
 abbrev pub read-number : List ℕ → Value
 read-number cs = cond (all is-digit cs) (counted (decimal cs)) (said cs)
 
--- 02, P6: of a limit, and where there are spaces alone it was never set
+-- 02, P6: of a limit what its digits give, none where there are spaces alone, and neither where they are mixed
 abbrev pub read-limit : List ℕ → Value
 read-limit cs =
     first (said cs) (all is-digit cs gives limited (some (decimal cs)) ∷ all is-space cs gives limited none ∷ [])

@@ -69,7 +69,7 @@ pub fn is_time(s: &[u8]) -> bool
 enum Item {
     // in how many bytes, and the greatest that is good
     Number(usize, u64),
-    // the greatest that is good, beside the one that means never set
+    // in LIMIT_LENGTH bytes: the greatest that is good, beside the one that means never set
     Limit(u64),
     // of how many bytes
     Text(usize),
@@ -172,6 +172,7 @@ fn item_length(item: Item) -> usize
     }
 }
 
+// Whether a limit is good: a number up to the greatest, or never set.
 fn good_limit(n: u64, greatest: u64) -> bool
     ensures { λ r. ⌜ r ≡ leb n greatest || eqb n never-set ⌝ }
 {
