@@ -9,7 +9,7 @@ use mathlib.Core.List.{List, [], _∷_, _++_}
 use lib.Dec.{eqb, leb}
 use lib.ListN.{length, take, drop, length-append, length-drop}
 use lib.Seq.{sets, length-sets}
-use borrow.Author.Tests.{eqb-false}
+use borrow.Author.Tests.{eqb-true, eqb-false, leb-false}
 use Rattle.model.specs.Events.{Notice}
 use Rattle.model.specs.Kinds.{Room, the-newest, up-to, kinds, room-of}
 use Rattle.model.specs.Notices.{act, news, takes}
@@ -125,6 +125,21 @@ fair r x = by-form (x .form)
     by-form Acknowledged =
         chosen (Fair x) (eqb (x .held) 0) (λ e. record { there = zero-le; last = λ q. refl; same = λ q. absurd (true≢false q) })
         (λ e. fair-busy r x (omega (arith, eqb-false (x .held) 0 e)))
+
+-- where so many are held at most and one more is, fewer were
+pub fewer-held : (m : ℕ) (x : Subscription) → 0 < m → is-held (taken (up-to m) x .take) ≡ true → x .held < m
+unfolding taken
+fewer-held m x some h = by-form (x .form) h
+  where
+    Few : Taken → Type 0
+    Few t = is-held (t .take) ≡ true → x .held < m
+
+    by-form : (f : Form) → Few (take-from f x (taken-busy (up-to m) x))
+    by-form Not = λ h. absurd (true≢false (sym h))
+    by-form Plain = λ h. absurd (true≢false (sym h))
+    by-form Acknowledged =
+        chosen Few (eqb (x .held) 0) (λ e h. let z = eqb-true (x .held) 0 e in omega arith)
+        (λ e. chosen Few (leb m (x .held)) (λ f h. absurd (true≢false (sym h))) (λ f h. let g = leb-false m (x .held) f in omega arith))
 
 -- ==== the whole event
 

@@ -1,22 +1,25 @@
 -- The slots that are held: they are well formed still, when there are fewer of them, when the first is gone, and when one more is there.
-use mathlib.Core.Path.{_≡_, refl, sym, ap, subst, _∙_}
+use mathlib.Core.Path.{_≡_, refl, sym, ap, ap₂, subst, _∙_}
 use Prim.Native.Nat.{ℕ, zero, suc, _+_, _*_, _≤_, zero-le}
 use native.Mathlib.Numerals.{add-one}
 use native.Mathlib.Omega.{arith}
-use mathlib.Core.Bool.{Bool, true, false, cond, _&&_, false≢true}
+use mathlib.Core.Bool.{Bool, true, false, cond, not, _&&_, and-eq-true-iff, false≢true}
 use mathlib.Core.List.{List, [], _∷_, _++_}
-use lib.Dec.{leb}
+use lib.Dec.{leb, eqb}
 use lib.ListN.{length, getD, take, drop, length-drop}
 use lib.Seq.{sets}
-use borrow.Author.Tests.{le-leb, lt-ltb, le-ltb, leb-true, leb-false, eqb-true}
+use borrow.Author.Tests.{le-leb, lt-ltb, le-ltb, leb-true, leb-false, eq-eqb, eqb-true}
 use Rattle.model.specs.Bytes.{within, all}
 use Rattle.model.specs.Kinds.{tightenings}
+use Rattle.model.specs.Events.{Notice}
 use Rattle.text.specs.Cells.{cells}
 use Rattle.text.proofs.Cells.{cells-prefix, cells-push}
 use Rattle.text.proofs.Lists.{all-same}
 use Rattle.places.specs.Places.{is-place}
+use Rattle.places.specs.Free.{lacks}
+use Rattle.session.specs.Meaning.{subscription-in}
 use Rattle.lane.specs.Kinds.{most, is-placed, slot-size, slot-formed, control-size, lane-size}
-use Rattle.lane.specs.Lane.{control-of, slots-formed, places-in, SlotsTested}
+use Rattle.lane.specs.Lane.{control-of, notices-in, slots-formed, lane-by, places-in, Lane, SlotsTested}
 
 abbrev every : List Bool → Bool
 every bs = all (λ (formed : Bool). formed) bs
@@ -112,3 +115,27 @@ pub places-there : (l : List ℕ) → length l ≡ lane-size tightenings → con
 unfolding slots-formed places-in
 places-there l s h f =
     sym (placed-formed (control-of l .held) (drop control-size l) (rw (length-drop control-size l) (omega arith))) ∙ f
+
+-- ==== what the slots mean does not hang on a place that none of them is
+
+agree-but : (read other : List ℕ → Notice) (q : ℕ) → ((slot : List ℕ) → (getD slot 0 0 ≡ q → ⊥) → read slot ≡ other slot)
+    → (n : ℕ) (d : List ℕ) → n ≤ length d → lacks q (take n d) ≡ true → cells read 1 n d ≡ cells other 1 n d
+unfolding cells
+agree-but read other q same zero d h e = refl
+agree-but read other q same (suc n) [] h e = absurd (omega arith)
+agree-but read other q same (suc n) (p ∷ d) h e =
+    let b = and-eq-true-iff (not (eqb p q)) (lacks q (take n d)) .0 e in
+    ap₂ _∷_ (same (p ∷ []) (λ z. not-equal (eqb p q) (b .0) (eq-eqb p q z))) (agree-but read other q same n d (omega arith) (b .1))
+  where
+    not-equal : (b : Bool) → not b ≡ true → b ≡ true → ⊥
+    not-equal true e f = false≢true e
+    not-equal false e f = false≢true f
+
+pub same-but : (read other : List ℕ → Notice) (q : ℕ) → ((slot : List ℕ) → (getD slot 0 0 ≡ q → ⊥) → read slot ≡ other slot)
+    → (l : List ℕ) → Lane tightenings l → control-of l .held ≤ most tightenings → lacks q (places-in l) ≡ true
+    → lane-by read tightenings l ≡ lane-by other tightenings l
+unfolding lane-by notices-in places-in
+same-but read other q same l lane few e =
+    let s = lane .size in
+    ap (subscription-in (control-of l))
+    (agree-but read other q same (control-of l .held) (drop control-size l) (rw (length-drop control-size l) (omega arith)) e)

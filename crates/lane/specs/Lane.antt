@@ -59,6 +59,13 @@ slots-formed kind held l = all (λ formed. formed) (cells (slot-formed kind) (sl
 unfoldable pub lane-by : (List ℕ → Notice) → ℕ → List ℕ → model.Subscription
 lane-by read kind l = subscription-in (control-of l) (notices-in read kind (control-of l .held) l)
 
+-- what the slots of each kind mean
+abbrev pub Reading : Type 0
+Reading = ℕ → List ℕ → Notice
+
+abbrev pub lane-of : Reading → ℕ → List ℕ → model.Subscription
+lane-of read kind l = lane-by (read kind) kind l
+
 -- 02, P7: the places that it has open or waiting, where its slots are places
 unfoldable pub places-in : List ℕ → List ℕ
 places-in l = take (control-of l .held) (drop control-size l)
