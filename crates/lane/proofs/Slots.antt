@@ -1,25 +1,25 @@
 -- The slots that are held: they are well formed still, when there are fewer of them, when the first is gone, and when one more is there.
 use mathlib.Core.Path.{_≡_, refl, sym, ap, ap₂, subst, _∙_}
-use Prim.Native.Nat.{ℕ, zero, suc, _+_, _*_, _≤_, zero-le}
+use Prim.Native.Nat.{ℕ, zero, suc, _+_, _*_, _≤_, _<_, zero-le}
 use native.Mathlib.Numerals.{add-one}
 use native.Mathlib.Omega.{arith}
 use mathlib.Core.Bool.{Bool, true, false, cond, not, _&&_, and-eq-true-iff, false≢true}
 use mathlib.Core.List.{List, [], _∷_, _++_}
 use lib.Dec.{leb, eqb}
-use lib.ListN.{length, getD, take, drop, length-drop}
-use lib.Seq.{sets}
+use lib.ListN.{length, getD, take, drop, length-drop, length-take}
+use lib.Seq.{sets, getD-take}
 use borrow.Author.Tests.{le-leb, lt-ltb, le-ltb, leb-true, leb-false, eq-eqb, eqb-true}
 use Rattle.model.specs.Bytes.{within, all}
 use Rattle.model.specs.Kinds.{tightenings}
 use Rattle.model.specs.Events.{Notice}
 use Rattle.text.specs.Cells.{cells}
 use Rattle.text.proofs.Cells.{cells-prefix, cells-push}
-use Rattle.text.proofs.Lists.{all-same}
+use Rattle.text.proofs.Lists.{all-at, all-same}
 use Rattle.places.specs.Places.{is-place}
 use Rattle.places.specs.Free.{lacks}
 use Rattle.session.specs.Meaning.{subscription-in}
 use Rattle.lane.specs.Kinds.{most, is-placed, slot-size, slot-formed, control-size, lane-size}
-use Rattle.lane.specs.Lane.{control-of, notices-in, slots-formed, lane-by, places-in, Lane, SlotsTested}
+use Rattle.lane.specs.Lane.{control-of, first-in, notices-in, slots-formed, lane-by, places-in, Lane, SlotsTested}
 
 abbrev every : List Bool → Bool
 every bs = all (λ (formed : Bool). formed) bs
@@ -115,6 +115,16 @@ pub places-there : (l : List ℕ) → length l ≡ lane-size tightenings → con
 unfolding slots-formed places-in
 places-there l s h f =
     sym (placed-formed (control-of l .held) (drop control-size l) (rw (length-drop control-size l) (omega arith))) ∙ f
+
+-- the first of them, where one is held
+pub first-place : (l : List ℕ) → length l ≡ lane-size tightenings → all is-place (places-in l) ≡ true → 0 < control-of l .held
+    → is-place (getD (first-in tightenings l) 0 0) ≡ true
+unfolding places-in
+first-place l s f h =
+    let d = drop control-size l in
+    let long = length-drop control-size l in
+    ap is-place (getD-take 1 d 0 0 (omega arith) ∙ sym (getD-take (control-of l .held) d 0 0 h))
+    ∙ all-at is-place (take (control-of l .held) d) 0 0 f (rw (length-take (control-of l .held) d) (omega arith))
 
 -- ==== what the slots mean does not hang on a place that none of them is
 

@@ -36,7 +36,7 @@ pub record Agree (q : ℕ) (read other : Reading) : Type 0 where
   pub placed : (slot : List ℕ) → (getD slot 0 0 ≡ q → ⊥) → read tightenings slot ≡ other tightenings slot
 
 -- areas that are read alike
-areas-alike : {A : Type 0} (f g : ℕ → List ℕ → A) (at size : ℕ → ℕ) (l : List ℕ) (i n : ℕ)
+pub areas-alike : {A : Type 0} (f g : ℕ → List ℕ → A) (at size : ℕ → ℕ) (l : List ℕ) (i n : ℕ)
     → ((j : ℕ) → j < i + n → f j (midOf (at j) (size j) l) ≡ g j (midOf (at j) (size j) l))
     → areas f at size i n l ≡ areas g at size i n l
 unfolding areas
