@@ -1,3 +1,4 @@
+pub mod Layout
 pub mod Contract
 pub mod Trace
 pub mod HandedOn
