@@ -3,3 +3,4 @@ pub mod Contract
 pub mod Trace
 pub mod HandedOn
 pub mod Tool
+pub mod Before
