@@ -45,7 +45,7 @@ pub record OutcomeIn (layout : Layout) (c : Call) (t o : List ℕ) (r : Answer) 
   pub output : o′ ≡ sets o 0 (output ((said-in layout c t o) .2))
   pub fits : r .written ≤ output-least
   pub size : length t′ ≡ length t
-  -- past the bytes that are used, and so past 32,768
+  -- past the bytes that are used; those of ours end before 32,768
   pub past : drop (layout .used) t′ ≡ drop (layout .used) t
   -- done
   pub formed : r .number ≡ 0 → layout .formed t′ ≡ true
