@@ -7,3 +7,5 @@ pub mod Erased
 pub mod Outputs
 pub mod Modelled
 pub mod Uncut
+pub mod Layouts
+pub mod StillBefore
