@@ -8,4 +8,3 @@ pub mod Outputs
 pub mod Modelled
 pub mod Uncut
 pub mod Layouts
-pub mod StillBefore
