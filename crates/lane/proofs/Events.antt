@@ -4,7 +4,7 @@ use Prim.Native.Nat.{ℕ, _+_, _*_, _≤_, _<_, zero-le}
 use native.Mathlib.Nat.{mul-le-mul-right, suc-mul}
 use native.Mathlib.Numerals.{add-one}
 use native.Mathlib.Omega.{arith}
-use mathlib.Core.Bool.{true, false, _&&_, true≢false}
+use mathlib.Core.Bool.{true, false, true≢false}
 use mathlib.Core.List.{List, [], _∷_, _++_}
 use lib.Dec.{eqb, leb}
 use lib.ListN.{length, take, drop, length-append, length-drop}
@@ -17,7 +17,7 @@ use Rattle.model.specs.Notices as model
 use Rattle.text.specs.Cells.{cells}
 use Rattle.text.proofs.Lists.{drop-sets}
 use Rattle.text.proofs.Cells.{cells-push}
-use Rattle.session.specs.Meaning.{subscription-in, Took, kept, told, is-taken, place-of}
+use Rattle.session.specs.Meaning.{subscription-in, Took, kept, told, place-of}
 use Rattle.session.specs.Control.{taken, taken-busy, take-from, takes as takes-as}
 use Rattle.session.proofs.Tests.{chosen}
 use Rattle.session.proofs.Notices.{take-right}

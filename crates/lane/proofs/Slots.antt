@@ -62,8 +62,12 @@ module _ (kind : ℕ) (l : List ℕ) where
       → every (cells (slot-formed kind) size (i + 1) (sets (drop control-size l) (i * size) p)) ≡ true
   unfolding slots-formed
   pushed-formed i p e h f =
-      rw (add-one i, cells-push (slot-formed kind) size (drop control-size l) i p e h,
-      every-append (cells (slot-formed kind) size i (drop control-size l)) (slot-formed kind p ∷ []), and-true (slot-formed kind p)) f
+      rw (
+        add-one i,
+        cells-push (slot-formed kind) size (drop control-size l) i p e h,
+        every-append (cells (slot-formed kind) size i (drop control-size l)) (slot-formed kind p ∷ []),
+        and-true (slot-formed kind p),
+      ) f
 
 -- ==== by the kind
 
@@ -75,7 +79,8 @@ each-formed f e k (suc n) d = rw (e (take k d)) (each-formed f e k n (drop k d))
 unplaced-formed : (kind : ℕ) → is-placed kind ≡ false → (slot : List ℕ) → slot-formed kind slot ≡ true
 unplaced-formed kind e slot = ap (λ (b : Bool). cond b (is-place (getD slot 0 0)) true) e
 
-placed-formed : (n : ℕ) (d : List ℕ) → n ≤ length d → every (cells (slot-formed tightenings) (slot-size tightenings) n d) ≡ all is-place (take n d)
+placed-formed : (n : ℕ) (d : List ℕ) → n ≤ length d
+    → every (cells (slot-formed tightenings) (slot-size tightenings) n d) ≡ all is-place (take n d)
 unfolding cells
 placed-formed zero d h = refl
 placed-formed (suc n) [] h = absurd (omega arith)

@@ -131,7 +131,8 @@ pub record Fewer (most : ℕ) (each : List (List ℕ)) (s : ℕ) : Type 0 where
   pub session : s < length each
   pub fewer : length (getD each s []) < most
 
-all-most : (most : ℕ) (each : List (List ℕ)) → ((i : ℕ) → i < length each → length (getD each i []) ≤ most) → total each ≤ length each * most
+all-most : (most : ℕ) (each : List (List ℕ)) → ((i : ℕ) → i < length each → length (getD each i []) ≤ most)
+    → total each ≤ length each * most
 all-most most [] h = omega arith
 all-most most (held ∷ each) h =
     let one = h 0 (omega arith) in

@@ -215,7 +215,8 @@ module _ (read : Reading) where
     lane-replaced g =
         record {
           becomes =
-              becomes-of g (lane-size-kept r few ea ez s lane) (head-kept r few ea ez s lane) (parts r g .head) (run-kept r few ea ez s lane)
+              becomes-of g (lane-size-kept r few ea ez s lane) (head-kept r few ea ez s lane) (parts r g .head)
+              (run-kept r few ea ez s lane)
               (parts r g .run)
               (rw (lanes-put r few ea ez s lane lane-formed, lane .formed) (all-set (lanes lane-formed r) kind (parts r g .lanes)))
               (lanes-put r few ea ez s lane (lane-of read));
@@ -237,7 +238,8 @@ module _ (read : Reading) where
     bytes = ap bytes-of (c .run);
   }
 
-  pub changes-then : {r r₁ r₂ : List ℕ} {x y : Session} {m n : Run} {xs ys : List Subscription} → Changes read r x m xs r₁ → Changes read r₁ y n ys r₂
+  pub changes-then : {r r₁ r₂ : List ℕ} {x y : Session} {m n : Run} {xs ys : List Subscription} → Changes read r x m xs r₁
+      → Changes read r₁ y n ys r₂
       → Changes read r y n ys r₂
   changes-then a b =
       let c = b .becomes in

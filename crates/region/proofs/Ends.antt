@@ -212,7 +212,8 @@ module _ (read : Reading) where
         whole = long;
         kept = told-of-kept;
         steps = λ g e.
-            let decided = decide-right g (run-of (run-area r)) (subscriptions-in read r) (ending bs) refl (o .standing) (remembers g e) (o .who)
+            let decided = decide-right g (run-of (run-area r)) (subscriptions-in read r) (ending bs) refl (o .standing) (remembers g e)
+            (o .who)
             (so g e) in
             rw (means-so read r (o .who) (o .here), decided, ← o .ruled .decides)
             (ap₂ (λ (q : model.Session × List Emission) (es : List Emission). (q .0, es ++ q .1)) (c .carries (g .settings))

@@ -1,5 +1,5 @@
 -- 02, P7: what a region means does not hang on a place that it does not hold; and it holds no more than it may.
-use mathlib.Core.Path.{_≡_, refl, sym, ap, ap₂, subst, _∙_}
+use mathlib.Core.Path.{_≡_, refl, sym, ap, ap₂, _∙_}
 use Prim.Native.Nat.{ℕ, zero, suc, _+_, _≤_, _<_, zero-le}
 use native.Mathlib.Omega.{arith}
 use mathlib.Core.Bool.{Bool, true, false, cond}
@@ -8,9 +8,7 @@ use lib.Dec.{eqb}
 use lib.ListN.{length, getD, take, drop, length-take}
 use borrow.Author.Tests.{eqb-true, eqb-false}
 use borrow.Rule.Slice.PartMut.{midOf}
-use Rattle.model.specs.Runs.{Run}
 use Rattle.model.specs.Kinds.{kinds, tightenings}
-use Rattle.model.specs.Notices.{Subscription}
 use Rattle.model.specs.Session as model
 use Rattle.text.specs.Areas.{areas}
 use Rattle.session.specs.Meaning.{session-as}

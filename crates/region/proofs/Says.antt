@@ -73,7 +73,8 @@ module _ (deed : ℕ → Deed) (quiet : (kind : ℕ) → Quiet (deed kind)) wher
 
 -- ==== one of them was dealt with, and nothing was done to the others
 
-module _ (read : Reading) {kind : ℕ} {deed : Deed} {r r′ : List ℕ} {b : Bool} (few : kind < length kinds) (d : DealtTo read kind deed r b r′) where
+module _ (read : Reading) {kind : ℕ} {deed : Deed} {r r′ : List ℕ} {b : Bool} (few : kind < length kinds)
+    (d : DealtTo read kind deed r b r′) where
   pub now-is : subscription-in read kind r′ ≡ (act (room-of kind) deed (subscription-in read kind r)) .0
   now-is =
       sym (subscription-at read r′ kind few)

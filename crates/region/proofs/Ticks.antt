@@ -74,7 +74,8 @@ module _ (read : Reading) where
       steps = λ st. rw (none-due st 0 (length kinds) (subscriptions-in read r₁), means read (c .becomes), e) (quiet st);
     }
 
-    pub stays-started : {due : List Bool} {r₂ : List ℕ} → x .phase ≡ Started → DealtToAll read (λ kind. beats) r₁ due r₂ → TickStays read x r due r₂
+    pub stays-started : {due : List Bool} {r₂ : List ℕ} → x .phase ≡ Started → DealtToAll read (λ kind. beats) r₁ due r₂
+        → TickStays read x r due r₂
     stays-started e d =
         let b = c .becomes in
         let f = d .changes .becomes in

@@ -45,7 +45,8 @@ module _ (read : Reading) where
   -- ==== a deed to one lane
 
   pub dealt-to : {r : List ℕ} {kind a z : ℕ} {deed : Deed} {b : Bool} {ys : List ℕ} → kind < length kinds → Good r → a ≡ lane-at kind
-      → z ≡ lane-size kind → Deals (read kind) kind deed (midOf a (a + z - a) r) b ys → DealtTo read kind deed r b (putMid a (a + z - a) r ys)
+      → z ≡ lane-size kind → Deals (read kind) kind deed (midOf a (a + z - a) r) b ys
+      → DealtTo read kind deed r b (putMid a (a + z - a) r ys)
   dealt-to {r} {kind} {a} {z} {deed} {ys = ys} few g ea ez d =
       let is : lane-of read kind (midOf a (a + z - a) r) ≡ subscription-in read kind r = ap (lane-of read kind) (lane-part r few ea ez) in
       let new : lane-of read kind ys ≡ (act (room-of kind) deed (subscription-in read kind r)) .0 =
@@ -92,7 +93,8 @@ module _ (read : Reading) where
                 (changes-then read (w .changes) (d .changes));
             subscriptions =
                 rw (d .changes .becomes .subscriptions)
-                (filled-next xs k few (rw (behind, drop-next xs k unsubscribed few, subscription-at read r k h, add-one k)) ∙ w .subscriptions);
+                (filled-next xs k few (rw (behind, drop-next xs k unsubscribed few, subscription-at read r k h, add-one k))
+                ∙ w .subscriptions);
             dues =
                 rw (d .changes .becomes .subscriptions)
                 (filled-next due k (rw (w .count) h)
@@ -176,7 +178,8 @@ module _ (read : Reading) where
     told-at : (k : ℕ) → k < length kinds → getD told k false ≡ is-subscribed (subscription-in read k r)
     told-at k h = List·getD-map is-subscribed (subscriptions-in read r) k unsubscribed ∙ ap is-subscribed (subscription-at read r k h)
 
-    pub telling-next : {known : List Bool} {k : ℕ} {b : Bool} → Telling known k → k < length kinds → b ≡ is-subscribed (subscription-in read k r)
+    pub telling-next : {known : List Bool} {k : ℕ} {b : Bool} → Telling known k → k < length kinds
+        → b ≡ is-subscribed (subscription-in read k r)
         → Telling (set known k b) (k + 1)
     telling-next {known} {k} {b} w h e =
         record {

@@ -2,7 +2,7 @@
 // done here changes the region and nothing else, and tells by value what is then to be said.
 ghost use mathlib.Core.Path.{_≡_};
 ghost use mathlib.Core.Bool.{Bool, false, cond};
-ghost use mathlib.Core.List.{List, [], map};
+ghost use mathlib.Core.List.{List, map};
 ghost use Prim.Native.Nat.{ℕ, _≤_, _<_};
 ghost use lib.ListN.{length};
 ghost use Rattle.model.specs.Limits.{run-kept, identifier-length, idle-limit};
@@ -360,7 +360,8 @@ fn subscribed(region: &[u8]) -> [bool; KIND_COUNT]
 // What the tests of a message look at.
 fn standing(region: &[u8], x: Session, common: Common) -> Standing
     requires { ⌜ Good (now region) ⌝ }
-    ensures { λ r. ⌜ ((read : Reading) → standing-of r ≡ stood x common (subscriptions-in read (now (region .entry)))) × (r .common ≡ common) ⌝ }
+    ensures { λ r. ⌜ ((read : Reading) → standing-of r ≡ stood x common (subscriptions-in read (now (region .entry))))
+        × (r .common ≡ common) ⌝ }
 {
     let phase = x.phase;
     Standing {

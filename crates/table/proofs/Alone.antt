@@ -65,7 +65,8 @@ module _ (t : List ℕ) (s : ℕ) (l : Local) (table : Table t) (few : s < sessi
   there : s < length (decode t .sessions)
   there = rw (so-many-sessions t) few
 
-  pub became-alone : (r : List ℕ) → Good r → session-of (reading-in t) r ≡ taken .0 → Becomes t (uncounted (next (decode t) (alone s l))) (put t s r)
+  pub became-alone : (r : List ℕ) → Good r → session-of (reading-in t) r ≡ taken .0
+      → Becomes t (uncounted (next (decode t) (alone s l))) (put t s r)
   unfolding decode
   became-alone r g e = rw (next-to (decode t) s l there, part-is t s few, ← e) (put-means t s r _ table few g refl)
 

@@ -20,9 +20,8 @@ use Rattle.frame.specs.declared.To.{To}
 use Rattle.frame.specs.declared.Asked.{Asked}
 use Rattle.session.specs.Effects.{out-bytes}
 use Rattle.places.specs.Places.{place-in}
-use Rattle.session.specs.Meaning.{is-taken}
 use Rattle.session.specs.declared.Take.{Take}
-use Rattle.lane.specs.Lane.{Reading, is-told}
+use Rattle.lane.specs.Lane.{Reading}
 use Rattle.shared.specs.Shared.{settings-part}
 use Rattle.region.specs.Region.{session-of, subscription-in, Good}
 use Rattle.region.specs.Said.{copies-out, Ticks, tick-said, Takes, event-said}
@@ -52,7 +51,8 @@ module _ {t o : List ℕ} {to : To} {most : ℕ} (l : Lent t o to most) {r : Lis
 
   -- what the table says now is what the step says
   pub passed : (seen : Local) (says : Reading → Shared → List ℕ → List Emission) {next : ℕ} {o′ : List ℕ}
-      → step (decode t .shared) seen (session-of (reading-in t) (part t (to .session))) ≡ (session-of (reading-in t) r, says (reading-in t) (decode t .shared) r)
+      → step (decode t .shared) seen (session-of (reading-in t) (part t (to .session))) ≡
+      (session-of (reading-in t) r, says (reading-in t) (decode t .shared) r)
       → Put o (to .at) (out-bytes (to .session) (says (reading-in (put t (to .session) r)) (decode (put t (to .session) r) .shared)
       (region-in (to .session) (put t (to .session) r)))) next o′
       → Went t o (to .at) (to-one (to .session) seen ∷ []) next (put t (to .session) r) o′
@@ -106,12 +106,19 @@ module _ {t : List ℕ} {s kind : ℕ} {p t₁ r : List ℕ} {take : Take} (few 
       → Keeps t s kind p (kept-by take place) t₂
   kept-so {place} stands = record {
     becomes = becomes-then (λ (v : World). uncounted (next v (to-one s (event (event-in kind p))))) b
-        (became-alone t₁ s (event (event-in kind p)) (b .table) few r (w .good) (ap (λ (z : Session × List Emission). z .0) (sym steps-so)));
+        (became-alone t₁ s (event (event-in kind p)) (b .table) few r (w .good)
+        (ap (λ (z : Session × List Emission). z .0) (sym steps-so)));
     settings = put-settings t₁ s r (b .table .size) few (w .good .size) ∙ ap (λ (a : List ℕ). settings-of (settings-part a)) same;
     takes = w .takes ∙ ap (takes kind) (sym sees);
     ready = λ q. rw (there-now, reads-now) (w .ready q);
     says =
-        rw (sees, ap (λ (v : World). v .shared) (sym (b .meaning)), there-now, reads-now, ← ap (λ (a : List ℕ). settings-of (settings-part a)) same)
+        rw (
+          sees,
+          ap (λ (v : World). v .shared) (sym (b .meaning)),
+          there-now,
+          reads-now,
+          ← ap (λ (a : List ℕ). settings-of (settings-part a)) same,
+        )
         (ap (λ (z : Session × List Emission). z .1) steps-so);
     stands = λ e h. ap (place-in place) (put-places t₁ s r (b .table .size) few (w .good .size)) ∙ stands e h;
   }
@@ -122,7 +129,7 @@ pub kept-not : {t : List ℕ} {s kind : ℕ} {p : List ℕ} {take : Take} {place
     → Keeps t s kind p (kept-by take place) t
 kept-not {t} {s} {kind} {p} {take} k w =
     let steps : step (decode t .shared) (event (event-in kind p)) (session-of (reading-in t) (part t s))
-        ≡ (session-of (reading-in t) (part t s), event-said (reading-in t) (settings-in t) kind p take (part t s)) =
+    ≡ (session-of (reading-in t) (part t s), event-said (reading-in t) (settings-in t) kind p take (part t s)) =
     by-settings t (event-in kind p) (session-of (reading-in t) (part t s)) ∙ w .steps (settings-in t) in
     record {
       becomes = stayed-alone t s (event (event-in kind p)) (k .table) (k .session)

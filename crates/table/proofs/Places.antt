@@ -1,27 +1,24 @@
 -- 02, P7: a free place is found, and what is put there changes no meaning.
 use mathlib.Core.Path.{_≡_, refl, sym, ap, subst, _∙_, fun-ext}
 use Prim.Native.Nat.{ℕ, _+_, _-_, _*_, _≤_, _<_}
-use native.Mathlib.Numerals.{add-one}
 use native.Mathlib.Omega.{arith}
-use mathlib.Core.Bool.{Bool, true, false, cond}
-use mathlib.Core.List.{List, [], _∷_}
-use lib.Dec.{eqb}
+use mathlib.Core.Bool.{Bool, true, cond}
+use mathlib.Core.List.{List, []}
 use lib.ListN.{length, getD, drop, replicate, drop-of-length-le}
 use borrow.Author.Tests.{ne-eqb}
-use Rattle.model.specs.Limits.{session-count, table-least}
+use Rattle.model.specs.Limits.{session-count}
 use Rattle.model.specs.Kinds.{tightenings}
 use Rattle.text.proofs.Lists.{drop-next, all-at}
 use Rattle.frame.specs.Places.{notice-in}
 use Rattle.places.specs.Places.{place-count, places-size, place-in, Putting, Puts}
 use Rattle.places.specs.Free.{lacks, is-free, marked, marked-by-all, first-free}
-use Rattle.places.proofs.Marks.{Fewer, free-there, length-marked}
+use Rattle.places.proofs.Marks.{Fewer, free-there}
 use Rattle.lane.specs.Kinds.{most}
-use Rattle.lane.specs.Lane.{Reading}
 use Rattle.region.specs.Region.{region-size, region-formed, session-of, places-held, Good}
 use Rattle.region.proofs.Places.{Agree, areas-alike, same-session, holds-few}
-use Rattle.table.specs.Table.{places-area, region-at, region-in, regions, kept-in, reading, reading-in, decode, Table, Becomes}
+use Rattle.table.specs.Table.{places-area, region-at, region-in, regions, reading, reading-in, decode, Table}
 use Rattle.table.specs.Passes.{Stands, Roomy, StandLent, Stood}
-use Rattle.table.proofs.Regions.{part, part-in, part-good, length-regions, region-read, formed-parts, becomes-of, holds-as-before}
+use Rattle.table.proofs.Regions.{part-in, part-good, length-regions, region-read, formed-parts, becomes-of, holds-as-before}
 use Rattle.table.proofs.Regions.{length-places, middle, middle-size, middle-past, middle-shared, middle-places, middle-region}
 use Rattle.table.proofs.Regions.{middle-regions}
 
@@ -51,7 +48,8 @@ module _ (t : List ℕ) (h : Table t) where
   pub found : {used : List ℕ} {p : ℕ} → Roomy t → used ≡ marked-by-all (replicate place-count 0) (each-holds t) → p ≡ first-free used
       → (p < place-count) × (is-free p (each-holds t) ≡ true)
   found room e q =
-      let many : length (each-holds t) * most tightenings ≡ place-count = ap (λ (n : ℕ). n * most tightenings) (length-regions places-held t) in
+      let many : length (each-holds t) * most tightenings ≡ place-count = ap (λ (n : ℕ). n * most tightenings)
+      (length-regions places-held t) in
       let there = rw many at (free-there (most tightenings) (each-holds t) (room .session) (fewer room)) in
       rw (q, e) there
 

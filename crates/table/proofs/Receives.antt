@@ -56,12 +56,15 @@ module _ (t : List ℕ) (s : ℕ) (bs : List ℕ) (table : Table t) (few : s < s
   unfolding session-of decode
   goes-on =
       let x = head-of (head-area r) in
-      let w = run-goes-on (decode t .shared) (run-of (run-area r)) (subscriptions-in (reading-in t) r) (unended bs) refl (x .phase) (x .idle) in
+      let w = run-goes-on (decode t .shared) (run-of (run-area r)) (subscriptions-in (reading-in t) r) (unended bs) refl (x .phase)
+      (x .idle) in
       (rw (part-is t s few) (w .0), rw (part-is t s few) (w .1))
 
-  pub lengthened : {r′ : List ℕ} → region.Becomes (reading-in t) r (head-of (head-area r)) (longer (run-of (run-area r)) bs) (subscriptions-in (reading-in t) r) r′
+  pub lengthened : {r′ : List ℕ}
+      → region.Becomes (reading-in t) r (head-of (head-area r)) (longer (run-of (run-area r)) bs) (subscriptions-in (reading-in t) r) r′
       → Becomes t (uncounted (next (decode t) (hears s (unended bs)))) (put t s r′)
-  lengthened b = became-alone t s (receives (unended bs)) table few _ (b .good) (rw (← part-is t s few, goes-on .0) (means (reading-in t) b))
+  lengthened b =
+      became-alone t s (receives (unended bs)) table few _ (b .good) (rw (← part-is t s few, goes-on .0) (means (reading-in t) b))
 
 -- ==== what all are told
 
@@ -165,7 +168,8 @@ module _ {t o : List ℕ} {to : To} {bs : List ℕ} {e : Ended} (l : EndLent t o
       → told ≡ told-by (shared-area t) run (e .reply)
       → at ≤ to .at + reply-most
       → Put o (to .at) (out-bytes (to .session) (written (settings-of payload) told (e .reply))) at o₁
-      → Wrote (copy-most (kind-at (e .kind))) (due-copy (settings-in t) (e .kind) (e .sends) (subscription-in (reading-in t) (e .kind) region-now))
+      → Wrote (copy-most (kind-at (e .kind)))
+      (due-copy (settings-in t) (e .kind) (e .sends) (subscription-in (reading-in t) (e .kind) region-now))
       (record { session = to .session; at = at }) o₁ next o′
       → Wrote session-most (end-said (reading-in t) (decode t .shared) bs e region-now) to o next o′
   unfolding decode

@@ -124,7 +124,8 @@ module _ {t o : List ℕ} {to : To} {kind : ℕ} {due : Bool} (p : OpenLent t o 
     }
 
     pub first-said : {next : ℕ} {o′ : List ℕ}
-        → Wrote (copy-most (kind-at kind)) (copies-out (settings-in t) kind (subscription-to to kind t) (notice-in kind f ∷ [])) to o next o′
+        → Wrote (copy-most (kind-at kind))
+        (copies-out (settings-in t) kind (subscription-to to kind t) (notice-in kind f ∷ [])) to o next o′
         → Wrote (copy-most (kind-at kind)) (due-copy (settings-in t) kind due (subscription-to to kind t)) to o next o′
     first-said v = record {
       within = v .within;
@@ -175,7 +176,8 @@ module _ {t o₀ : List ℕ} {to : To} {due : List Bool} (p : DueLent t o₀ to 
         record {
           known = few;
           lent = record { table = p .lent .table; session = p .lent .session; room = omega (arith, room-for) };
-          ready = subst (Ready (getD due kind false)) (subscription-at (reading-in t) r kind few) (p .ready .ready kind (there (reading-in t) r kind few));
+          ready = subst (Ready (getD due kind false)) (subscription-at (reading-in t) r kind few)
+              (p .ready .ready kind (there (reading-in t) r kind few));
         }
 
     one-more : from-kind t to kind (drop kind due) (drop kind (subscriptions-to to t))
@@ -184,7 +186,12 @@ module _ {t o₀ : List ℕ} {to : To} {due : List Bool} (p : DueLent t o₀ to 
     one-more =
         let st = settings-in t in
         let xs = subscriptions-in (reading-in t) r in
-        rw (drop-next due kind false due-there, drop-next xs kind unsubscribed (there (reading-in t) r kind few), subscription-at (reading-in t) r kind few, add-one kind)
+        rw (
+          drop-next due kind false due-there,
+          drop-next xs kind unsubscribed (there (reading-in t) r kind few),
+          subscription-at (reading-in t) r kind few,
+          add-one kind,
+        )
         (out-append (to .session) (due-copy st kind (getD due kind false) (subscription-to to kind t))
         (due-copies st (suc kind) (drop (suc kind) due) (drop (suc kind) xs)))
 

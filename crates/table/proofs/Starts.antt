@@ -24,7 +24,8 @@ pub record Closed (t₀ t : List ℕ) (s : ℕ) : Type 0 where
   pub within : s ≤ session-count
   pub size : length t ≡ length t₀
   pub past : drop table-used t ≡ drop table-used t₀
-  pub sessions : (read : Reading) → take s (regions (session-of read) t) ++ replicate (session-count - s) closed ≡ replicate session-count closed
+  pub sessions : (read : Reading)
+      → take s (regions (session-of read) t) ++ replicate (session-count - s) closed ≡ replicate session-count closed
   pub formed : take s (regions region-formed t) ++ replicate (session-count - s) true ≡ replicate session-count true
 
 pub closed-none : (t : List ℕ) → Closed t t 0
@@ -34,7 +35,8 @@ module _ {t₀ : List ℕ} (long : table-least ≤ length t₀) {t : List ℕ} {
   still-long : table-least ≤ length t
   still-long = omega (arith, w .size)
 
-  pub closed-next : {r : List ℕ} → s < session-count → Good r → ((read : Reading) → session-of read r ≡ closed) → Closed t₀ (put t s r) (s + 1)
+  pub closed-next : {r : List ℕ} → s < session-count → Good r → ((read : Reading) → session-of read r ≡ closed)
+      → Closed t₀ (put t s r) (s + 1)
   closed-next {r} h g e =
       let l = still-long in
       let n = g .size in

@@ -19,8 +19,8 @@ ghost use Rattle.lane.specs.Lane.{is-plain as is-plain-so, first-in};
 ghost use Rattle.region.specs.Region.{lane-in, places-held};
 ghost use Rattle.region.specs.Said.{copies-out, due-copy, due-copies, ending, Shows, end-said};
 ghost use Rattle.shared.specs.Shared.{settings-part};
-ghost use Rattle.table.specs.Table.{shared-area, places-area, region-in, regions, kept-in, reading-in, decode, settings-in, table-formed};
-ghost use Rattle.table.specs.Table.{Table, Openable, Becomes};
+ghost use Rattle.table.specs.Table.{shared-area, places-area, region-in, regions, kept-in, reading-in, decode, settings-in};
+ghost use Rattle.table.specs.Table.{table-formed, Table, Openable, Becomes};
 ghost use Rattle.table.specs.Table.{noted, WentUpTo};
 ghost use Rattle.table.specs.Says.{Lent, Wrote, CopyLent, OpenLent, DueLent, EndLent, subscription-to, subscriptions-to};
 ghost use Rattle.table.specs.Says.{Asking, Opened, asked-in, told-by as told-so};
@@ -554,8 +554,8 @@ fn told_by<'a>(table: &'a [u8], run: &'a [u8], reply: Reply) -> &'a [u8]
 // What the end of a run leaves to say: the reply, and behind it the copy that is due.
 fn answer<'a>(table: &'a [u8], out: &mut [u8], to: To, bytes: &'a [u8], ended: Ended) -> usize
     requires { ⌜ EndLent (now table) (now out) to (now bytes) ended ⌝ }
-    ensures { λ r. ⌜ Wrote session-most (end-said (reading-in (now (table .entry))) (decode (now (table .entry)) .shared) (now (bytes .entry)) ended
-        (region-in (to .session) (now (table .entry)))) to (now (out .entry)) r (now (out .exit)) ⌝ }
+    ensures { λ r. ⌜ Wrote session-most (end-said (reading-in (now (table .entry))) (decode (now (table .entry)) .shared)
+        (now (bytes .entry)) ended (region-in (to .session) (now (table .entry)))) to (now (out .entry)) r (now (out .exit)) ⌝ }
 {
     let kept = region::run_bytes(region_of(table, to.session));
     let run = ended_in(bytes, kept, ended.whole);

@@ -2,10 +2,8 @@
 use borrow.Author.Needs.{needs}
 use borrow.Author.Tests.{not-true, not-false}
 use mathlib.Core.Path.{ap, _∙_}
-use mathlib.Core.List.{List}
 use Prim.Native.Nat.{ℕ}
 use native.Mathlib.Nat.{add-sub-cancel-left}
-use native.Mathlib.Omega.{arith}
 use lib.ListN.{take, drop}
 use Rattle.model.specs.Bytes.{within, all}
 use Rattle.lane.specs.Kinds.{control-size}

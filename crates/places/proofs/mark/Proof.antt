@@ -3,7 +3,7 @@ use borrow.Author.Needs.{needs}
 use borrow.Author.Tests.{ltb-true}
 use mathlib.Core.Path.{_≡_, refl, sym, _∙_}
 use Prim.Native.Nat.{_-_, _<_}
-use lib.ListN.{length, getD, drop, length-set}
+use lib.ListN.{length, drop, length-set}
 use Rattle.text.proofs.Lists.{all-at}
 use Rattle.places.specs.Places.{place-count, is-place}
 use Rattle.places.specs.Free.{marked}
@@ -32,7 +32,8 @@ loop-again c =
     let s = l .before .before .before in
     let i = l .loop .inv in (
       length-set (l .loop .used) _ 1 ∙ i .0,
-      rw (c .number .ensures) (sym (mark-next (l .loop .used) (s .args .held .now) (l .loop .i) (c .before .before .loop-test .taken)) ∙ i .1),
+      rw (c .number .ensures)
+          (sym (mark-next (l .loop .used) (s .args .held .now) (l .loop .i) (c .before .before .loop-test .taken)) ∙ i .1),
     )
 
 pub mark-spec : {M : Type 1} → statement M

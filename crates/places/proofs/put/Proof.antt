@@ -1,6 +1,6 @@
 -- `places::put` meets its contract.
 use borrow.Author.Needs.{needs}
-use Rattle.places.proofs.Areas.{fits, is-put}
+use Rattle.places.proofs.Areas.{is-put}
 use Rattle.places.proofs.put.Statement.{statement}
 use Rattle.places.proofs.put.Tie as tie
 

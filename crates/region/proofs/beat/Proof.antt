@@ -39,15 +39,17 @@ beat-spec =
     (λ c. λ read. dealing-none read (λ (kind : ℕ). beats) _ _ refl (c .before .pre))
     (λ c κs. search needs)
     (λ c κs. search needs)
-    (λ c. let e = lane-ends _ (c .before .before .loop-test .taken) in let g = c .before .before .before .loop .inv notice-in .changes .becomes .good .size
-    in search needs)
+    (λ c. let t = c .before .before in let e = lane-ends _ (t .loop-test .taken) in
+    let g = t .before .loop .inv notice-in .changes .becomes .good .size in search needs)
     (λ c. search needs)
     (λ c. search needs)
-    (λ c. let e = lane-ends _ (c .before .before .loop-test .taken) in let g = c .before .before .before .loop .inv notice-in .changes .becomes .good .size
-    in search needs)
-    (λ c κs. let t = c .before .before .before in
-    (t .loop-test .taken, lane-lent _ (t .loop-test .taken) (c .before .before .lane-at .ensures) (c .before .size .ensures)
-    (t .before .loop .inv notice-in .changes .becomes .good)))
+    (λ c. let t = c .before .before in let e = lane-ends _ (t .loop-test .taken) in
+    let g = t .before .loop .inv notice-in .changes .becomes .good .size in search needs)
+    (λ c κs. let t = c .before .before .before in (
+      t .loop-test .taken,
+      lane-lent _ (t .loop-test .taken) (c .before .before .lane-at .ensures) (c .before .size .ensures)
+          (t .before .loop .inv notice-in .changes .becomes .good),
+    ))
     (λ c. let n = c .before .before .before .before .before .before .before .loop .inv notice-in .count in search needs)
     (λ c. search needs)
     (λ c. search needs)

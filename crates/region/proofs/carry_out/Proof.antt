@@ -24,8 +24,9 @@ carry-out-spec =
     (λ c κs. c .before .before .before .clear-run .ensures notice-in .becomes .good)
     (λ c κs. let g = c .before .before .before .before in
     (g .let-go .ensures notice-in .becomes .good, g .before .before .before .before .before .before .before .pre .idle))
-    (λ c κs. let p = c .before .before .before in
-    (p .store .ensures notice-in .becomes .good,
-    p .before .before .before .before .before .before .before .before .before .before .before .before .pre .known))
+    (λ c κs. let p = c .before .before .before in (
+      p .store .ensures notice-in .becomes .good,
+      p .before .before .before .before .before .before .before .before .before .before .before .before .pre .known,
+    ))
     (λ c. search needs)
     returns)

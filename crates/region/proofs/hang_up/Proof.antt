@@ -13,11 +13,10 @@ use Rattle.region.proofs.hang_up.Tie as tie
 returns : tie.Need-returns
 returns c =
     let p = c .before .before in
-    let r = p .before .before .before .before .args .region .now in
-    (
+    let r = p .before .before .before .before .args .region .now in (
       p .store .ensures notice-in .becomes .good,
       λ read. means read (p .store .ensures read .becomes)
-      ∙ ap (λ (x : Session). meaning x (run-of (run-area r)) (subscriptions-in read r)) (p .before .cleared .ensures),
+          ∙ ap (λ (x : Session). meaning x (run-of (run-area r)) (subscriptions-in read r)) (p .before .cleared .ensures),
     )
 
 pub hang-up-spec : {M : Type 1} → statement M

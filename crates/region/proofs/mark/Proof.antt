@@ -1,14 +1,11 @@
 -- `region::mark` meets its contract, by whether it is started.
 use borrow.Author.Needs.{needs}
-use mathlib.Core.Path.{_≡_, sym, ap, subst, _∙_}
-use mathlib.Core.List.{List}
+use mathlib.Core.Path.{sym, subst}
 use native.Mathlib.Omega.{arith}
-use Prim.Native.Nat.{ℕ}
 use Rattle.model.specs.Kinds.{tightenings}
 use Rattle.session.specs.Decisions.{is-started}
-use Rattle.session.specs.declared.Session.{Session}
 use Rattle.places.specs.Free.{marked}
-use Rattle.lane.specs.Lane.{places-in, Lane}
+use Rattle.lane.specs.Lane.{Lane}
 use Rattle.region.specs.Region.{places-held}
 use Rattle.region.proofs.Areas.{lane-good}
 use Rattle.region.proofs.mark.Statement.{statement}
@@ -27,7 +24,8 @@ returns c =
     let n = p .before in
     let i = n .before .before in
     let b = i .before in
-    rw (← b .before .load .ensures .0, ← b .is-started .ensures, i .if1 .taken, ← n .lane .ensures, ← p .places .ensures .0) (m .mark .ensures)
+    rw (← b .before .load .ensures .0, ← b .is-started .ensures, i .if1 .taken, ← n .lane .ensures, ← p .places .ensures .0)
+    (m .mark .ensures)
 
 returns-2 : tie.Need-returns-2
 unfolding places-held marked

@@ -13,11 +13,10 @@ use Rattle.region.proofs.open.Tie as tie
 returns : tie.Need-returns
 returns c =
     let n = c .before .before in
-    let p = n .before .before .before .before in
-    (
+    let p = n .before .before .before .before in (
       n .clear-run .ensures notice-in .becomes .good,
       λ read. means read (n .clear-run .ensures read .becomes)
-      ∙ ap (λ (x : Session). meaning x empty-run (subscriptions-in read (p .store .last .0)))
+          ∙ ap (λ (x : Session). meaning x empty-run (subscriptions-in read (p .store .last .0)))
           (p .store .ensures read .becomes .head ∙ p .before .fresh .ensures),
     )
 

@@ -1,13 +1,13 @@
 -- `table::free_place` meets its contract. The invariant: the marks that are left to make, over those that are made, are all of them.
 use borrow.Author.Needs.{needs}
-use mathlib.Core.Path.{_≡_, refl, sym, ap, subst, _∙_}
-use Prim.Native.Nat.{ℕ, _-_}
+use mathlib.Core.Path.{_≡_, refl, sym, subst, _∙_}
+use Prim.Native.Nat.{_-_}
 use lib.ListN.{length, drop, replicate}
 use Rattle.model.specs.Limits.{session-count}
 use Rattle.places.specs.Places.{place-count}
-use Rattle.places.specs.Free.{marked, marked-by-all}
+use Rattle.places.specs.Free.{marked-by-all}
 use Rattle.places.proofs.Marks.{length-marked}
-use Rattle.region.specs.Region.{places-held, Good}
+use Rattle.region.specs.Region.{Good}
 use Rattle.table.proofs.Regions.{part-in, part-good}
 use Rattle.table.proofs.Places.{each-holds, found, marks-next, marks-all}
 use Rattle.table.proofs.free_place.Statement.{statement}
@@ -26,9 +26,11 @@ mark-requires c κs =
     let g = c .before in
     let l = g .before .before in
     let s = l .before .before in
-    let t = s .args .table .now in
-    (subst Good (part-in t (l .loop .s) ∙ sym (g .region-of .ensures)) (part-good t (l .loop .s) (s .pre .0) (g .before .loop-test .taken)),
-    l .loop .inv .0)
+    let t = s .args .table .now in (
+      subst Good (part-in t (l .loop .s) ∙ sym (g .region-of .ensures))
+          (part-good t (l .loop .s) (s .pre .0) (g .before .loop-test .taken)),
+      l .loop .inv .0,
+    )
 
 loop-again : tie.Need-loop-again Inv-loop μ-loop
 loop-again c =

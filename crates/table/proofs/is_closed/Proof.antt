@@ -18,7 +18,8 @@ returns : tie.Need-returns
 returns c =
     let s = c .before .before .before in
     let t = s .args .table .now in
-    c .is-closed .ensures (reading-in t) ∙ ap (λ r. is-closed (session-of (reading-in t) r)) (c .before .region-of .ensures ∙ sym (part-in t (s .args .s)))
+    c .is-closed .ensures (reading-in t) ∙ ap (λ r. is-closed (session-of (reading-in t) r))
+    (c .before .region-of .ensures ∙ sym (part-in t (s .args .s)))
     ∙ ap is-closed (sym (part-is t (s .args .s) (s .pre .1)))
 
 pub is-closed-spec : {M : Type 1} → statement M

@@ -12,7 +12,7 @@ use Rattle.places.specs.Places.{is-place, place-in}
 use Rattle.lane.specs.Lane.{is-held}
 use Rattle.region.specs.Region.{Good}
 use Rattle.region.specs.Said.{Answers}
-use Rattle.table.specs.Table.{places-area, region-in, reading-in, decode}
+use Rattle.table.specs.Table.{places-area, region-in, reading-in}
 use Rattle.table.specs.Passes.{Keeps, kept-by}
 use Rattle.table.proofs.Regions.{part, part-in, part-good}
 use Rattle.table.proofs.Passes.{kept-so, kept-not}
@@ -22,9 +22,10 @@ use Rattle.table.proofs.keep.Tie as tie
 taking-requires : tie.Need-taking-requires
 taking-requires c κs =
     let s = c .before .before .before .before in
-    let t = s .args .table .now in
-    (subst Good (part-in t (s .args .s) ∙ sym (c .region-of .ensures)) (part-good t (s .args .s) (s .pre .table) (s .pre .session)),
-    s .pre .known)
+    let t = s .args .table .now in (
+      subst Good (part-in t (s .args .s) ∙ sym (c .region-of .ensures)) (part-good t (s .args .s) (s .pre .table) (s .pre .session)),
+      s .pre .known,
+    )
 
 -- what becomes of it, in the region as it is lent, and as it is read
 module _ (c : tie.After-taking) where

@@ -2,7 +2,7 @@
 use borrow.Author.Needs.{needs}
 use borrow.Author.Tests.{lt-ltb}
 use mathlib.Core.Path.{refl, sym, ap, subst, _∙_}
-use mathlib.Core.List.{List, [], _∷_}
+use mathlib.Core.List.{List}
 use Prim.Native.Nat.{ℕ}
 use native.Mathlib.Omega.{arith}
 use Rattle.model.specs.Kinds.{tightenings}
@@ -11,7 +11,7 @@ use Rattle.places.specs.Places.{place-count}
 use Rattle.region.specs.Said.{Answers}
 use Rattle.region.proofs.Places.{holds-fewer}
 use Rattle.table.specs.Table.{reading-in}
-use Rattle.table.proofs.Regions.{part, part-in, part-good}
+use Rattle.table.proofs.Regions.{part-in, part-good}
 use Rattle.table.proofs.Passes.{kept-so}
 use Rattle.table.proofs.keep_placed.Statement.{statement}
 use Rattle.table.proofs.keep_placed.Tie as tie

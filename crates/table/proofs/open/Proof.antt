@@ -17,7 +17,8 @@ returns c =
     let t = s .args .table .now in
     let n = s .args .s in
     became-alone t n opening (s .pre .table) (s .pre .session) _ (k .«open» .ensures .0) (k .«open» .ensures .1 (reading-in t)
-    ∙ opened-fresh (decode t .shared) (session-of (reading-in t) (part t n)) (ap is-closed (sym (part-is t n (s .pre .session))) ∙ s .pre .closed))
+    ∙ opened-fresh (decode t .shared) (session-of (reading-in t) (part t n))
+    (ap is-closed (sym (part-is t n (s .pre .session))) ∙ s .pre .closed))
 
 pub open-spec : {M : Type 1} → statement M
 open-spec =

@@ -4,10 +4,8 @@ use borrow.Author.Tests.{eq-eqb, ne-eqb}
 use mathlib.Core.Path.{_≡_, sym, ap, subst, _∙_}
 use mathlib.Core.Bool.{Bool, cond}
 use mathlib.Core.List.{List}
-use native.Mathlib.Omega.{arith}
 use Prim.Native.Nat.{ℕ, _<_}
 use lib.ListN.{length, getD}
-use Rattle.model.specs.Kinds.{tightenings}
 use Rattle.places.specs.Places.{place-in, place-count}
 use Rattle.lane.specs.Kinds.{slot-size}
 use Rattle.lane.specs.Lane.{first-in}
@@ -36,9 +34,10 @@ at-requires c κs =
     let i = c .before .before .before in
     let f = i .before in
     let s = f .before .before .before .before in
-    let place = ap (λ (l : List ℕ). getD l 0 0) (slot-is f) in
-    (length-places (s .args .table .now) (s .pre .asking .table .size),
-    subst (λ (n : ℕ). n < place-count) (sym (c .number .ensures ∙ place)) (slot-place (s .pre) (i .if1 .taken)))
+    let place = ap (λ (l : List ℕ). getD l 0 0) (slot-is f) in (
+      length-places (s .args .table .now) (s .pre .asking .table .size),
+      subst (λ (n : ℕ). n < place-count) (sym (c .number .ensures ∙ place)) (slot-place (s .pre) (i .if1 .taken)),
+    )
 
 returns : tie.Need-returns
 returns c =

@@ -19,14 +19,16 @@ use Rattle.table.proofs.tell.Statement.{statement}
 use Rattle.table.proofs.tell.Tie as tie
 
 abbrev Inv-loop : tie.InvT-loop
-Inv-loop table₀ out₀ at kind notice at₀ from₀ revision₀ flag₀ place₀ taken₀ bit₀ session₀ table out at′ from revision flag place taken bit session =
+Inv-loop table₀ out₀ at kind notice at₀ from₀ revision₀ flag₀ place₀ taken₀ bit₀ session₀ table out at′ from revision flag place taken bit
+    session =
     Turns (copy-most (kind-at kind)) (event (event-in kind notice)) table₀ out₀ at table out at′ session
     × Summing kind table₀ table session bit taken
     × Last (settings-in table) kind notice (record { from = from; revision = revision; «no_acknowledge» = flag }) at′ out
     × (kind ≡ tightenings → Stands table notice place)
 
 abbrev μ-loop : tie.MeasureT-loop
-μ-loop table₀ out₀ at kind notice at₀ from₀ revision₀ flag₀ place₀ taken₀ bit₀ session₀ table out at′ from revision flag place taken bit session =
+μ-loop table₀ out₀ at kind notice at₀ from₀ revision₀ flag₀ place₀ taken₀ bit₀ session₀ table out at′ from revision flag place taken bit
+    session =
     session-count - session
 
 returns : tie.Need-returns Inv-loop μ-loop
@@ -42,8 +44,12 @@ tell-spec =
     (tie.spec
     Inv-loop
     μ-loop
-    (λ c. (turns-none _ _ _ _ _ (c .before .before .before .pre .0 .table), record { power = refl; sum = zero-add _ }, last-none _ _ _ _ _ _ _,
-    λ e h. absurd (omega arith)))
+    (λ c. (
+      turns-none _ _ _ _ _ (c .before .before .before .pre .0 .table),
+      record { power = refl; sum = zero-add _ },
+      last-none _ _ _ _ _ _ _,
+      λ e h. absurd (omega arith),
+    ))
     (λ c κs. search (needs, turn-lent))
     (λ c κs. search needs)
     (λ c. let k = c .before .before .before .before .before in let t = k .before .before .before in

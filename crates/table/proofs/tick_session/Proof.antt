@@ -14,10 +14,11 @@ returns : tie.Need-returns
 returns c =
     let y = c .before .before in
     let k = y .before .before .before .before .before in
+    let s = k .before .before .before .before in
     let l = y .put-close .ensures .place in
     record {
       within = omega arith;
-      went = tick-passed (k .before .before .before .before .pre) (k .tick .ensures (reading-in (k .before .before .before .before .args .table .now)))
+      went = tick-passed (s .pre) (k .tick .ensures (reading-in (s .args .table .now)))
           (rw (y .before .before .if1 .taken) (put-as (sym (append-nil _)) (y .put-close .ensures .put)));
     }
 
@@ -25,9 +26,10 @@ returns-2 : tie.Need-returns-2
 returns-2 c =
     let y = c .before .before in
     let k = y .before .before .before .before .before .before .before in
+    let s = k .before .before .before .before in
     record {
       within = y .say .ensures .within;
-      went = tick-passed (k .before .before .before .before .pre) (k .tick .ensures (reading-in (k .before .before .before .before .args .table .now)))
+      went = tick-passed (s .pre) (k .tick .ensures (reading-in (s .args .table .now)))
           (rw (y .before .before .before .before .if1 .left) (y .say .ensures .bytes));
     }
 
