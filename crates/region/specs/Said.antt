@@ -19,7 +19,7 @@ use Rattle.model.specs.Local.{step, tick, event, receives, announces, takes}
 use Rattle.model.specs.Sharing.{Shared, shared-begun}
 use Rattle.frame.specs.Header.{header-of}
 use Rattle.frame.specs.Places.{event-in, notice-in}
-use Rattle.message.specs.Meaning.{is-among, holds, Remembers}
+use Rattle.message.specs.Meaning.{standing-of, is-among, holds, Remembers}
 use Rattle.message.specs.declared.Common.{Common}
 use Rattle.message.specs.declared.Standing.{Standing}
 use Rattle.session.specs.Decisions.{is-started, decision}
@@ -168,6 +168,11 @@ stood x common subs = record {
   subscribed = subscribed-to subs;
   kept = holds common;
 }
+
+-- they look at it so, whatever the slots mean
+pub record StandsSo (x : Session) (common : Common) (r : List ℕ) (s : Standing) : Type 0 where
+  pub tests : (read : Reading) → standing-of s ≡ stood x common (subscriptions-in read r)
+  pub shares : s .common ≡ common
 
 -- what all share, as far as the tests look at it
 pub record Shows (common : Common) (g : Shared) : Type 0 where

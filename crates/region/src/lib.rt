@@ -12,7 +12,6 @@ ghost use Rattle.model.specs.Kinds.{kinds};
 ghost use Rattle.model.specs.Notices.{is-subscribed, beats};
 ghost use Rattle.model.specs.Session.{closed, fresh, is-closed as is-closed-session, no-subscriptions};
 ghost use Rattle.frame.specs.Places.{notice-in};
-ghost use Rattle.message.specs.Meaning.{standing-of};
 ghost use Rattle.session.specs.Meaning.{deed-of};
 ghost use Rattle.session.specs.declared.Take.the-variants.{Not};
 ghost use Rattle.session.specs.Decisions.{is-started as is-started-so};
@@ -25,7 +24,7 @@ ghost use Rattle.region.specs.Region.{region-size, head-area, run-area, 
 ghost use Rattle.region.specs.Region.{session-of, region-formed, Good, run-bytes as bytes-of-run, Becomes, Changes, LanesCleared};
 ghost use Rattle.region.specs.Region.{places-held};
 ghost use Rattle.region.specs.Said.{DealtTo, DealtToAll, TickStays, Ticks, Answers, Taking, Takes};
-ghost use Rattle.region.specs.Said.{stood, Ruled, CarryingOut, CarriesOut, ended-by, EndingWhole, RunEnds, KeptEnds};
+ghost use Rattle.region.specs.Said.{StandsSo, Ruled, CarryingOut, CarriesOut, ended-by, EndingWhole, RunEnds, KeptEnds};
 use message::Common;
 use message::Standing;
 use model::IDENTIFIER_LENGTH;
@@ -360,8 +359,7 @@ fn subscribed(region: &[u8]) -> [bool; KIND_COUNT]
 // What the tests of a message look at.
 fn standing(region: &[u8], x: Session, common: Common) -> Standing
     requires { ⌜ Good (now region) ⌝ }
-    ensures { λ r. ⌜ ((read : Reading) → standing-of r ≡ stood x common (subscriptions-in read (now (region .entry))))
-        × (r .common ≡ common) ⌝ }
+    ensures { λ r. ⌜ StandsSo x common (now (region .entry)) r ⌝ }
 {
     let phase = x.phase;
     Standing {

@@ -23,7 +23,7 @@ module _ (c : tie.After-rule-kept) where
         here = l .load .ensures .0;
         idle = l .load .ensures .1;
         standing = c .before .before .standing .result;
-        stands = (c .before .before .standing .ensures .0 read, c .before .before .standing .ensures .1);
+        stands = (c .before .before .standing .ensures .tests read, c .before .before .standing .ensures .shares);
         ruled = rw (longer-none (run-area r) (parts r (s .pre .0) .run)) (c .rule-kept .ensures);
       }
 

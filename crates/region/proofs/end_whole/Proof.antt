@@ -36,7 +36,7 @@ module _ (c : tie.After-rule) where
         here = l .load .ensures .0;
         idle = l .load .ensures .1;
         standing = k .before .standing .result;
-        stands = (k .before .standing .ensures .0 read, k .before .standing .ensures .1);
+        stands = (k .before .standing .ensures .tests read, k .before .standing .ensures .shares);
         ruled = ruled-as (longer (run-of (run-area (s .args .region .now))) (s .args .bytes .now))
             (k .kept-of .ensures ∙ ap (λ (z : Run). z .kept) whole) (n .count-of .ensures ∙ ap (λ (z : Run). z .count) whole)
             (c .rule .ensures);

@@ -12,4 +12,7 @@ standing-spec =
     (λ c. search needs)
     (λ c κs. search needs)
     (λ c. let i = c .before in
-    (λ read. stands-so read _ (i .before .before .args .x) _ _ _ (i .is-started .ensures) (c .subscribed .ensures read), refl)))
+    record {
+      tests = λ read. stands-so read _ (i .before .before .args .x) _ _ _ (i .is-started .ensures) (c .subscribed .ensures read);
+      shares = refl;
+    }))
