@@ -103,9 +103,9 @@ def region_told(region):
     identifiers, results, alarms = region.identifiers(), region.tightenings(), region.alarms()
     return {"phase": "started" if region.phase() == lent_table.STARTED else "opened", "identifiers": identifiers.form != lent_table.NOT,
             "results": results.form != lent_table.NOT, "acknowledges": results.form == lent_table.ACKNOWLEDGED,
-            "held": [lent_table.little(place[lent_table.NUMBER]) for place in results.places],
+            "held": [lent_table.little(result[lent_table.NUMBER]) for result in results.notices],
             "alarms": alarms.form != lent_table.NOT, "acknowledges_alarms": alarms.form == lent_table.ACKNOWLEDGED,
-            "held_alarms": [fields_of(ALARM, place)["code"].decode("ascii") for place in alarms.places]}
+            "held_alarms": [fields_of(ALARM, alarm)["code"].decode("ascii") for alarm in alarms.notices]}
 
 
 @test
