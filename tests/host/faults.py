@@ -200,7 +200,7 @@ IN_HOST = [
     ("the sessions of a table from before places not moved", "tables-from-before-places", "replaying.c",
      "        move_regions(table, PLACES, THIRD_REGION);\n", "        ;\n"),
     ("what waits put to the first place", "tables-from-before-places", "replaying.c", "    return (uint8_t)place;\n", "    return 0;\n"),
-    ("results told apart by their first bytes", "tables-from-before-places", "replaying.c", "result, PLACE) != 0)", "result, 25) != 0)"),
+    ("results told apart by their first byte", "tables-from-before-places", "replaying.c", "result, PLACE) != 0)", "result, 1) != 0)"),
     ("the open result alone brought up to date", "tables-from-before-places", "replaying.c", "slot < SLOT_COUNT &&", "slot < 1 &&"),
     ("alarms of a table from before places lost", "tables-from-before-places", "replaying.c", "    if (size > EARLIER_REGION)\n",
      "    if (size > THIRD_REGION)\n"),

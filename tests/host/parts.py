@@ -171,13 +171,13 @@ def tables_of_an_earlier_map(place, earlier, without, told):
         equal([region.tightenings() for region in lent_table.regions(brought)], held, "what waits in table %d, brought up to date" % part)
         equal(without(place.own_replayed(content(path), table)), without(today), "what part %d gives" % part)
     check(sum(kept) > 100 and alarms > 5, "only %d tightenings were kept and %d alarms held: this shows too little", sum(kept), alarms)
-    check(waiting > 50 and shared > 10, "only %d results waited, %d once more: this shows too little", waiting, shared)
+    check(waiting > 50 and shared > 1, "only %d results waited, %d of them for a second session: this shows too little", waiting, shared)
     drawn = subprocess.run([os.path.join(harness.TOOLS, "ladder"), place.journal], capture_output=True, timeout=SECONDS, check=False)
     rows = re.sub(rb"\n[ |.]*", b" ", drawn.stdout)  # a label may go on in the next line
     check(drawn.returncode == 0 and told(kept[-1]).encode() in rows, "what is drawn: %r", drawn)
     os.remove(place.state)
     place.refused(place.start(), 1, place.state, place.journal, "--state-behind", "that %d was" % play.number)
-    place.said.append("%d tables" % (len(parts) - 1))
+    place.said.append("%d tables, %d results waiting in them, %d for one session more" % (len(parts) - 1, waiting, shared))
     return table, was
 
 
