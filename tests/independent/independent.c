@@ -1069,8 +1069,8 @@ static bool find_place(struct state *state, const uint8_t *result)
     if (place == places + PLACES)
         return false;
     for (unsigned s = 0; s < SESSIONS; s++) {
-        uint8_t *copy = held_copy(&state->session[s], place->number);
-        if (copy != NULL)
+        uint8_t *copy;
+        while ((copy = held_copy(&state->session[s], place->number)) != NULL)
             memcpy(copy, result, RESULT_BYTES);
     }
     *place = (struct place){ .number = number_of(result) };
