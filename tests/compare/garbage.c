@@ -7,13 +7,17 @@
    A call answers 2 exactly where the table is not well formed, by the rule that stands in docs/TABLE.md and, of the
    independent implementation, in tests/README.md; both are said again here. A refused call alters no byte of table or
    output; one that is done leaves the output past its written bytes, and a table that is well formed. Pages that may not
-   be touched lie behind all that is lent, and before the table. The product's calls are made over a twin of the table too,
-   which has something else where a table has no meaning: in the lanes of sessions that are not started, where the memory keeps
-   nothing, and at the places that no session holds; and what waits stands at other places, or at one for each session that holds it.
-   They answer and write the same. Exit status 0: all so, and what is to be met was met often
-   enough: a count over its bound in a started, subscribed session and in the memory, a revision there that no subscription asks for,
-   both of each kind of notice, a place that is none of the 32, a place that one session holds twice, a session with such lanes that
-   started, an 0065 out of such a memory, and an 0061 from such places. */
+   be touched lie behind all that is lent, and before the table. In a history that is not altered the product's table has one
+   copy of each result that waits.
+
+   The product's calls are made over a twin of the table too, which has something else where a table has no meaning: in the
+   lanes of sessions that are not started, where the memory keeps nothing, and at the places that no session holds; and what
+   waits stands at other places, or at one for each session that holds it. They answer and write the same.
+
+   Exit status 0: all so, and what is to be met was met often enough: a count over its bound in a started, subscribed session
+   and in the memory, a revision there that no subscription asks for, both of each kind of notice, a place that is none of the
+   32, a place that one session holds twice, a session with such lanes that started, an 0065 out of such a memory, and an 0061
+   from such places. */
 #define _DEFAULT_SOURCE /* MAP_ANONYMOUS */
 #include "../independent/independent.h"
 
@@ -87,6 +91,26 @@ static bool place_held_twice(const uint8_t *session)
         if (memchr(session + SLOTS, session[SLOTS + slot], slot) != NULL)
             return true;
     return false;
+}
+
+/* Where only calls wrote the table: is there one copy of each result that waits, whoever waits for it? Two that are held are at one place
+   where they have one number, and elsewhere else. */
+static bool one_copy_of_each(const uint8_t *table)
+{
+    uint32_t stands[PLACES] = { 0 }; /* the number of what is held there */
+    for (unsigned s = 0; s < SESSIONS; s++) {
+        const uint8_t *session = table + FIRST_SESSION + s * SESSION_SIZE;
+        for (unsigned slot = 0; session[0] == 2 && slot < slots_held(session); slot++) {
+            unsigned place = session[SLOTS + slot];
+            stands[place] = four_bytes(table + FIRST_PLACE + place * PLACE + KEPT_SIZE);
+            for (unsigned other = 0; other < PLACES; other++)
+                if (other != place && stands[other] == stands[place])
+                    return false;
+        }
+        if (session[0] == 2 && place_held_twice(session))
+            return false;
+    }
+    return true;
 }
 
 /* A lane begins with form, clock and count. Of a session that is not started they are to be so too, and its places, though they have no
@@ -192,6 +216,7 @@ static bool spoil_place(uint8_t *session, unsigned (*any_below)(unsigned))
 static bool spoil_place(uint8_t *session, unsigned (*any_below)(unsigned)) { return (void)session, (void)any_below, false; }
 static bool places_formed(const uint8_t *session) { return (void)session, true; }
 static bool place_held_twice(const uint8_t *session) { return (void)session, false; }
+static bool one_copy_of_each(const uint8_t *table) { return (void)table, true; }
 
 enum { USED = 14076, MARK_SIZE = 8, FIRST_SESSION = 66, SESSION_SIZE = 1934, RUN_COUNT = 2, CONTROL_SIZE = 19, SHARED_SIZE = 66 };
 enum { LAST = 37, KEPT_COUNT = 7802, OLDEST = 7803, MEMORY = 7804, KEPT_SIZE = 98 };
@@ -645,6 +670,8 @@ static void serve_history(const uint8_t *data, size_t size, uint32_t seed)
     memset(table, 0, TABLE);
     for (size_t at = 0; next_asked(data, size, &at, &asked);) {
         checked_call(&asked);
+        if (!one_copy_of_each(table))
+            wrong("a result that waits has no copy or two", answered(0));
         if (roll(2))
             aside(&asked);
     }
