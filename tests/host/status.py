@@ -158,7 +158,7 @@ def the_status_and_the_table(place):
     told, = wait(stopped_now, "a status of sessions that were stopped, which tells what the table holds")
     left = [region.data[at] for region in regions() if region.phase() == lent_table.OPENED for at, _ in lent_table.LANES]
     check(any(left), "nothing is left of any subscription: this shows too little")
-    place.said.append("100 times, with %d results, %d of them by one session more, and %d alarms held; and with %d subscriptions left of %d "
+    place.said.append("100 times, with %d results, %d by one session more, and %d alarms held; and with %d subscriptions left of %d "
                       "that were stopped" % (held, shared, alarms, len([form for form in left if form]),
                                              len([session for session in told if session["phase"] == "opened"])))
 
