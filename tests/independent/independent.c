@@ -1467,7 +1467,8 @@ static void tick_session(struct state *state, unsigned s, struct output *output)
         tick_notices(state, s, output);
     if (over) {
         put_record(output, RECORD_KIND_CLOSE + s, NULL, 0);
-        plant_in_time_out(session);
+        if (PLACES_PLANTED)
+            plant_in_time_out(session);
         clear_session(session, CLOSED, KEPT_THROUGH_TIME_OUT);
         forget_kept(&state->memory, MEMORY_GONE_AT_TIME_OUT);
     }
