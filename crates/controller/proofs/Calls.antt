@@ -7,7 +7,7 @@ use mathlib.Core.List.{List, [], _∷_, _++_}
 use mathlib.Core.Option.{some}
 use lib.ListN.{length}
 use lib.Seq.{sets}
-use Rattle.model.specs.Limits.{output-least}
+use Rattle.model.specs.Limits.{session-count, output-least}
 use Rattle.model.specs.Records.{Settings, payload, settings-of, read-settings}
 use Rattle.model.specs.Session.{Emission}
 use Rattle.model.specs.World.{World, uncounted, Moment, begins, opens, hangs-up, each, begun, next, emits, emitted}
@@ -84,10 +84,9 @@ nothing-passed t o h = record {
 pub start-silent : (w : World) (st : Settings) → emits w (begins st) ≡ []
 start-silent w st = said-none (each w (begins st)) (λ n x. refl) 0 (w .sessions)
 
--- and what it leaves of any table is the begun world
-pub start-begins : (t : List ℕ) (st : Settings) → uncounted (next (decode t) (begins st)) ≡ begun st 0
-unfolding decode
-start-begins t st = ap uncounted (begins-begun (decode t) st (so-many-sessions t))
+-- and what it leaves of a world of so many sessions is the begun world
+pub start-begins : (w : World) (st : Settings) → length (w .sessions) ≡ session-count → uncounted (next w (begins st)) ≡ begun st 0
+start-begins w st h = ap uncounted (begins-begun w st h)
 
 -- a moment that only the table shows
 quietly : (t o : List ℕ) (m : Moment) {t′ : List ℕ} → emits (decode t) m ≡ [] → Becomes t (uncounted (next (decode t) m)) t′
@@ -107,4 +106,5 @@ hung-up-quietly t o s b = quietly t o (hangs-up s) (hangs-up-silent (decode t) s
 pub started-quietly : (t o slice : List ℕ) {t′ : List ℕ} → read-settings slice ≡ some (settings-of (payload slice))
     → Becomes t (begun (settings-of (payload slice)) 0) t′ → Went t o 0 (moments (decode t) (start slice)) 0 t′ o
 started-quietly t o slice {t′} e b =
-    let st = settings-of (payload slice) in rw e (quietly t o (begins st) (start-silent (decode t) st) (rw (start-begins t st) b))
+    let st = settings-of (payload slice) in
+    rw e (quietly t o (begins st) (start-silent (decode t) st) (rw (start-begins (decode t) st (so-many-sessions t)) b))

@@ -14,7 +14,6 @@ use Rattle.model.specs.Limits.{session-count}
 use Rattle.model.specs.Erased.{erase, erase-sub, erase-session, erase-world}
 use Rattle.text.specs.Cells.{cells}
 use Rattle.text.specs.Areas.{areas}
-use Rattle.frame.specs.Places.{notice-in, place-size}
 use Rattle.session.specs.declared.Form.{Form}
 use Rattle.session.specs.declared.Form.the-variants.{Not, Plain, Acknowledged}
 use Rattle.session.specs.declared.Phase.{Phase}
@@ -22,10 +21,10 @@ use Rattle.session.specs.declared.Phase.the-variants.{Closed, Opened, Started}
 use Rattle.session.specs.Meaning.{pending-in, subscription-as, session-as}
 use Rattle.run.specs.Area.{run-of}
 use Rattle.head.specs.Head.{head-of}
-use Rattle.lane.specs.Kinds.{lane-size, control-size}
+use Rattle.lane.specs.Kinds.{slot-size, lane-size, control-size}
 use Rattle.lane.specs.Lane.{control-of, notices-in, lane-by, lane-of}
 use Rattle.region.specs.Region.{head-area, run-area, lane-at, subscriptions-in, session-of, region-size}
-use Rattle.table.specs.Table.{shared-area, shared-of, region-at, decode}
+use Rattle.table.specs.Table.{shared-area, places-area, shared-of, region-at, reading, reading-in, decode}
 
 -- cells, and areas, that a function leaves as they are read
 
@@ -51,12 +50,14 @@ sub-erased Plain revision clock ns e = refl
 sub-erased Acknowledged revision clock [] e = refl
 sub-erased Acknowledged revision clock (n ∷ ns) e = ap (λ (l : List Notice). acked revision (pending-in clock l)) e
 
-lane-erased : (kind : ℕ) (l : List ℕ) → erase-sub (lane-of kind l) ≡ lane-of kind l
-unfolding lane-by notices-in
-lane-erased kind l =
-    let x = control-of l in
-    sub-erased (x .form) (x .revision) (x .clock) _
-    (cells-same erase (notice-in kind) (λ p. refl) (place-size kind) (x .held) (drop control-size l))
+-- whatever the places hold
+module _ (a : List ℕ) where
+  lane-erased : (kind : ℕ) (l : List ℕ) → erase-sub (lane-of (reading a) kind l) ≡ lane-of (reading a) kind l
+  unfolding lane-by notices-in
+  lane-erased kind l =
+      let x = control-of l in
+      sub-erased (x .form) (x .revision) (x .clock) _
+      (cells-same erase (reading a kind) (λ p. refl) (slot-size kind) (x .held) (drop control-size l))
 
 as-erased : (phase : Phase) (idle : ℕ) (run : Run) (subs : List model.Subscription) → map erase-sub subs ≡ subs
     → erase-session (session-as phase idle run subs) ≡ session-as phase idle run subs
@@ -64,15 +65,16 @@ as-erased Closed idle run subs e = refl
 as-erased Opened idle run subs e = refl
 as-erased Started idle run subs e = ap (started idle run) e
 
-session-erased : (r : List ℕ) → erase-session (session-of r) ≡ session-of r
+session-erased : (a r : List ℕ) → erase-session (session-of (reading a) r) ≡ session-of (reading a) r
 unfolding session-of subscriptions-in
-session-erased r =
+session-erased a r =
     let x = head-of (head-area r) in
-    as-erased (x .phase) (x .idle) (run-of (run-area r)) (subscriptions-in r)
-    (areas-same erase-sub lane-of lane-erased lane-at lane-size 0 (length kinds) r)
+    as-erased (x .phase) (x .idle) (run-of (run-area r)) (subscriptions-in (reading a) r)
+    (areas-same erase-sub (lane-of (reading a)) (lane-erased a) lane-at lane-size 0 (length kinds) r)
 
 pub decode-erased : (t : List ℕ) → decode t ≡ erase-world (decode t)
 unfolding decode
 decode-erased t =
     ap (λ (ss : List model-session.Session). record { shared = shared-of (shared-area t); sessions = ss })
-    (sym (areas-same erase-session (λ (s : ℕ). session-of) (λ s. session-erased) region-at (λ (s : ℕ). region-size) 0 session-count t))
+    (sym (areas-same erase-session (λ (s : ℕ). session-of (reading-in t)) (λ s. session-erased (places-area t)) region-at
+    (λ (s : ℕ). region-size) 0 session-count t))

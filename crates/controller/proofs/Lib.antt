@@ -7,3 +7,4 @@ pub mod Erased
 pub mod Outputs
 pub mod Modelled
 pub mod Uncut
+pub mod Layouts

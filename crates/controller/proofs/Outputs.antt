@@ -22,10 +22,9 @@ use Rattle.model.proofs.Framed.{every-append}
 use Rattle.model.proofs.RowLaws.{length-row}
 use Rattle.model.proofs.Refusals.{has-output}
 use Rattle.text.proofs.Lists.{take-sets, drop-sets-after}
-use Rattle.table.specs.Table.{decode}
-use Rattle.refusal.specs.Numbers.{lent, number}
 use Rattle.controller.specs.declared.Answer.{Answer}
-use Rattle.controller.specs.Contract.{said, Outcome}
+use Rattle.controller.specs.Layout.{Layout, ours}
+use Rattle.controller.specs.Contract.{lent-in, said-in, OutcomeIn, Outcome}
 use Rattle.controller.proofs.Calls.{start-silent}
 
 -- what is written is as long as the answer says
@@ -34,7 +33,7 @@ written-is w c zero = refl
 written-is w c (suc n) = refl
 
 -- one that asks for no output writes nothing
-silent : (w : World) (c : Call) → (does w c) .asks .output ≡ false → output (emitted w (moments w c)) ≡ []
+pub silent : (w : World) (c : Call) → (does w c) .asks .output ≡ false → output (emitted w (moments w c)) ≡ []
 silent w (start slice) e = go (read-settings slice)
   where
     go : (o : Option Settings) → output (emitted w (at-most-one (option-map begins o) ++ [])) ≡ []
@@ -46,32 +45,39 @@ silent w (bytes s bs) e = absurd (true≢false e)
 silent w one-tick e = absurd (true≢false e)
 silent w (tool slice) e = absurd (true≢false e)
 
-module _ (t : List ℕ) (n : ℕ) (c : Call) where
+module _ (l : Lent) (w : World) (c : Call) where
   -- a call that is done has room for it
-  room : (k : ℕ) → number t n c ≡ 0 → k ≡ length (output (emitted (decode t) (moments (decode t) c))) → k ≤ output-least → k ≤ n
-  room k e q h = go ((does (decode t) c) .asks .output) refl
+  room : (k : ℕ) → refusal l w c ≡ 0 → k ≡ length (output (emitted w (moments w c))) → k ≤ output-least → k ≤ l .output
+  room k e q h = go ((does w c) .asks .output) refl
     where
-      go : (b : Bool) → (does (decode t) c) .asks .output ≡ b → k ≤ n
-      go true a = omega (arith, ltb-false n output-least (has-output (lent t n) (decode t) c e a))
-      go false a = omega (arith, q, ap length (silent (decode t) c a))
+      go : (b : Bool) → (does w c) .asks .output ≡ b → k ≤ l .output
+      go true a = omega (arith, ltb-false (l .output) output-least (has-output l w c e a))
+      go false a = omega (arith, q, ap length (silent w c a))
 
-pub so-long : {c : Call} {t o : List ℕ} {r : Answer} {t′ o′ : List ℕ} → Outcome c t o r t′ o′
-    → r .written ≡ length (output ((said c t o) .2))
+-- in any layout
+pub so-long : {layout : Layout} {c : Call} {t o : List ℕ} {r : Answer} {t′ o′ : List ℕ} → OutcomeIn layout c t o r t′ o′
+    → r .written ≡ length (output ((said-in layout c t o) .2))
 unfolding step
-so-long {c = c} {t = t} {o = o} out = ap (λ (a : Answer). a .written) (out .answer) ∙ written-is (decode t) c (number t (length o) c)
+so-long {layout = layout} {c = c} {t = t} {o = o} out =
+    let w = layout .decode t in
+    ap (λ (a : Answer). a .written) (out .answer) ∙ written-is w c (refusal (lent-in layout t (length o)) w c)
 
 -- what a call says has a place
-pub record Stands (c : Call) (t o : List ℕ) (r : Answer) (o′ : List ℕ) : Type 0 where
+pub record StandsIn (layout : Layout) (c : Call) (t o : List ℕ) (r : Answer) (o′ : List ℕ) : Type 0 where
   pub within : r .written ≤ length o
-  pub records : take (r .written) o′ ≡ output ((said c t o) .2)
+  pub records : take (r .written) o′ ≡ output ((said-in layout c t o) .2)
   pub behind : drop (r .written) o′ ≡ drop (r .written) o
 
-pub stands : {c : Call} {t o : List ℕ} {r : Answer} {t′ o′ : List ℕ} → Outcome c t o r t′ o′ → Stands c t o r o′
+abbrev pub Stands : Call → List ℕ → List ℕ → Answer → List ℕ → Type 0
+Stands c t o r o′ = StandsIn ours c t o r o′
+
+pub stands-in : {layout : Layout} {c : Call} {t o : List ℕ} {r : Answer} {t′ o′ : List ℕ} → OutcomeIn layout c t o r t′ o′
+    → StandsIn layout c t o r o′
 unfolding step
-stands {c = c} {t = t} {o = o} {r = r} {t′ = t′} {o′ = o′} out =
-    let bs = output ((said c t o) .2) in
+stands-in {layout = layout} {c = c} {t = t} {o = o} {r = r} {t′ = t′} {o′ = o′} out =
+    let bs = output ((said-in layout c t o) .2) in
     let n : r .written ≡ length bs = so-long out in
-    let h : r .written ≤ length o = go (number t (length o) c) refl n in
+    let h : r .written ≤ length o = go (lent-in layout t (length o)) (layout .decode t) _ refl n in
     record {
       within = h;
       records =
@@ -80,10 +86,13 @@ stands {c = c} {t = t} {o = o} {r = r} {t′ = t′} {o′ = o′} out =
       behind = ap (drop (r .written)) (out .output) ∙ drop-sets-after bs o 0 (r .written) (omega arith);
     }
   where
-    go : (m : ℕ) → number t (length o) c ≡ m → r .written ≡ length (output ((answered (decode t) c (number t (length o) c)) .2))
-        → r .written ≤ length o
-    go zero e q = room t (length o) c (r .written) e (q ∙ ap (λ (k : ℕ). length (output ((answered (decode t) c k) .2))) e) (out .fits)
-    go (suc m) e q = let z = q ∙ ap (λ (k : ℕ). length (output ((answered (decode t) c k) .2))) e in omega arith
+    go : (l : Lent) (w : World) (m : ℕ) → refusal l w c ≡ m → r .written ≡ length (output ((answered w c (refusal l w c)) .2))
+        → r .written ≤ l .output
+    go l w zero e q = room l w c (r .written) e (q ∙ ap (λ (k : ℕ). length (output ((answered w c k) .2))) e) (out .fits)
+    go l w (suc m) e q = let z = q ∙ ap (λ (k : ℕ). length (output ((answered w c k) .2))) e in omega arith
+
+pub stands : {c : Call} {t o : List ℕ} {r : Answer} {t′ o′ : List ℕ} → Outcome c t o r t′ o′ → Stands c t o r o′
+stands out = stands-in out
 
 -- ==== whatever goes out goes to one of the sessions
 

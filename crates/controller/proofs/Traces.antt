@@ -1,17 +1,19 @@
 -- 01, "What the product holds": number 2 never occurs in a history that begins with a start that is done.
-use mathlib.Core.Path.{_≡_, refl, sym, ap, subst, _∙_}
+use mathlib.Core.Path.{_≡_, refl, sym, ap, _∙_}
 use Prim.Native.Nat.{ℕ, zero, suc}
 use native.Mathlib.Omega.{arith}
+use mathlib.Core.Bool.{true}
 use mathlib.Core.List.{List, []}
 use lib.ListN.{length}
 use Rattle.model.specs.World.{World}
-use Rattle.model.specs.Calls.{Call, start, answered, step}
+use Rattle.model.specs.Calls.{Call, start, refusal, answered, step}
 use Rattle.model.proofs.Refusals.{never-2}
 use Rattle.table.specs.Table.{decode, Table}
-use Rattle.refusal.specs.Numbers.{lent, number}
+use Rattle.refusal.specs.Numbers.{lent}
 use Rattle.refusal.proofs.Numbers.{start-passes}
 use Rattle.controller.specs.declared.Answer.{Answer}
-use Rattle.controller.specs.Contract.{Outcome}
+use Rattle.controller.specs.Layout.{Layout}
+use Rattle.controller.specs.Contract.{lent-in, OutcomeIn, Outcome}
 use Rattle.controller.specs.Trace.{Made, Trace, none, and, Never, History}
 
 -- the first of the four numbers is the refusal's
@@ -19,18 +21,27 @@ answered-number : (w : World) (c : Call) (n : ℕ) → (answered w c n) .1 .numb
 answered-number w c zero = refl
 answered-number w c (suc n) = refl
 
-pub number-is : {c : Call} {t o : List ℕ} {r : Answer} {t′ o′ : List ℕ} → Outcome c t o r t′ o′ → r .number ≡ number t (length o) c
+-- in any layout
+pub number-is : {layout : Layout} {c : Call} {t o : List ℕ} {r : Answer} {t′ o′ : List ℕ} → OutcomeIn layout c t o r t′ o′
+    → r .number ≡ refusal (lent-in layout t (length o)) (layout .decode t) c
 unfolding step
-number-is {c = c} {t = t} {o = o} out = ap (λ (a : Answer). a .number) (out .answer) ∙ answered-number (decode t) c (number t (length o) c)
+number-is {layout = layout} {c = c} {t = t} {o = o} out =
+    let w = layout .decode t in
+    ap (λ (a : Answer). a .number) (out .answer) ∙ answered-number w c (refusal (lent-in layout t (length o)) w c)
 
 -- ==== what a call leaves of a table is a table
 
-pub table-left : {c : Call} {t o : List ℕ} {r : Answer} {t′ o′ : List ℕ} → Table t → Outcome c t o r t′ o′ → Table t′
-table-left {t = t} {r = r} {t′ = t′} h out = go (r .number) refl
+-- in any layout: what was well formed is
+pub formed-left : {layout : Layout} {c : Call} {t o : List ℕ} {r : Answer} {t′ o′ : List ℕ} → layout .formed t ≡ true
+    → OutcomeIn layout c t o r t′ o′ → layout .formed t′ ≡ true
+formed-left {layout = layout} {r = r} {t′ = t′} h out = go (r .number) refl
   where
-    go : (n : ℕ) → r .number ≡ n → Table t′
-    go zero e = let z = h .size in record { size = omega (arith, out .size); formed = out .formed e }
-    go (suc n) e = subst Table (sym (out .kept (λ z. omega arith))) h
+    go : (n : ℕ) → r .number ≡ n → layout .formed t′ ≡ true
+    go zero e = out .formed e
+    go (suc n) e = ap (layout .formed) (out .kept (λ z. omega arith)) ∙ h
+
+pub table-left : {c : Call} {t o : List ℕ} {r : Answer} {t′ o′ : List ℕ} → Table t → Outcome c t o r t′ o′ → Table t′
+table-left h out = let z = h .size in record { size = omega (arith, out .size); formed = formed-left (h .formed) out }
 
 none-is-2 : {t t′ : List ℕ} {ms : List Made} → Table t → Trace t ms t′ → Never 2 ms
 none-is-2 h none = tt

@@ -1,4 +1,6 @@
+pub mod Layout
 pub mod Contract
 pub mod Trace
 pub mod HandedOn
 pub mod Tool
+pub mod Before

@@ -7,7 +7,8 @@ use lib.ListN.{length, take}
 use Rattle.model.specs.Calls.{Call, start, Lent}
 use Rattle.model.specs.Calls as model
 use Rattle.controller.specs.declared.Answer.{Answer}
-use Rattle.controller.specs.Contract.{Outcome, model-answer}
+use Rattle.controller.specs.Layout.{Layout, ours}
+use Rattle.controller.specs.Contract.{OutcomeIn, model-answer}
 
 -- a call that was made: the output that it was lent, its answer, and the output that it left
 pub record Made : Type 0 where
@@ -18,10 +19,13 @@ pub record Made : Type 0 where
 
 -- t is lent to the first call, and what a call leaves of it to the next; t′ is what the last one leaves. The output may be another one
 -- each time, and too short
-pub data Trace : List ℕ → List Made → List ℕ → Type 0 where
-  none : {t : List ℕ} → Trace t [] t
+pub data TraceIn (layout : Layout) : List ℕ → List Made → List ℕ → Type 0 where
+  none : {t : List ℕ} → TraceIn layout t [] t
   and : {t t₁ t₂ : List ℕ} {m : Made} {ms : List Made}
-      → Outcome (m .call) t (m .output) (m .answer) t₁ (m .output-left) → Trace t₁ ms t₂ → Trace t (m ∷ ms) t₂
+      → OutcomeIn layout (m .call) t (m .output) (m .answer) t₁ (m .output-left) → TraceIn layout t₁ ms t₂ → TraceIn layout t (m ∷ ms) t₂
+
+abbrev pub Trace : List ℕ → List Made → List ℕ → Type 0
+Trace t ms t′ = TraceIn ours t ms t′
 
 -- none of the answers has that number
 abbrev pub Never : ℕ → List Made → Type 0
@@ -29,13 +33,16 @@ Never n [] = Unit {0}
 Never n (m ∷ ms) = (m .answer .number ≡ n → ⊥) × Never n ms
 
 -- a history that begins with a start that is done
-pub record History (t : List ℕ) (ms : List Made) (t′ : List ℕ) : Type 0 where
+pub record HistoryIn (layout : Layout) (t : List ℕ) (ms : List Made) (t′ : List ℕ) : Type 0 where
   pub before : List ℕ
   pub settings : List ℕ
   pub answer : Answer
-  pub begins : Outcome (start settings) before [] answer t []
+  pub begins : OutcomeIn layout (start settings) before [] answer t []
   pub done : answer .number ≡ 0
-  pub then : Trace t ms t′
+  pub then : TraceIn layout t ms t′
+
+abbrev pub History : List ℕ → List Made → List ℕ → Type 0
+History t ms t′ = HistoryIn ours t ms t′
 
 -- ==== what a history shows, and the model's run of the same calls
 

@@ -2,7 +2,7 @@
 use mathlib.Core.Path.{_≡_, refl, sym, ap, _∙_}
 use Prim.Native.Nat.{ℕ, zero, suc, _≤_, _<_, _^_, zero-le}
 use native.Mathlib.Omega.{arith}
-use mathlib.Core.Bool.{false, _&&_, not, and-eq-true-iff}
+use mathlib.Core.Bool.{true, false, _&&_, not, and-eq-true-iff}
 use mathlib.Core.List.{List, [], _∷_}
 use lib.Dec.{leb, ltb, eqb, eqb·suc-zero, lit<, lit≤}
 use lib.ListN.{length, getD, take, drop, replicate}
@@ -22,8 +22,10 @@ use Rattle.session.specs.declared.Form.{Form}
 use Rattle.session.specs.declared.Form.the-variants.{Not, Plain, Acknowledged}
 use Rattle.session.specs.declared.Subscription.{Subscription}
 use Rattle.lane.specs.Kinds.{most, control-size, lane-size}
-use Rattle.lane.specs.Lane.{form-of, form-greatest, control-of, notices-in, lane-by, lane-formed, Lane, Cleared}
+use Rattle.lane.specs.Lane.{form-of, form-greatest, control-of, notices-in, slots-formed, lane-by, lane-formed, Lane}
+use Rattle.lane.specs.Lane.{Cleared}
 use Rattle.lane.specs.Lane.{Storable, Stored, any, Deals}
+use Rattle.lane.proofs.Slots.{same-formed, none-formed}
 
 pub form-else : (b : ℕ) → (b ≡ 0 → ⊥) → (b ≡ 1 → ⊥) → Acknowledged ≡ form-of b
 form-else zero h g = absurd (h refl)
@@ -40,6 +42,7 @@ unfolding in-bytes
 whole v h = omega arith
 
 module _ (kind : ℕ) (l : List ℕ) (x : Subscription) (f : ℕ) (size : length l ≡ lane-size kind) (k : Storable kind x)
+    (held : slots-formed kind (x .held) l ≡ true)
     (ef : form-of f ≡ x .form) (lf : f ≤ form-greatest) (fr : x .revision < 2 ^ 64) where
   abbrev bytes : List ℕ
   bytes = f ∷ x .clock ∷ x .held ∷ []
@@ -66,6 +69,12 @@ module _ (kind : ℕ) (l : List ℕ) (x : Subscription) (f : ℕ) (size : length
   byte : (i : ℕ) → i < 3 → getD stored i 0 ≡ getD bytes i 0
   byte i h = byte-of stored 3 there i h
 
+  behind : drop control-size stored ≡ drop control-size l
+  behind =
+      let s = same in
+      drop-sets-after (in-bytes 8 (x .revision)) first 8 control-size (let n = in-bytes-length 8 (x .revision) in omega arith)
+      ∙ drop-sets-after bytes l 0 control-size (lit≤ tt)
+
   pub stores : Stored kind x l stored
   unfolding control-of lane-formed
   stores =
@@ -86,10 +95,11 @@ module _ (kind : ℕ) (l : List ℕ) (x : Subscription) (f : ℕ) (size : length
                 le-leb f form-greatest lf,
                 lt-ltb (x .clock) given-up-at (k .clock),
                 le-leb (x .held) (most kind) (k .held),
+                same-formed kind l (x .held) stored behind,
+                held,
               );
         };
-        places = drop-sets-after (in-bytes 8 (x .revision)) first 8 control-size (omega arith)
-            ∙ drop-sets-after bytes l 0 control-size (lit≤ tt);
+        slots = behind;
       }
 
 -- what stands in a lane could be stored
@@ -98,9 +108,17 @@ unfolding control-of lane-formed
 storable kind l h =
     let f = leb (getD l 0 0) form-greatest in
     let c = ltb (getD l 1 0) given-up-at in
-    let a = and-eq-true-iff (f && c) (leb (getD l 2 0) (most kind)) .0 (h .formed) in
+    let m = leb (getD l 2 0) (most kind) in
+    let z = and-eq-true-iff (f && c && m) (slots-formed kind (getD l 2 0) l) .0 (h .formed) in
+    let a = and-eq-true-iff (f && c) m .0 (z .0) in
     let b = and-eq-true-iff f c .0 (a .0) in
     record { clock = ltb-true _ _ (b .1); held = leb-true _ _ (a .1) }
+
+pub held-formed : (kind : ℕ) (l : List ℕ) → Lane kind l → slots-formed kind (control-of l .held) l ≡ true
+unfolding control-of lane-formed
+held-formed kind l h =
+    and-eq-true-iff (leb (getD l 0 0) form-greatest && ltb (getD l 1 0) given-up-at && leb (getD l 2 0) (most kind))
+    (slots-formed kind (getD l 2 0) l) .0 (h .formed) .1
 
 -- ==== what the form alone tells
 
@@ -115,7 +133,7 @@ cleared kind l size =
     record {
       lane = record {
         size = length-sets l 0 zeros ∙ size;
-        formed = rw (byte 0 (lit< tt), byte 1 (lit< tt), byte 2 (lit< tt), le-leb 0 (most kind) zero-le);
+        formed = rw (byte 0 (lit< tt), byte 1 (lit< tt), byte 2 (lit< tt), le-leb 0 (most kind) zero-le, none-formed kind l′);
       };
       means = λ read. rw (byte 0 (lit< tt));
     }

@@ -1,4 +1,5 @@
 pub mod KindLaws
+pub mod Slots
 pub mod Controls
 pub mod Deeds
 pub mod Lanes

@@ -1,7 +1,8 @@
--- What is said of a lane: where a notice is open, it is the one in the first place; a copy of it, and a copy of an event, has the revision
+-- What is said of a lane: where a notice is open, it is the one in the first slot; a copy of it, and a copy of an event, has the revision
 -- and the byte 12 that the control tells. What is sent is such a copy, and of the lane as it is afterwards.
 use mathlib.Core.Path.{_≡_, refl, sym, ap}
-use Prim.Native.Nat.{ℕ, zero, suc, _%_}
+use Prim.Native.Nat.{ℕ, zero, suc, _%_, _<_}
+use native.Mathlib.Omega.{arith}
 use mathlib.Core.Bool.{Bool, true, cond, true≢false}
 use mathlib.Core.List.{List, [], _∷_}
 use lib.Dec.{eqb}
@@ -27,13 +28,13 @@ use Rattle.lane.specs.Lane.{is-plain, control-of, first-in, notices-in, 
 abbrev pub copy-by : Settings → Bool → List ℕ → Notice → Copy
 copy-by st no-acknowledge l n = record { notice = n; frame = event-frame st (control-of l .revision) no-acknowledge (n .event) }
 
--- ==== a lane as it stands, for every reading of a place
+-- ==== a lane as it stands, for every reading of a slot
 
 module _ (read : List ℕ → Notice) (kind : ℕ) (l : List ℕ) where
   abbrev sub : Form → ℕ → Subscription
   sub f held = subscription-as f (control-of l .revision) (control-of l .clock) (notices-in read kind held l)
 
-  -- the open notice is in the first place, and the others wait
+  -- the open notice is in the first slot, and the others wait
   pub open-there : any (open-one (lane-by read kind l)) ≡ true
       → lane-by read kind l
       ≡ acked (control-of l .revision)
@@ -48,6 +49,17 @@ module _ (read : List ℕ → Notice) (kind : ℕ) (l : List ℕ) where
       go Plain held e = absurd (true≢false (sym e))
       go Acknowledged zero e = absurd (true≢false (sym e))
       go Acknowledged (suc n) e = refl
+
+  -- one is held
+  pub held-open : any (open-one (lane-by read kind l)) ≡ true → 0 < control-of l .held
+  unfolding lane-by notices-in cells
+  held-open e = go (control-of l .form) (control-of l .held) e
+    where
+      go : (f : Form) (held : ℕ) → any (open-one (sub f held)) ≡ true → 0 < held
+      go Not held e = absurd (true≢false (sym e))
+      go Plain held e = absurd (true≢false (sym e))
+      go Acknowledged zero e = absurd (true≢false (sym e))
+      go Acknowledged (suc n) e = omega arith
 
   pub open-first : any (open-one (lane-by read kind l)) ≡ true → open-one (lane-by read kind l) ≡ read (first-in kind l) ∷ []
   open-first e = ap open-one (open-there e)

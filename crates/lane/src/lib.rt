@@ -1,31 +1,37 @@
 // A lane: a session's subscription to one kind of notice and the notices that it holds, in one part of the lent table. Its functions
 // change it and say whether a copy is to be sent; what is sent is written elsewhere.
 ghost use mathlib.Core.Path.{_≡_};
+ghost use mathlib.Core.Bool.{true};
 ghost use mathlib.Core.List.{List};
 ghost use Prim.Native.Nat.{ℕ, _≤_, _<_};
 ghost use lib.ListN.{length};
-ghost use Rattle.model.specs.Kinds.{kinds, room-of};
+ghost use Rattle.model.specs.Kinds.{kinds, room-of, tightenings};
+ghost use Rattle.model.specs.Bytes.{all};
 ghost use Rattle.model.specs.Events.{Notice};
-ghost use Rattle.frame.specs.Places.{place-size as place-size-of};
+ghost use Rattle.places.specs.Places.{is-place};
 ghost use Rattle.model.specs.Notices.{is-subscribed as is-subscribed-so, beats};
 ghost use Rattle.session.specs.Meaning.{deed-of, is-taken as is-taken-so};
 ghost use Rattle.session.specs.Control.{taken, taken-busy, holding as holding-so};
-ghost use Rattle.lane.specs.Kinds.{row-of as row-so, control-size, lane-size};
+ghost use Rattle.lane.specs.Kinds.{row-of as row-so, slot-size as slot-size-of, control-size, lane-size};
 ghost use Rattle.lane.specs.Lane.{
   form-of,
   form-greatest,
   control-of,
   first-in,
   lane-by,
+  places-in,
+  slots-formed,
   lane-formed,
   Lane,
   Cleared,
+  SlotsTested,
   Storing,
   Stored,
   Shifting,
   Shifts,
   Deals,
   is-told as is-told-so,
+  is-held as is-held-so,
   Pushing,
   Pushes,
   Keeping,
@@ -42,13 +48,17 @@ use session::Taken;
 
 // ---- the kinds
 
-// What is to be known of a kind: how many notices are held at most, how many bytes each takes, and whether beside the open one the
-// newest alone waits.
+// What is to be known of a kind: how many notices are held at most, how many bytes the slot of each takes, whether beside the open one the
+// newest alone waits, and whether a slot is the place where the notice stands.
 struct Row {
     most: u64,
     size: usize,
     newest: bool,
+    placed: bool,
 }
+
+// A place, by its number.
+const PLACE_NUMBER_SIZE: usize = 1;
 
 // The one function that has a case for each kind; the last kind has the last arm.
 fn row_of(kind: usize) -> Row
@@ -60,30 +70,33 @@ fn row_of(kind: usize) -> Row
             most: Session::IDENTIFIERS_HELD,
             size: model::IDENTIFIER_LENGTH,
             newest: true,
+            placed: false,
         },
         model::TIGHTENINGS => Row {
             most: Session::TIGHTENINGS_HELD,
-            size: model::RESULT_LENGTH,
+            size: PLACE_NUMBER_SIZE,
             newest: false,
+            placed: true,
         },
         _ => Row {
             most: Session::ALARMS_HELD,
             size: model::ALARM_LENGTH,
             newest: false,
+            placed: false,
         },
     }
 }
 
-// How many bytes a notice of that kind takes.
-pub fn place_size(kind: usize) -> usize
+// How many bytes the slot of a notice of that kind takes.
+fn slot_size(kind: usize) -> usize
     requires { ⌜ kind < length kinds ⌝ }
-    ensures { λ r. ⌜ r ≡ place-size-of kind ⌝ }
+    ensures { λ r. ⌜ r ≡ slot-size-of kind ⌝ }
 {
     let row = row_of(kind);
     row.size
 }
 
-// The control is before the places.
+// The control is before the slots.
 const CONTROL_SIZE: usize = 16;
 
 // Before it in the control: the form, the clock, how many are held.
@@ -101,6 +114,8 @@ pub fn size(kind: usize) -> usize
 // ---- the control
 
 const FORM_GREATEST: u8 = 2;
+
+const PLACE_GREATEST: u8 = 31;
 
 fn wide(x: u8) -> u64
     ensures { λ r. ⌜ r ≡ x ⌝ }
@@ -128,7 +143,18 @@ fn form_byte(f: Form) -> u8
     }
 }
 
-// Whether the control is that of a subscription to that kind.
+// Whether each of the first so many slots is one of the places that there are, where they are places.
+fn slots_formed(lane: &[u8], kind: usize, held: usize, placed: bool) -> bool
+    requires { ⌜ SlotsTested kind held «placed» (now lane) ⌝ }
+    ensures { λ r. ⌜ r ≡ slots-formed kind held (now (lane .entry)) ⌝ }
+{
+    if !placed {
+        return true;
+    }
+    text::all_within(&lane[CONTROL_SIZE..CONTROL_SIZE + held], 0, PLACE_GREATEST)
+}
+
+// Whether the control is that of a subscription to that kind, and what it holds can be held.
 pub fn is_formed(lane: &[u8], kind: usize) -> bool
     requires { ⌜ (kind < length kinds) × (length (now lane) ≡ lane-size kind) ⌝ }
     ensures { λ r. ⌜ r ≡ lane-formed kind (now (lane .entry)) ⌝ }
@@ -140,7 +166,11 @@ pub fn is_formed(lane: &[u8], kind: usize) -> bool
         return false;
     }
     let row = row_of(kind);
-    wide(lane[2]) <= row.most
+    let held = wide(lane[2]);
+    if held > row.most {
+        return false;
+    }
+    slots_formed(lane, kind, held as usize, row.placed)
 }
 
 // The subscription.
@@ -182,12 +212,12 @@ pub fn is_subscribed(lane: &[u8]) -> bool
     lane[0] != 0
 }
 
-// The first place, as it stands: the open notice is there, where one is open.
+// The first slot, as it stands: the open notice is there, where one is open.
 pub fn first(lane: &[u8], kind: usize) -> &[u8]
     requires { ⌜ (kind < length kinds) × (length (now lane) ≡ lane-size kind) ⌝ }
     ensures { λ r. ⌜ now r ≡ first-in kind (now (lane .entry)) ⌝ }
 {
-    let end = CONTROL_SIZE + place_size(kind);
+    let end = CONTROL_SIZE + slot_size(kind);
     &lane[CONTROL_SIZE..end]
 }
 
@@ -201,7 +231,7 @@ fn shift_down(lane: &mut [u8], kind: usize, held: u64, shift: bool)
     if !shift {
         return;
     }
-    let size = place_size(kind);
+    let size = slot_size(kind);
     let others = (held - 1) as usize * size;
     text::shift(lane, CONTROL_SIZE, CONTROL_SIZE + size, others);
 }
@@ -271,7 +301,7 @@ fn busy(x: Subscription, kind: usize) -> Taken
 }
 
 // What becomes of its notice, and the subscription after it.
-fn taking(x: Subscription, kind: usize) -> Taken
+fn taken_by(x: Subscription, kind: usize) -> Taken
     requires { ⌜ kind < length kinds ⌝ }
     ensures { λ r. ⌜ r ≡ taken (room-of kind) x ⌝ }
 {
@@ -297,7 +327,16 @@ fn taking(x: Subscription, kind: usize) -> Taken
     }
 }
 
-fn is_taken(t: Take) -> bool
+// The same, by what stands in the lane.
+pub fn taking(lane: &[u8], kind: usize) -> Taken
+    requires { ⌜ (kind < length kinds) × Lane kind (now lane) ⌝ }
+    ensures { λ r. ⌜ r ≡ taken (room-of kind) (control-of (now (lane .entry))) ⌝ }
+{
+    taken_by(load(lane), kind)
+}
+
+// Whether its notice is taken, whether a copy of it is to be sent now, and whether it is held.
+pub fn is_taken(t: Take) -> bool
     ensures { λ r. ⌜ r ≡ is-taken-so t ⌝ }
 {
     match t {
@@ -308,7 +347,7 @@ fn is_taken(t: Take) -> bool
     }
 }
 
-fn is_told(t: Take) -> bool
+pub fn is_told(t: Take) -> bool
     ensures { λ r. ⌜ r ≡ is-told-so t ⌝ }
 {
     match t {
@@ -319,48 +358,56 @@ fn is_told(t: Take) -> bool
     }
 }
 
-// A notice goes to place i, as the last of those held, and the subscription that holds it to the control.
-fn put(lane: &mut [u8], kind: usize, i: u64, place: &[u8], next: Subscription)
-    requires { ⌜ Pushing kind i (now place) next (now lane) ⌝ }
-    ensures { λ _. ⌜ Pushes kind i (now (place .entry)) next (now (lane .entry)) (now (lane .exit)) ⌝ }
+pub fn is_held(t: Take) -> bool
+    ensures { λ r. ⌜ r ≡ is-held-so t ⌝ }
 {
-    let at = CONTROL_SIZE + i as usize * place_size(kind);
-    text::copy(place, lane, at);
+    match t {
+        Take::Not => false,
+        Take::Once => false,
+        Take::Opens => true,
+        Take::Waits(_) => true,
+    }
+}
+
+// What is to be held of a notice goes to slot i, as the last of those held, and the subscription that holds it to the control.
+fn put(lane: &mut [u8], kind: usize, i: u64, slot: &[u8], next: Subscription)
+    requires { ⌜ Pushing kind i (now slot) next (now lane) ⌝ }
+    ensures { λ _. ⌜ Pushes kind i (now (slot .entry)) next (now (lane .entry)) (now (lane .exit)) ⌝ }
+{
+    let at = CONTROL_SIZE + i as usize * slot_size(kind);
+    text::copy(slot, lane, at);
     store(lane, kind, next);
 }
 
-// It goes to its place, where it has one; where it has none, the lane is as it was.
-fn hold(lane: &mut [u8], kind: usize, take: Take, place: &[u8], next: Subscription)
-    requires { ⌜ Keeping kind take (now place) next (now lane) ⌝ }
-    ensures { λ _. ⌜ ((read : List ℕ → Notice) → Keeps read kind take (now (place .entry)) next (now (lane .entry)) (now (lane .exit))) ⌝ }
+// It goes to its slot, where it has one; where it has none, the lane is as it was.
+fn hold(lane: &mut [u8], kind: usize, take: Take, slot: &[u8], next: Subscription)
+    requires { ⌜ Keeping kind take (now slot) next (now lane) ⌝ }
+    ensures { λ _. ⌜ ((read : List ℕ → Notice) → Keeps read kind take (now (slot .entry)) next (now (lane .entry)) (now (lane .exit))) ⌝ }
 {
     match take {
         Take::Not => {}
         Take::Once => {}
-        Take::Opens => put(lane, kind, 0, place, next),
-        Take::Waits(i) => put(lane, kind, i, place, next),
+        Take::Opens => put(lane, kind, 0, slot, next),
+        Take::Waits(i) => put(lane, kind, i, slot, next),
     }
 }
 
-// Whether an event was taken, and whether a copy of it is to be sent now.
-pub struct Told {
-    pub taken: bool,
-    pub tell: bool,
-}
-
-// An event, whose notice is in `place`.
-pub fn take(lane: &mut [u8], kind: usize, place: &[u8]) -> Told
-    requires { ⌜ Taking kind (now place) (now lane) ⌝ }
-    ensures { λ r. ⌜ ((read : List ℕ → Notice) → Takes read kind (now (place .entry)) (now (lane .entry))
-        (r .taken) (r .tell) (now (lane .exit))) ⌝ }
+// An event of which that becomes; `slot` is what is held of its notice.
+pub fn take(lane: &mut [u8], kind: usize, taken: Taken, slot: &[u8])
+    requires { ⌜ Taking kind taken (now slot) (now lane) ⌝ }
+    ensures { λ _. ⌜ ((read : List ℕ → Notice) → Takes read kind (read (now (slot .entry))) (now (lane .entry)) (taken .take)
+        (now (lane .exit))) ⌝ }
 {
-    let x = load(lane);
-    let t = taking(x, kind);
-    let take = t.take;
-    let next = t.next;
-    hold(lane, kind, take, place, next);
-    Told {
-        taken: is_taken(take),
-        tell: is_told(take),
-    }
+    let take = taken.take;
+    let next = taken.next;
+    hold(lane, kind, take, slot, next);
+}
+
+// The places of the notices that are held, where the slots are places.
+pub fn places(lane: &[u8]) -> &[u8]
+    requires { ⌜ Lane tightenings (now lane) ⌝ }
+    ensures { λ r. ⌜ (now r ≡ places-in (now (lane .entry))) × (all is-place (now r) ≡ true) ⌝ }
+{
+    let end = CONTROL_SIZE + wide(lane[2]) as usize;
+    &lane[CONTROL_SIZE..end]
 }

@@ -14,7 +14,7 @@ use Rattle.model.specs.Notices.{Subscription, unsubscribed, Deed, news, act}
 use Rattle.model.specs.Session.{Copy, copy, copies-to, deal, only}
 use Rattle.model.specs.Row.{tag, row, said}
 use Rattle.model.proofs.RowLaws.{row-alone}
-use Rattle.lane.specs.Lane.{open-one, any}
+use Rattle.lane.specs.Lane.{Reading, open-one, any}
 use Rattle.lane.proofs.Sayings.{Quiet, after, told}
 use Rattle.region.specs.Region.{subscriptions-in, subscription-in}
 use Rattle.region.specs.Said.{copies-out, due-copy, due-copies, Ready, AllReady, acting, dues, DealtTo}
@@ -73,26 +73,26 @@ module _ (deed : ℕ → Deed) (quiet : (kind : ℕ) → Quiet (deed kind)) wher
 
 -- ==== one of them was dealt with, and nothing was done to the others
 
-module _ {kind : ℕ} {deed : Deed} {r r′ : List ℕ} {b : Bool} (few : kind < length kinds) (d : DealtTo kind deed r b r′) where
-  pub now-is : subscription-in kind r′ ≡ (act (room-of kind) deed (subscription-in kind r)) .0
+module _ (read : Reading) {kind : ℕ} {deed : Deed} {r r′ : List ℕ} {b : Bool} (few : kind < length kinds) (d : DealtTo read kind deed r b r′) where
+  pub now-is : subscription-in read kind r′ ≡ (act (room-of kind) deed (subscription-in read kind r)) .0
   now-is =
-      sym (subscription-at r′ kind few)
-      ∙ rw (d .changes .becomes .subscriptions) (getD-set-same (subscriptions-in r) kind _ unsubscribed (there r kind few))
+      sym (subscription-at read r′ kind few)
+      ∙ rw (d .changes .becomes .subscriptions) (getD-set-same (subscriptions-in read r) kind _ unsubscribed (there read r kind few))
 
   module _ (st : Settings) where
     passed : (i : ℕ) (z : Subscription) → (i ≡ kind → ⊥) → deal st (only kind deed) i z ≡ (z, [])
     passed i z h = rw (ne-eqb i kind h)
 
-    pub row-one : row (deal st (only kind deed)) 0 (subscriptions-in r) ≡ subscriptions-in r′
+    pub row-one : row (deal st (only kind deed)) 0 (subscriptions-in read r) ≡ subscriptions-in read r′
     row-one =
-        row-alone (deal st (only kind deed)) kind passed (subscriptions-in r) unsubscribed (there r kind few) .0
-        ∙ rw (d .changes .becomes .subscriptions, subscription-at r kind few, eq-eqb kind kind refl)
+        row-alone (deal st (only kind deed)) kind passed (subscriptions-in read r) unsubscribed (there read r kind few) .0
+        ∙ rw (d .changes .becomes .subscriptions, subscription-at read r kind few, eq-eqb kind kind refl)
 
-    pub said-one : map copy (said (deal st (only kind deed)) 0 (subscriptions-in r))
-        ≡ copies-out st kind (subscription-in kind r) ((act (room-of kind) deed (subscription-in kind r)) .1)
+    pub said-one : map copy (said (deal st (only kind deed)) 0 (subscriptions-in read r))
+        ≡ copies-out st kind (subscription-in read kind r) ((act (room-of kind) deed (subscription-in read kind r)) .1)
     said-one =
-        ap (map copy) (row-alone (deal st (only kind deed)) kind passed (subscriptions-in r) unsubscribed (there r kind few) .1)
-        ∙ rw (subscription-at r kind few, eq-eqb kind kind refl)
+        ap (map copy) (row-alone (deal st (only kind deed)) kind passed (subscriptions-in read r) unsubscribed (there read r kind few) .1)
+        ∙ rw (subscription-at read r kind few, eq-eqb kind kind refl)
 
 -- ==== nothing is due
 

@@ -18,23 +18,29 @@ use Rattle.model.specs.Row.{tag, row}
 use Rattle.model.specs.Local.{step, tick, event, receives, announces, takes}
 use Rattle.model.specs.Sharing.{Shared, shared-begun}
 use Rattle.frame.specs.Header.{header-of}
-use Rattle.frame.specs.Places.{place-size, event-in, notice-in}
+use Rattle.frame.specs.Places.{event-in, notice-in}
 use Rattle.message.specs.Meaning.{is-among, holds, Remembers}
 use Rattle.message.specs.declared.Common.{Common}
 use Rattle.message.specs.declared.Standing.{Standing}
 use Rattle.session.specs.Decisions.{is-started, decision}
 use Rattle.session.specs.Effects.{ticked-so, dealt-by, replies, announced}
+use Rattle.session.specs.Meaning.{is-taken}
+use Rattle.session.specs.Control.{taken}
+use Rattle.session.specs.declared.Phase.the-variants.{Started}
+use Rattle.session.specs.declared.Take.{Take}
+use Rattle.session.specs.declared.Taken.{Taken}
 use Rattle.session.specs.declared.Idling.the-variants.{Stays}
 use Rattle.session.specs.declared.Session.{Session}
 use Rattle.session.specs.declared.Decision.{Decision}
 use Rattle.session.specs.declared.Reply.the-variants.{Kept, Mirrored}
-use Rattle.lane.specs.Lane.{open-one, any}
+use Rattle.lane.specs.Kinds.{slot-size, slot-formed}
+use Rattle.lane.specs.Lane.{Reading, control-of, open-one, any, is-told, is-held}
 use Rattle.run.specs.Area.{run-of}
 use Rattle.head.specs.Head.{head-of}
-use Rattle.region.specs.Region.{head-area, run-area, subscriptions-in, subscription-in, session-of, Good, run-bytes, Changes}
+use Rattle.region.specs.Region.{head-area, run-area, lane-in, subscriptions-in, subscription-in, session-of, Good, run-bytes}
+use Rattle.region.specs.Region.{Changes}
 use Rattle.region.specs.declared.Ticked.{Ticked}
 use Rattle.region.specs.declared.Ended.{Ended}
-use Rattle.lane.specs.declared.Told.{Told}
 
 -- ==== copies
 
@@ -69,55 +75,70 @@ abbrev pub dues : (ℕ → Deed) → ℕ → List Subscription → List Bool
 dues deed kind [] = []
 dues deed kind (x ∷ xs) = any ((acting deed kind x) .1) ∷ dues deed (suc kind) xs
 
--- the deed to the notices of one kind: whether a copy is due
-pub record DealtTo (kind : ℕ) (deed : Deed) (r : List ℕ) (due : Bool) (r′ : List ℕ) : Type 0 where
-  pub changes : Changes r (head-of (head-area r)) (run-of (run-area r))
-      (set (subscriptions-in r) kind ((act (room-of kind) deed (subscription-in kind r)) .0)) r′
-  pub sends : due ≡ any ((act (room-of kind) deed (subscription-in kind r)) .1)
+-- ==== by what the slots mean
 
--- to those of every kind
-pub record DealtToAll (deed : ℕ → Deed) (r : List ℕ) (due : List Bool) (r′ : List ℕ) : Type 0 where
-  pub changes : Changes r (head-of (head-area r)) (run-of (run-area r)) (row (acting deed) 0 (subscriptions-in r)) r′
-  pub sends : due ≡ dues deed 0 (subscriptions-in r)
+module _ (read : Reading) where
+  -- the deed to the notices of one kind: whether a copy is due
+  pub record DealtTo (kind : ℕ) (deed : Deed) (r : List ℕ) (due : Bool) (r′ : List ℕ) : Type 0 where
+    pub changes : Changes read r (head-of (head-area r)) (run-of (run-area r))
+        (set (subscriptions-in read r) kind ((act (room-of kind) deed (subscription-in read kind r)) .0)) r′
+    pub sends : due ≡ any ((act (room-of kind) deed (subscription-in read kind r)) .1)
 
--- ==== a tick
+  -- to those of every kind
+  pub record DealtToAll (deed : ℕ → Deed) (r : List ℕ) (due : List Bool) (r′ : List ℕ) : Type 0 where
+    pub changes : Changes read r (head-of (head-area r)) (run-of (run-area r)) (row (acting deed) 0 (subscriptions-in read r)) r′
+    pub sends : due ≡ dues deed 0 (subscriptions-in read r)
 
--- to one that stays, with that phase and idle count
-pub record TickStays (x : Session) (r : List ℕ) (due : List Bool) (r′ : List ℕ) : Type 0 where
-  pub good : Good r′
-  pub size : length r′ ≡ length r
-  pub ready : AllReady due (subscriptions-in r′)
-  pub steps : (st : Settings)
-      → ticked-so st (run-of (run-area r)) (subscriptions-in r) (Stays x) ≡ (session-of r′, due-copies st 0 due (subscriptions-in r′))
+  -- ==== a tick
 
--- what is said: the order to close, or the copies that are due
-abbrev pub tick-said : Settings → Ticked → List ℕ → List Emission
-tick-said st t r = cond (t .closes) (close ∷ []) (due-copies st 0 (t .due) (subscriptions-in r))
+  -- to one that stays, with that phase and idle count
+  pub record TickStays (x : Session) (r : List ℕ) (due : List Bool) (r′ : List ℕ) : Type 0 where
+    pub good : Good r′
+    pub size : length r′ ≡ length r
+    pub ready : AllReady due (subscriptions-in read r′)
+    pub steps : (st : Settings)
+        → ticked-so st (run-of (run-area r)) (subscriptions-in read r) (Stays x)
+        ≡ (session-of read r′, due-copies st 0 due (subscriptions-in read r′))
 
-pub record Ticks (r : List ℕ) (t : Ticked) (r′ : List ℕ) : Type 0 where
-  pub good : Good r′
-  pub size : length r′ ≡ length r
-  pub ready : AllReady (t .due) (subscriptions-in r′)
-  pub steps : (g : Shared) → step g tick (session-of r) ≡ (session-of r′, tick-said (g .settings) t r′)
+  -- what is said: the order to close, or the copies that are due
+  abbrev pub tick-said : Settings → Ticked → List ℕ → List Emission
+  tick-said st t r = cond (t .closes) (close ∷ []) (due-copies st 0 (t .due) (subscriptions-in read r))
 
--- ==== an event of that kind, whose notice is in the place p
+  pub record Ticks (r : List ℕ) (t : Ticked) (r′ : List ℕ) : Type 0 where
+    pub good : Good r′
+    pub size : length r′ ≡ length r
+    pub ready : AllReady (t .due) (subscriptions-in read r′)
+    pub steps : (g : Shared) → step g tick (session-of read r) ≡ (session-of read r′, tick-said (g .settings) t r′)
 
--- what take asks for: the region, the kind and the place of its notice
-pub record Taking (kind : ℕ) (p r : List ℕ) : Type 0 where
+  -- ==== an event of that kind, whose notice has the bytes p
+
+  abbrev pub event-said : Settings → ℕ → List ℕ → Take → List ℕ → List Emission
+  event-said st kind p t r = cond (is-told t) (copies-out st kind (subscription-in read kind r) (notice-in kind p ∷ [])) []
+
+  -- that became of it
+  pub record Takes (kind : ℕ) (p r : List ℕ) (t : Take) (r′ : List ℕ) : Type 0 where
+    pub good : Good r′
+    pub size : length r′ ≡ length r
+    pub takes : is-taken t ≡ takes kind (session-of read r)
+    pub ready : is-told t ≡ true → is-subscribed (subscription-in read kind r′) ≡ true
+    pub steps : (st : Settings)
+        → step (shared-begun st 0) (event (event-in kind p)) (session-of read r) ≡ (session-of read r′, event-said st kind p t r′)
+
+-- what becomes of an event of that kind: where its notice is to be held, it is started, and its lane says so; and where not, nothing
+-- changes, whatever the notice
+pub record Answers (kind : ℕ) (r : List ℕ) (t : Taken) : Type 0 where
+  pub started : is-held (t .take) ≡ true → head-of (head-area r) .phase ≡ Started
+  pub held : is-held (t .take) ≡ true → t ≡ taken (room-of kind) (control-of (lane-in kind r))
+  pub unheld : is-held (t .take) ≡ false → (read : Reading) (p : List ℕ) → Takes read kind p r (t .take) r
+
+-- what take asks for: that becomes of it, its notice is to be held, and the slot is for it
+pub record Taking (kind : ℕ) (t : Taken) (slot r : List ℕ) : Type 0 where
   pub good : Good r
   pub known : kind < length kinds
-  pub place : length p ≡ place-size kind
-
-abbrev pub event-said : Settings → ℕ → List ℕ → Told → List ℕ → List Emission
-event-said st kind p told r = cond (told .tell) (copies-out st kind (subscription-in kind r) (notice-in kind p ∷ [])) []
-
-pub record Takes (kind : ℕ) (p r : List ℕ) (told : Told) (r′ : List ℕ) : Type 0 where
-  pub good : Good r′
-  pub size : length r′ ≡ length r
-  pub takes : told .taken ≡ takes kind (session-of r)
-  pub ready : told .tell ≡ true → is-subscribed (subscription-in kind r′) ≡ true
-  pub steps : (st : Settings)
-      → step (shared-begun st 0) (event (event-in kind p)) (session-of r) ≡ (session-of r′, event-said st kind p told r′)
+  pub answers : Answers kind r t
+  pub holds : is-held (t .take) ≡ true
+  pub size : length slot ≡ slot-size kind
+  pub formed : slot-formed kind slot ≡ true
 
 -- ==== the end of a run
 
@@ -164,14 +185,16 @@ pub record CarryingOut (d : Decision) (r : List ℕ) : Type 0 where
   pub known : d .kind < length kinds
   pub idle : d .next .idle < idle-limit
 
--- what the decision does
-pub record CarriesOut (d : Decision) (r : List ℕ) (sends : Bool) (r′ : List ℕ) : Type 0 where
-  pub good : Good r′
-  pub size : length r′ ≡ length r
-  pub bytes : run-bytes r′ ≡ run-bytes r
-  pub ready : Ready sends (subscription-in (d .kind) r′)
-  pub carries : (st : Settings)
-      → dealt-by st d (subscriptions-in r) ≡ (session-of r′, due-copy st (d .kind) sends (subscription-in (d .kind) r′))
+module _ (read : Reading) where
+  -- what the decision does
+  pub record CarriesOut (d : Decision) (r : List ℕ) (sends : Bool) (r′ : List ℕ) : Type 0 where
+    pub good : Good r′
+    pub size : length r′ ≡ length r
+    pub bytes : run-bytes r′ ≡ run-bytes r
+    pub ready : Ready sends (subscription-in read (d .kind) r′)
+    pub carries : (st : Settings)
+        → dealt-by st d (subscriptions-in read r)
+        ≡ (session-of read r′, due-copy st (d .kind) sends (subscription-in read (d .kind) r′))
 
 -- what is left to say
 abbrev pub ended-by : Decision → Bool → Bool → Ended
@@ -182,11 +205,12 @@ ended-by d whole sends =
 abbrev pub ended-in : Bool → List ℕ → List ℕ → List ℕ
 ended-in whole bs r = cond whole bs (run-bytes r)
 
--- what is said: the reply, and behind it the copy that is due
-abbrev pub end-said : Shared → List ℕ → Ended → List ℕ → List Emission
-end-said g bs e r =
-    replies g (take header-length (ended-in (e .whole) bs r)) (e .reply)
-    ++ due-copy (g .settings) (e .kind) (e .sends) (subscription-in (e .kind) r)
+module _ (read : Reading) where
+  -- what is said: the reply, and behind it the copy that is due
+  abbrev pub end-said : Shared → List ℕ → Ended → List ℕ → List Emission
+  end-said g bs e r =
+      replies g (take header-length (ended-in (e .whole) bs r)) (e .reply)
+      ++ due-copy (g .settings) (e .kind) (e .sends) (subscription-in read (e .kind) r)
 
 -- what end_whole asks for: no run has begun, so that the one that ends stands whole in the slice
 pub record EndingWhole (r p : List ℕ) : Type 0 where
@@ -194,18 +218,20 @@ pub record EndingWhole (r p : List ℕ) : Type 0 where
   pub place : length p ≡ identifier-length
   pub empty : run-of (run-area r) ≡ empty-run
 
--- the bytes bs end a run, where what all share is so
-pub record RunEnds (common : Common) (bs r place : List ℕ) (e : Ended) (r′ place′ : List ℕ) : Type 0 where
-  pub good : Good r′
-  pub size : length r′ ≡ length r
-  pub kind : e .kind < length kinds
-  pub ready : Ready (e .sends) (subscription-in (e .kind) r′)
-  pub whole : e .reply ≡ Mirrored → header-length ≤ length (ended-in (e .whole) bs r′)
-  pub kept : (number : ℕ) → e .reply ≡ Kept number → is-among common number ≡ true
-  pub steps : (g : Shared) → Shows common g → step g (receives (ending bs)) (session-of r) ≡ (session-of r′, end-said g bs e r′)
-  pub knows : (g : Shared) → Shows common g → Knows (announces g (ending bs) (session-of r)) place (e .identified) place′
+module _ (read : Reading) where
+  -- the bytes bs end a run, where what all share is so
+  pub record RunEnds (common : Common) (bs r place : List ℕ) (e : Ended) (r′ place′ : List ℕ) : Type 0 where
+    pub good : Good r′
+    pub size : length r′ ≡ length r
+    pub kind : e .kind < length kinds
+    pub ready : Ready (e .sends) (subscription-in read (e .kind) r′)
+    pub whole : e .reply ≡ Mirrored → header-length ≤ length (ended-in (e .whole) bs r′)
+    pub kept : (number : ℕ) → e .reply ≡ Kept number → is-among common number ≡ true
+    pub steps : (g : Shared) → Shows common g
+        → step g (receives (ending bs)) (session-of read r) ≡ (session-of read r′, end-said read g bs e r′)
+    pub knows : (g : Shared) → Shows common g → Knows (announces g (ending bs) (session-of read r)) place (e .identified) place′
 
--- a run ends that is kept: it stands whole in no slice
-pub record KeptEnds (common : Common) (r place : List ℕ) (e : Ended) (r′ place′ : List ℕ) : Type 0 where
-  pub whole : e .whole ≡ false
-  pub ends : RunEnds common [] r place e r′ place′
+  -- a run ends that is kept: it stands whole in no slice
+  pub record KeptEnds (common : Common) (r place : List ℕ) (e : Ended) (r′ place′ : List ℕ) : Type 0 where
+    pub whole : e .whole ≡ false
+    pub ends : RunEnds common [] r place e r′ place′

@@ -3,7 +3,7 @@
 ghost use mathlib.Core.Path.{_≡_};
 ghost use mathlib.Core.Bool.{Bool, false, cond};
 ghost use mathlib.Core.List.{List, [], map};
-ghost use Prim.Native.Nat.{_≤_, _<_};
+ghost use Prim.Native.Nat.{ℕ, _≤_, _<_};
 ghost use lib.ListN.{length};
 ghost use Rattle.model.specs.Limits.{run-kept, identifier-length, idle-limit};
 ghost use Rattle.model.specs.Bytes.{all, padded};
@@ -11,17 +11,21 @@ ghost use Rattle.model.specs.Runs.{empty-run, longer};
 ghost use Rattle.model.specs.Kinds.{kinds};
 ghost use Rattle.model.specs.Notices.{is-subscribed, beats};
 ghost use Rattle.model.specs.Session.{closed, fresh, is-closed as is-closed-session, no-subscriptions};
+ghost use Rattle.frame.specs.Places.{notice-in};
 ghost use Rattle.message.specs.Meaning.{standing-of};
 ghost use Rattle.session.specs.Meaning.{deed-of};
+ghost use Rattle.session.specs.declared.Take.the-variants.{Not};
 ghost use Rattle.session.specs.Decisions.{is-started as is-started-so};
 ghost use Rattle.run.specs.Area.{run-of};
 ghost use Rattle.head.specs.Head.{head-of};
-ghost use Rattle.lane.specs.Lane.{lane-formed};
+ghost use Rattle.places.specs.Places.{place-count};
+ghost use Rattle.places.specs.Free.{marked};
+ghost use Rattle.lane.specs.Lane.{Reading, lane-formed};
 ghost use Rattle.region.specs.Region.{region-size, head-area, run-area, lane-at as lane-begins, lanes, lane-in, subscriptions-in};
 ghost use Rattle.region.specs.Region.{session-of, region-formed, Good, run-bytes as bytes-of-run, Becomes, Changes, LanesCleared};
-ghost use Rattle.region.specs.Said.{DealtTo, DealtToAll, TickStays, Ticks, Taking, Takes};
+ghost use Rattle.region.specs.Region.{places-held};
+ghost use Rattle.region.specs.Said.{DealtTo, DealtToAll, TickStays, Ticks, Answers, Taking, Takes};
 ghost use Rattle.region.specs.Said.{stood, Ruled, CarryingOut, CarriesOut, ended-by, EndingWhole, RunEnds, KeptEnds};
-use lane::Told;
 use message::Common;
 use message::Standing;
 use model::IDENTIFIER_LENGTH;
@@ -30,13 +34,17 @@ use model::KIND_COUNT;
 use model::TIGHTENINGS;
 use session::Decision;
 use session::Deed;
+use session::Form;
 use session::Idling;
 use session::Phase;
 use session::Reply;
 use session::Session;
+use session::Subscription;
+use session::Take;
+use session::Taken;
 
 // How many bytes it has.
-pub const SIZE: usize = 1152;
+pub const SIZE: usize = 288;
 
 // Where the phase and the idle count end, and where the run is.
 const HEAD_END: usize = 2;
@@ -53,7 +61,7 @@ fn lane_at(kind: usize) -> usize
     match kind {
         IDENTIFIERS => 56,
         TIGHTENINGS => 128,
-        _ => 1024,
+        _ => 160,
     }
 }
 
@@ -115,7 +123,7 @@ fn load(region: &[u8]) -> Session
 
 pub fn is_closed(region: &[u8]) -> bool
     requires { ⌜ Good (now region) ⌝ }
-    ensures { λ r. ⌜ r ≡ is-closed-session (session-of (now (region .entry))) ⌝ }
+    ensures { λ r. ⌜ ((read : Reading) → r ≡ is-closed-session (session-of read (now (region .entry)))) ⌝ }
 {
     let x = load(region);
     let phase = x.phase;
@@ -130,8 +138,8 @@ pub fn is_closed(region: &[u8]) -> bool
 
 fn store(region: &mut [u8], x: Session)
     requires { ⌜ Good (now region) × (x .idle < idle-limit) ⌝ }
-    ensures { λ _. ⌜ Changes (now (region .entry)) x (run-of (run-area (now (region .entry)))) (subscriptions-in (now (region .entry)))
-        (now (region .exit)) ⌝ }
+    ensures { λ _. ⌜ ((read : Reading) → Changes read (now (region .entry)) x (run-of (run-area (now (region .entry))))
+        (subscriptions-in read (now (region .entry))) (now (region .exit))) ⌝ }
 {
     head::store(&mut region[0..HEAD_END], x);
 }
@@ -139,9 +147,9 @@ fn store(region: &mut [u8], x: Session)
 // More bytes of its run.
 pub fn lengthen(region: &mut [u8], bytes: &[u8])
     requires { ⌜ Good (now region) ⌝ }
-    ensures { λ _. ⌜ Becomes (now (region .entry)) (head-of (head-area (now (region .entry))))
-        (longer (run-of (run-area (now (region .entry)))) (now (bytes .entry))) (subscriptions-in (now (region .entry)))
-        (now (region .exit)) ⌝ }
+    ensures { λ _. ⌜ ((read : Reading) → Becomes read (now (region .entry)) (head-of (head-area (now (region .entry))))
+        (longer (run-of (run-area (now (region .entry)))) (now (bytes .entry))) (subscriptions-in read (now (region .entry)))
+        (now (region .exit))) ⌝ }
 {
     run::lengthen(&mut region[RUN_AT..RUN_END], bytes);
 }
@@ -149,8 +157,8 @@ pub fn lengthen(region: &mut [u8], bytes: &[u8])
 // Its run is over.
 fn clear_run(region: &mut [u8])
     requires { ⌜ Good (now region) ⌝ }
-    ensures { λ _. ⌜ Changes (now (region .entry)) (head-of (head-area (now (region .entry)))) empty-run
-        (subscriptions-in (now (region .entry))) (now (region .exit)) ⌝ }
+    ensures { λ _. ⌜ ((read : Reading) → Changes read (now (region .entry)) (head-of (head-area (now (region .entry)))) empty-run
+        (subscriptions-in read (now (region .entry))) (now (region .exit))) ⌝ }
 {
     run::clear(&mut region[RUN_AT..RUN_END]);
 }
@@ -158,7 +166,7 @@ fn clear_run(region: &mut [u8])
 // What is done to the notices of one kind: whether a copy of the one that is then open is due.
 fn deal(region: &mut [u8], kind: usize, deed: Deed) -> bool
     requires { ⌜ Good (now region) × (kind < length kinds) ⌝ }
-    ensures { λ r. ⌜ DealtTo kind (deed-of deed) (now (region .entry)) r (now (region .exit)) ⌝ }
+    ensures { λ r. ⌜ ((read : Reading) → DealtTo read kind (deed-of deed) (now (region .entry)) r (now (region .exit))) ⌝ }
 {
     if let Deed::Nothing = deed {
         return false;
@@ -171,7 +179,7 @@ fn deal(region: &mut [u8], kind: usize, deed: Deed) -> bool
 // A second passes for the notices of every kind: of which a copy is due.
 fn beat(region: &mut [u8]) -> [bool; KIND_COUNT]
     requires { ⌜ Good (now region) ⌝ }
-    ensures { λ r. ⌜ DealtToAll (λ kind. beats) (now (region .entry)) r (now (region .exit)) ⌝ }
+    ensures { λ r. ⌜ ((read : Reading) → DealtToAll read (λ kind. beats) (now (region .entry)) r (now (region .exit))) ⌝ }
 {
     let mut due = [false; KIND_COUNT];
     let mut kind = 0;
@@ -203,7 +211,7 @@ fn clear_lanes(region: &mut [u8])
 // Whatever the bytes were, it is closed.
 pub fn start(region: &mut [u8])
     requires { ⌜ length (now region) ≡ region-size ⌝ }
-    ensures { λ _. ⌜ Good (now (region .exit)) × (session-of (now (region .exit)) ≡ closed) ⌝ }
+    ensures { λ _. ⌜ Good (now (region .exit)) × ((read : Reading) → session-of read (now (region .exit)) ≡ closed) ⌝ }
 {
     head::store(&mut region[0..HEAD_END], Session::cleared());
     run::clear(&mut region[RUN_AT..RUN_END]);
@@ -213,7 +221,7 @@ pub fn start(region: &mut [u8])
 // The session begins.
 pub fn open(region: &mut [u8])
     requires { ⌜ Good (now region) ⌝ }
-    ensures { λ _. ⌜ Good (now (region .exit)) × (session-of (now (region .exit)) ≡ fresh) ⌝ }
+    ensures { λ _. ⌜ Good (now (region .exit)) × ((read : Reading) → session-of read (now (region .exit)) ≡ fresh) ⌝ }
 {
     store(region, Session::fresh());
     clear_run(region);
@@ -222,7 +230,7 @@ pub fn open(region: &mut [u8])
 // The session ends.
 pub fn hang_up(region: &mut [u8])
     requires { ⌜ Good (now region) ⌝ }
-    ensures { λ _. ⌜ Good (now (region .exit)) × (session-of (now (region .exit)) ≡ closed) ⌝ }
+    ensures { λ _. ⌜ Good (now (region .exit)) × ((read : Reading) → session-of read (now (region .exit)) ≡ closed) ⌝ }
 {
     store(region, Session::cleared());
 }
@@ -238,7 +246,7 @@ pub struct Ticked {
 // What a tick does to one that stays: x is its phase, and its idle count, which has gone up already.
 fn tick_stays(region: &mut [u8], x: Session) -> [bool; KIND_COUNT]
     requires { ⌜ Good (now region) × (x .idle < idle-limit) ⌝ }
-    ensures { λ r. ⌜ TickStays x (now (region .entry)) r (now (region .exit)) ⌝ }
+    ensures { λ r. ⌜ ((read : Reading) → TickStays read x (now (region .entry)) r (now (region .exit))) ⌝ }
 {
     store(region, x);
     let phase = x.phase;
@@ -251,7 +259,7 @@ fn tick_stays(region: &mut [u8], x: Session) -> [bool; KIND_COUNT]
 
 pub fn tick(region: &mut [u8]) -> Ticked
     requires { ⌜ Good (now region) ⌝ }
-    ensures { λ r. ⌜ Ticks (now (region .entry)) r (now (region .exit)) ⌝ }
+    ensures { λ r. ⌜ ((read : Reading) → Ticks read (now (region .entry)) r (now (region .exit))) ⌝ }
 {
     let idling = session::idled(load(region));
     match idling {
@@ -271,27 +279,55 @@ pub fn tick(region: &mut [u8]) -> Ticked
 
 // ---- an event
 
-// An event of that kind, whose notice is in `place`.
-pub fn take(region: &mut [u8], kind: usize, place: &[u8]) -> Told
-    requires { ⌜ Taking kind (now place) (now region) ⌝ }
-    ensures { λ r. ⌜ Takes kind (now (place .entry)) (now (region .entry)) r (now (region .exit)) ⌝ }
+// Where it is not started, nothing becomes of it.
+fn not_taken() -> Taken
+    ensures { λ r. ⌜ r .take ≡ Not ⌝ }
+{
+    Taken {
+        take: Take::Not,
+        next: Subscription {
+            form: Form::Not,
+            revision: 0,
+            clock: 0,
+            held: 0,
+        },
+    }
+}
+
+// What becomes of an event of that kind.
+pub fn taking(region: &[u8], kind: usize) -> Taken
+    requires { ⌜ Good (now region) × (kind < length kinds) ⌝ }
+    ensures { λ r. ⌜ Answers kind (now (region .entry)) r ⌝ }
 {
     let x = load(region);
     let phase = x.phase;
     match phase {
-        Phase::Closed => Told {
-            taken: false,
-            tell: false,
-        },
-        Phase::Opened => Told {
-            taken: false,
-            tell: false,
-        },
-        Phase::Started => {
-            let a = lane_at(kind);
-            let e = a + lane::size(kind);
-            lane::take(&mut region[a..e], kind, place)
-        }
+        Phase::Closed => not_taken(),
+        Phase::Opened => not_taken(),
+        Phase::Started => lane::taking(lane(region, kind), kind),
+    }
+}
+
+// Its notice is held so: `slot` is what is kept of it, which means that notice to whoever reads it.
+pub fn take(region: &mut [u8], kind: usize, taken: Taken, slot: &[u8])
+    requires { ⌜ Taking kind taken (now slot) (now region) ⌝ }
+    ensures { λ _. ⌜ ((read : Reading) (p : List ℕ) → read kind (now (slot .entry)) ≡ notice-in kind p
+        → Takes read kind p (now (region .entry)) (taken .take) (now (region .exit))) ⌝ }
+{
+    let a = lane_at(kind);
+    let e = a + lane::size(kind);
+    lane::take(&mut region[a..e], kind, taken, slot);
+}
+
+// The places that it has open or waiting are marked as used.
+pub fn mark(region: &[u8], used: &mut [u8])
+    requires { ⌜ Good (now region) × (length (now used) ≡ place-count) ⌝ }
+    ensures { λ _. ⌜ now (used .exit) ≡ marked (now (used .entry)) (places-held (now (region .entry))) ⌝ }
+{
+    let x = load(region);
+    let phase = x.phase;
+    if is_started(phase) {
+        places::mark(used, lane::places(lane(region, TIGHTENINGS)));
     }
 }
 
@@ -310,7 +346,7 @@ fn is_started(phase: Phase) -> bool
 // To which kinds of notice it is subscribed.
 fn subscribed(region: &[u8]) -> [bool; KIND_COUNT]
     requires { ⌜ Good (now region) ⌝ }
-    ensures { λ r. ⌜ r ≡ map is-subscribed (subscriptions-in (now (region .entry))) ⌝ }
+    ensures { λ r. ⌜ ((read : Reading) → r ≡ map is-subscribed (subscriptions-in read (now (region .entry)))) ⌝ }
 {
     let mut known = [false; KIND_COUNT];
     let mut kind = 0;
@@ -324,7 +360,7 @@ fn subscribed(region: &[u8]) -> [bool; KIND_COUNT]
 // What the tests of a message look at.
 fn standing(region: &[u8], x: Session, common: Common) -> Standing
     requires { ⌜ Good (now region) ⌝ }
-    ensures { λ r. ⌜ (standing-of r ≡ stood x common (subscriptions-in (now (region .entry)))) × (r .common ≡ common) ⌝ }
+    ensures { λ r. ⌜ ((read : Reading) → standing-of r ≡ stood x common (subscriptions-in read (now (region .entry)))) × (r .common ≡ common) ⌝ }
 {
     let phase = x.phase;
     Standing {
@@ -358,8 +394,9 @@ fn rule(x: Session, standing: Standing, run: &[u8], count: usize, place: &mut [u
 // What it held is gone, where it begins.
 fn let_go(region: &mut [u8], begins: bool)
     requires { ⌜ Good (now region) ⌝ }
-    ensures { λ _. ⌜ Changes (now (region .entry)) (head-of (head-area (now (region .entry)))) (run-of (run-area (now (region .entry))))
-        (cond begins no-subscriptions (subscriptions-in (now (region .entry)))) (now (region .exit)) ⌝ }
+    ensures { λ _. ⌜ ((read : Reading) → Changes read (now (region .entry)) (head-of (head-area (now (region .entry))))
+        (run-of (run-area (now (region .entry)))) (cond begins no-subscriptions (subscriptions-in read (now (region .entry))))
+        (now (region .exit))) ⌝ }
 {
     if !begins {
         return;
@@ -370,7 +407,7 @@ fn let_go(region: &mut [u8], begins: bool)
 // What a decision does to the session: whether a copy of the notice of its kind that is then open is due.
 fn carry_out(region: &mut [u8], d: Decision) -> bool
     requires { ⌜ CarryingOut d (now region) ⌝ }
-    ensures { λ r. ⌜ CarriesOut d (now (region .entry)) r (now (region .exit)) ⌝ }
+    ensures { λ r. ⌜ ((read : Reading) → CarriesOut read d (now (region .entry)) r (now (region .exit))) ⌝ }
 {
     clear_run(region);
     let_go(region, d.begins);
@@ -406,8 +443,8 @@ fn left_to_say(d: Decision, whole: bool, sends: bool) -> Ended
 // A run ends that stands whole in the slice: it is read there.
 fn end_whole(region: &mut [u8], common: Common, bytes: &[u8], place: &mut [u8]) -> Ended
     requires { ⌜ EndingWhole (now region) (now place) ⌝ }
-    ensures { λ r. ⌜ RunEnds common (now (bytes .entry)) (now (region .entry)) (now (place .entry)) r (now (region .exit))
-        (now (place .exit)) ⌝ }
+    ensures { λ r. ⌜ ((read : Reading) → RunEnds read common (now (bytes .entry)) (now (region .entry)) (now (place .entry)) r
+        (now (region .exit)) (now (place .exit))) ⌝ }
 {
     let x = load(region);
     let d = rule(
@@ -433,7 +470,8 @@ fn rule_kept(region: &[u8], x: Session, standing: Standing, place: &mut [u8]) ->
 // A run ends that began in earlier slices: it is read where it is kept.
 fn end_kept(region: &mut [u8], common: Common, place: &mut [u8]) -> Ended
     requires { ⌜ Good (now region) × (length (now place) ≡ identifier-length) ⌝ }
-    ensures { λ r. ⌜ KeptEnds common (now (region .entry)) (now (place .entry)) r (now (region .exit)) (now (place .exit)) ⌝ }
+    ensures { λ r. ⌜ ((read : Reading) → KeptEnds read common (now (region .entry)) (now (place .entry)) r (now (region .exit))
+        (now (place .exit))) ⌝ }
 {
     let x = load(region);
     let d = rule_kept(region, x, standing(region, x, common), place);
@@ -444,8 +482,8 @@ fn end_kept(region: &mut [u8], common: Common, place: &mut [u8]) -> Ended
 // The bytes end a run; what all sessions share is told as far as the tests look at it. An identifier that is made known is put in `place`.
 pub fn end_run(region: &mut [u8], common: Common, bytes: &[u8], place: &mut [u8]) -> Ended
     requires { ⌜ Good (now region) × (length (now place) ≡ identifier-length) ⌝ }
-    ensures { λ r. ⌜ RunEnds common (now (bytes .entry)) (now (region .entry)) (now (place .entry)) r (now (region .exit))
-        (now (place .exit)) ⌝ }
+    ensures { λ r. ⌜ ((read : Reading) → RunEnds read common (now (bytes .entry)) (now (region .entry)) (now (place .entry)) r
+        (now (region .exit)) (now (place .exit))) ⌝ }
 {
     if run::count(&region[RUN_AT..RUN_END]) == 0 {
         return end_whole(region, common, bytes, place);

@@ -33,7 +33,7 @@ one v h = omega arith
 
 -- the mark as the code names it, and in its bytes
 abbrev mark-number : ℕ
-mark-number = 0x44414C4649524553
+mark-number = 0x34414C4649524553
 
 abbrev marks : List ℕ
 marks = in-bytes mark-length mark-number

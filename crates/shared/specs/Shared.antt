@@ -52,10 +52,10 @@ count-of a = little (take 1 (drop count-at a))
 unfoldable pub kept-of : List ℕ → List Result
 kept-of a = results (last-of a) (count-of a) a
 
--- 01, "What the product holds": a rule of ours for what is well formed. The mark at the front is the text SERIFLAD; by it
--- a table that a start has made is told from zeros
+-- 01, "What the product holds": a rule of ours for what is well formed. The mark at the front is the text SERIFLA and the number of the
+-- table's map, 4; by it a table that a start has made is told from zeros, and from one of an earlier map
 abbrev pub mark : List ℕ
-mark = 0x53 ∷ 0x45 ∷ 0x52 ∷ 0x49 ∷ 0x46 ∷ 0x4C ∷ 0x41 ∷ 0x44 ∷ []
+mark = 0x53 ∷ 0x45 ∷ 0x52 ∷ 0x49 ∷ 0x46 ∷ 0x4C ∷ 0x41 ∷ 0x34 ∷ []
 
 -- 01, "What the product holds", number 2, and 02, P2: the mark stands, no more tightenings are kept than may be, and no more than there
 -- were numbers. No more is asked: whatever the other bytes are, they are settings, an identifier, a number and tightenings of their

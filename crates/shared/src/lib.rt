@@ -20,8 +20,8 @@ use model::TIGHTENING_LENGTH;
 // How many bytes it has.
 pub const SIZE: usize = 8192;
 
-// SERIFLAD, as the number of its bytes.
-const MARK: u64 = 0x44414C4649524553;
+// SERIFLA and the number of the map, 4, as the number of its bytes.
+const MARK: u64 = 0x34414C4649524553;
 
 const MARK_LENGTH: usize = 8;
 

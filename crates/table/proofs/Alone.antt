@@ -4,6 +4,7 @@ use Prim.Native.Nat.{ℕ, _<_}
 use mathlib.Core.Bool.{true, false≢true}
 use mathlib.Core.List.{List, [], _∷_, append-nil}
 use lib.ListN.{length}
+use lib.Seq.{set-getD}
 use Rattle.model.specs.Limits.{session-count}
 use Rattle.model.specs.Sharing.{Shared, shared-begun}
 use Rattle.model.specs.Session.{Session, closed, opened, started, fresh, is-closed, Emission}
@@ -18,7 +19,7 @@ use Rattle.text.specs.Put.{Put}
 use Rattle.text.proofs.Puts.{put-nothing, put-as, put-then}
 use Rattle.session.specs.Effects.{out-bytes}
 use Rattle.region.specs.Region.{session-of, Good}
-use Rattle.table.specs.Table.{decode, settings-in, Table, Becomes, Went}
+use Rattle.table.specs.Table.{reading-in, decode, settings-in, Table, Becomes, Went}
 use Rattle.table.proofs.Regions.{part, put, so-many-sessions, part-is, put-means}
 
 -- ==== one moment has passed
@@ -59,19 +60,30 @@ went-then {t} {t₁ = t₁} {m = m} {ms = ms} e a b =
 
 module _ (t : List ℕ) (s : ℕ) (l : Local) (table : Table t) (few : s < session-count) where
   abbrev taken : Session × List Emission
-  taken = step (decode t .shared) l (session-of (part t s))
+  taken = step (decode t .shared) l (session-of (reading-in t) (part t s))
 
   there : s < length (decode t .sessions)
   there = rw (so-many-sessions t) few
 
-  pub became-alone : (r : List ℕ) → Good r → session-of r ≡ taken .0 → Becomes t (uncounted (next (decode t) (alone s l))) (put t s r)
+  pub became-alone : (r : List ℕ) → Good r → session-of (reading-in t) r ≡ taken .0 → Becomes t (uncounted (next (decode t) (alone s l))) (put t s r)
   unfolding decode
   became-alone r g e = rw (next-to (decode t) s l there, part-is t s few, ← e) (put-means t s r _ table few g refl)
 
   -- the region has become r, and what that emits was written
-  pub went-alone : {r o o′ : List ℕ} {at to : ℕ} (es : List Emission) → Good r → taken ≡ (session-of r, es)
+  pub went-alone : {r o o′ : List ℕ} {at to : ℕ} (es : List Emission) → Good r → taken ≡ (session-of (reading-in t) r, es)
       → Put o at (out-bytes s es) to o′ → Went t o at (alone s l ∷ []) to (put t s r) o′
   went-alone {r} es g e p = went-one (became-alone r g (rw e)) (rw (emits-to (decode t) s l there, part-is t s few, e) p)
+
+  -- the session stays as it is, and so does the table
+  pub stayed-alone : session-of (reading-in t) (part t s) ≡ taken .0 → Becomes t (uncounted (next (decode t) (alone s l))) t
+  unfolding decode
+  stayed-alone e = record {
+    table = table;
+    size = refl;
+    past = refl;
+    meaning =
+        rw (next-to (decode t) s l there, part-is t s few, ← e, ← part-is t s few, set-getD (decode t .sessions) s closed);
+  }
 
 -- of what all share, an event to a session reads the settings alone
 pub by-settings : (t : List ℕ) (e : Event) (x : Session)

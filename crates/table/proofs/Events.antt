@@ -23,10 +23,10 @@ use Rattle.model.proofs.InTurn.{next-to}
 use Rattle.frame.specs.Places.{result-of, place-size, event-in}
 use Rattle.shared.specs.Shared.{settings-part, in-force-of, last-of, kept-of, Next, Holds}
 use Rattle.region.specs.Region.{session-of, region-formed}
-use Rattle.table.specs.Table.{shared-area, regions, decode, Table, Becomes, noted, Went}
+use Rattle.table.specs.Table.{shared-area, regions, reading-in, decode, Table, Becomes, noted, Went}
 use Rattle.table.specs.Passes.{EventTo}
 use Rattle.table.proofs.Regions.{shared-good, so-many-sessions, length-regions, front, front-size, front-past, front-shared}
-use Rattle.table.proofs.Regions.{front-regions, formed-parts, becomes-of}
+use Rattle.table.proofs.Regions.{front-regions, front-sessions, formed-parts, becomes-of}
 
 -- ==== who takes it
 
@@ -46,8 +46,9 @@ takers-few kind s (x ∷ xs) =
 pub takers-below : (kind : ℕ) (t : List ℕ) → takers kind 0 (decode t .sessions) < 2 ^ session-count
 unfolding decode
 takers-below kind t =
-    let f = takers-few kind 0 (regions session-of t) in
-    let e : 2 ^ (0 + length (regions session-of t)) ≡ 2 ^ session-count = ap (λ (n : ℕ). 2 ^ (0 + n)) (length-regions session-of t) in
+    let all : List Session = regions (session-of (reading-in t)) t in
+    let f = takers-few kind 0 all in
+    let e : 2 ^ (0 + length all) ≡ 2 ^ session-count = ap (λ (n : ℕ). 2 ^ (0 + n)) (length-regions (session-of (reading-in t)) t) in
     omega arith
 
 -- a loop that adds them up: the bit of the next session, and what is left to add is all of it
@@ -107,7 +108,7 @@ front-means t a payload x n rs h k =
     let l = h .size in
     let s = k .area .size in
     becomes-of l (front-size t a l s) (front-past t a l s) (subst (Holds payload x n rs) (sym (front-shared t a l s)) k)
-    (rw (front-regions t a l s region-formed) (formed-parts t h .1)) (front-regions t a l s session-of)
+    (rw (front-regions t a l s region-formed) (formed-parts t h .1)) (front-sessions t a l s)
 
 -- what is no tightening has no number
 module _ {t place : List ℕ} (h : Table t) where

@@ -14,11 +14,18 @@ use Rattle.text.proofs.Lists.{drop-take}
 use Rattle.text.proofs.Areas.{areas-same}
 use Rattle.shared.specs.Shared.{shared-size, shared-formed}
 use Rattle.region.specs.Region.{region-size, session-of, region-formed}
-use Rattle.table.specs.Table.{shared-area, region-at, regions, table-used, shared-of, decode, table-formed}
+use Rattle.places.specs.Places.{places-size}
+use Rattle.table.specs.Table.{shared-area, places-area, region-at, regions, table-used, reading, reading-in, shared-of, decode}
+use Rattle.table.specs.Table.{table-formed}
 
 module _ (m : ℕ) (t : List ℕ) (h : table-used ≤ m) where
   area : shared-area (take m t) ≡ shared-area t
   area = take-take shared-size m t (omega arith)
+
+  places : places-area (take m t) ≡ places-area t
+  places =
+      ap (take places-size) (drop-take shared-size m t (omega arith))
+      ∙ take-take places-size (m - shared-size) (drop shared-size t) (omega arith)
 
   parts : {A : Type 0} (f : List ℕ → A) → regions f (take m t) ≡ regions f t
   parts f =
@@ -28,7 +35,9 @@ module _ (m : ℕ) (t : List ℕ) (h : table-used ≤ m) where
 
   pub decode-take : decode (take m t) ≡ decode t
   unfolding decode
-  decode-take = ap₂ (λ (a : List ℕ) (xs : List Session). record { shared = shared-of a; sessions = xs }) area (parts session-of)
+  decode-take =
+      ap₂ (λ (a : List ℕ) (xs : List Session). record { shared = shared-of a; sessions = xs }) area
+      (ap (λ (a : List ℕ). regions (session-of (reading a)) (take m t)) places ∙ parts (session-of (reading-in t)))
 
   pub formed-take : table-formed (take m t) ≡ table-formed t
   unfolding table-formed

@@ -7,5 +7,6 @@ pub mod Events
 pub mod Memory
 pub mod Says
 pub mod Again
+pub mod Places
 pub mod Passes
 pub mod Receives

@@ -36,10 +36,10 @@ use Rattle.region.specs.declared.Ended.{Ended}
 use Rattle.region.proofs.Areas.{means}
 use Rattle.shared.specs.Shared.{settings-part}
 use Rattle.shared.proofs.Results.{payload-long}
-use Rattle.table.specs.Table.{shared-area, region-in, decode, settings-in, Table, Becomes, Went}
+use Rattle.table.specs.Table.{shared-area, region-in, reading-in, decode, settings-in, Table, Becomes, Went}
 use Rattle.table.specs.Says.{Lent, Wrote, OpenLent, told-by, EndLent}
 use Rattle.table.specs.Passes.{unended, heard-by-all, Hears, Received}
-use Rattle.table.proofs.Regions.{part, put, part-is, length-shared, so-many-sessions, put-same-to-all}
+use Rattle.table.proofs.Regions.{part, put, part-is, length-shared, so-many-sessions, put-same-to-all, put-reading}
 use Rattle.table.proofs.Memory.{reply-said}
 use Rattle.table.proofs.Alone.{became-alone, went-one, went-then, uncounted-yet}
 use Rattle.table.proofs.Passes.{still-lent, there, passed}
@@ -51,17 +51,17 @@ module _ (t : List ℕ) (s : ℕ) (bs : List ℕ) (table : Table t) (few : s < s
   r = part t s
 
   goes-on : (step (decode t .shared) (receives (unended bs)) (session-at (decode t) s)
-      ≡ (region.meaning (head-of (head-area r)) (longer (run-of (run-area r)) bs) (subscriptions-in r), []))
+      ≡ (region.meaning (head-of (head-area r)) (longer (run-of (run-area r)) bs) (subscriptions-in (reading-in t) r), []))
       × (announces (decode t .shared) (unended bs) (session-at (decode t) s) ≡ none)
   unfolding session-of decode
   goes-on =
       let x = head-of (head-area r) in
-      let w = run-goes-on (decode t .shared) (run-of (run-area r)) (subscriptions-in r) (unended bs) refl (x .phase) (x .idle) in
+      let w = run-goes-on (decode t .shared) (run-of (run-area r)) (subscriptions-in (reading-in t) r) (unended bs) refl (x .phase) (x .idle) in
       (rw (part-is t s few) (w .0), rw (part-is t s few) (w .1))
 
-  pub lengthened : {r′ : List ℕ} → region.Becomes r (head-of (head-area r)) (longer (run-of (run-area r)) bs) (subscriptions-in r) r′
+  pub lengthened : {r′ : List ℕ} → region.Becomes (reading-in t) r (head-of (head-area r)) (longer (run-of (run-area r)) bs) (subscriptions-in (reading-in t) r) r′
       → Becomes t (uncounted (next (decode t) (hears s (unended bs)))) (put t s r′)
-  lengthened b = became-alone t s (receives (unended bs)) table few _ (b .good) (rw (← part-is t s few, goes-on .0) (means b))
+  lengthened b = became-alone t s (receives (unended bs)) table few _ (b .good) (rw (← part-is t s few, goes-on .0) (means (reading-in t) b))
 
 -- ==== what all are told
 
@@ -165,9 +165,9 @@ module _ {t o : List ℕ} {to : To} {bs : List ℕ} {e : Ended} (l : EndLent t o
       → told ≡ told-by (shared-area t) run (e .reply)
       → at ≤ to .at + reply-most
       → Put o (to .at) (out-bytes (to .session) (written (settings-of payload) told (e .reply))) at o₁
-      → Wrote (copy-most (kind-at (e .kind))) (due-copy (settings-in t) (e .kind) (e .sends) (subscription-in (e .kind) region-now))
+      → Wrote (copy-most (kind-at (e .kind))) (due-copy (settings-in t) (e .kind) (e .sends) (subscription-in (reading-in t) (e .kind) region-now))
       (record { session = to .session; at = at }) o₁ next o′
-      → Wrote session-most (end-said (decode t .shared) bs e region-now) to o next o′
+      → Wrote session-most (end-said (reading-in t) (decode t .shared) bs e region-now) to o next o′
   unfolding decode
   answered {payload} {run} {told} ep er et few p w =
       let among = copy-among (e .kind) (l .known) in
@@ -183,23 +183,24 @@ module _ {t o : List ℕ} {to : To} {bs : List ℕ} {e : Ended} (l : EndLent t o
 -- ==== the end of a run: first the region changes, and then what it has to say is written
 
 module _ {t o : List ℕ} {to : To} {bs place : List ℕ} (l : Lent t o to session-most) {common : Common} {e : Ended} {r′ place′ : List ℕ}
-    (shows : Shows common (decode t .shared)) (w : RunEnds common bs (part t (to .session)) place e r′ place′) where
+    (shows : Shows common (decode t .shared)) (w : RunEnds (reading-in t) common bs (part t (to .session)) place e r′ place′) where
   pub end-lent : EndLent (put t (to .session) r′) o to bs e
   end-lent = record {
     lent = still-lent l (w .good);
     known = w .kind;
-    ready = rw (there l (w .good)) (w .ready);
+    ready = rw (there l (w .good), put-reading t (to .session) r′ (l .table .size) (l .session) (w .good .size)) (w .ready);
     whole = λ q. rw (there l (w .good)) (w .whole q);
     kept = λ number q. rw (put-same-to-all t (to .session) r′ (l .table .size) (l .session) (w .good .size))
         (shows .remembers .kept number ∙ w .kept number q);
   }
 
   pub heard : {next : ℕ} {o′ : List ℕ}
-      → Wrote session-most (end-said (decode (put t (to .session) r′) .shared) bs e (region-in (to .session) (put t (to .session) r′)))
+      → Wrote session-most (end-said (reading-in (put t (to .session) r′)) (decode (put t (to .session) r′) .shared) bs e
+      (region-in (to .session) (put t (to .session) r′)))
       to o next o′
       → Hears t o to bs place (record { at = next; identified = e .identified }) (put t (to .session) r′) o′ place′
   heard v = record {
     within = v .within;
-    went = passed l (w .good) (receives (ending bs)) (λ g z. end-said g bs e z) (w .steps (decode t .shared) shows) (v .bytes);
+    went = passed l (w .good) (receives (ending bs)) (λ read g z. end-said read g bs e z) (w .steps (decode t .shared) shows) (v .bytes);
     knows = rw (part-is t (to .session) (l .session)) (w .knows (decode t .shared) shows);
   }

@@ -20,13 +20,18 @@ use Rattle.text.proofs.Lists.{drop-after}
 use Rattle.text.proofs.Cells.{area-same, area-before, area-after}
 use Rattle.text.proofs.Areas.{length-areas, areas-at, areas-put, areas-same, all-set, passes}
 use Rattle.shared.specs.Shared.{shared-size, settings-part, in-force-of, last-of, kept-of, shared-formed, Area, Holds}
+use Rattle.places.specs.Places.{places-size}
+use Rattle.lane.specs.Lane.{Reading}
 use Rattle.region.specs.Region.{region-size, session-of, region-formed, Good}
 use Rattle.table.specs.Table.{
   shared-area,
+  places-area,
   region-at,
   region-in,
   table-used,
   regions,
+  reading,
+  reading-in,
   shared-of,
   decode,
   settings-in,
@@ -64,12 +69,12 @@ region-read f t s d h =
 -- there are as many sessions, whatever the bytes
 pub so-many-sessions : (t : List ℕ) → length (decode t .sessions) ≡ session-count
 unfolding decode
-so-many-sessions t = length-regions session-of t
+so-many-sessions t = length-regions (session-of (reading-in t)) t
 
 -- the session that a region means
-pub part-is : (t : List ℕ) (s : ℕ) → s < session-count → session-at (decode t) s ≡ session-of (part t s)
+pub part-is : (t : List ℕ) (s : ℕ) → s < session-count → session-at (decode t) s ≡ session-of (reading-in t) (part t s)
 unfolding decode
-part-is t s h = region-read session-of t s closed h
+part-is t s h = region-read (session-of (reading-in t)) t s closed h
 
 pub formed-parts : (t : List ℕ) → Table t
     → (shared-formed (shared-area t) ≡ true) × (all (λ (b : Bool). b) (regions region-formed t) ≡ true)
@@ -78,6 +83,9 @@ formed-parts t h = and-eq-true-iff (shared-formed (shared-area t)) (all (λ (b :
 
 pub length-shared : (t : List ℕ) → table-least ≤ length t → length (shared-area t) ≡ shared-size
 length-shared t h = mid-len 0 shared-size t (omega arith)
+
+pub length-places : (t : List ℕ) → table-least ≤ length t → length (places-area t) ≡ places-size
+length-places t h = mid-len shared-size (shared-size + places-size) t (omega arith)
 
 pub length-part : (t : List ℕ) (s : ℕ) → table-least ≤ length t → s < session-count → length (part t s) ≡ region-size
 length-part t s h b = mid-len (region-at s) (region-at s + region-size) t (omega arith) ∙ part-size s
@@ -111,7 +119,7 @@ length-in-force a e = length-take-le 25 (drop 56 a) (simp length-drop (omega ari
 -- formed and mean those sessions
 pub becomes-of : {t t′ payload x : List ℕ} {n : ℕ} {rs : List Result} {ss : List Session} → table-least ≤ length t → length t′ ≡ length t
     → drop table-used t′ ≡ drop table-used t → Holds payload x n rs (shared-area t′)
-    → all (λ (b : Bool). b) (regions region-formed t′) ≡ true → regions session-of t′ ≡ ss
+    → all (λ (b : Bool). b) (regions region-formed t′) ≡ true → regions (session-of (reading-in t′)) t′ ≡ ss
     → Becomes t (record {
       shared = record { settings = settings-of payload; in-force = x; last = n; kept = rs; events = 0 };
       sessions = ss;
@@ -165,6 +173,12 @@ module _ (t : List ℕ) (s : ℕ) (ys : List ℕ) (long : table-least ≤ length
   pub put-shared : shared-area (put t s ys) ≡ shared-area t
   put-shared = area-before at (at + region-size - at) t ys len-part fits 0 shared-size (omega arith)
 
+  pub put-places : places-area (put t s ys) ≡ places-area t
+  put-places = area-before at (at + region-size - at) t ys len-part fits shared-size places-size (omega arith)
+
+  pub put-reading : reading-in (put t s ys) ≡ reading-in t
+  put-reading = ap reading put-places
+
   pub put-settings : settings-in (put t s ys) ≡ settings-in t
   put-settings = ap (λ (a : List ℕ). settings-of (settings-part a)) put-shared
 
@@ -205,9 +219,44 @@ module _ (t ys : List ℕ) (long : table-least ≤ length t) (len : length ys �
       areas-same (λ (s : ℕ). f) region-at (λ (s : ℕ). region-size) t (front t ys) 0 session-count
       (λ j p q. area-after 0 shared-size t ys len front-fits (region-at j) region-size (omega arith))
 
+  pub front-places : places-area (front t ys) ≡ places-area t
+  front-places = area-after 0 shared-size t ys len front-fits shared-size places-size (omega arith)
+
+  pub front-sessions : regions (session-of (reading-in (front t ys))) (front t ys) ≡ regions (session-of (reading-in t)) t
+  front-sessions =
+      ap (λ (a : List ℕ). regions (session-of (reading a)) (front t ys)) front-places ∙ front-regions (session-of (reading-in t))
+
+-- ==== 02, P7: the places were replaced
+
+abbrev pub middle : List ℕ → List ℕ → List ℕ
+middle t ys = putMid shared-size (shared-size + places-size - shared-size) t ys
+
+module _ (t ys : List ℕ) (long : table-least ≤ length t) (len : length ys ≡ places-size) where
+  middle-fits : shared-size + places-size ≤ length t
+  middle-fits = omega arith
+
+  pub middle-size : length (middle t ys) ≡ length t
+  middle-size = same-len-mid shared-size places-size t ys (len ∙ sym (mid-len shared-size (shared-size + places-size) t middle-fits))
+
+  pub middle-past : drop table-used (middle t ys) ≡ drop table-used t
+  middle-past = drop-after t ys shared-size places-size table-used len middle-fits (lit≤ tt)
+
+  pub middle-shared : shared-area (middle t ys) ≡ shared-area t
+  middle-shared = area-before shared-size places-size t ys len middle-fits 0 shared-size (omega arith)
+
+  pub middle-places : places-area (middle t ys) ≡ ys
+  middle-places = area-same shared-size places-size t ys len middle-fits
+
+  pub middle-region : (s : ℕ) → region-in s (middle t ys) ≡ region-in s t
+  middle-region s = area-after shared-size places-size t ys len middle-fits (region-at s) region-size (omega arith)
+
+  pub middle-regions : {A : Type 0} (f : List ℕ → A) → regions f (middle t ys) ≡ regions f t
+  middle-regions f =
+      areas-same (λ (s : ℕ). f) region-at (λ (s : ℕ). region-size) t (middle t ys) 0 session-count (λ j p q. middle-region j)
+
 -- session s becomes what r means, and nothing else changes
 pub put-means : (t : List ℕ) (s : ℕ) (r : List ℕ) (ss : List Session) → Table t → s < session-count → Good r
-    → set (regions session-of t) s (session-of r) ≡ ss
+    → set (regions (session-of (reading-in t)) t) s (session-of (reading-in t) r) ≡ ss
     → Becomes t (record { shared = decode t .shared; sessions = ss }) (put t s r)
 unfolding decode
 put-means t s r ss h b g e =
@@ -215,7 +264,8 @@ put-means t s r ss h b g e =
     let n = g .size in
     becomes-of l (put-size t s r l b n) (put-past t s r l b n) (holds-as-before t (put t s r) h (put-shared t s r l b n))
     (rw (put-regions t s r l b n region-formed, g .formed) (all-set (regions region-formed t) s (formed-parts t h .1)))
-    (put-regions t s r l b n session-of ∙ e)
+    (ap (λ (read : Reading). regions (session-of read) (put t s r)) (put-reading t s r l b n)
+    ∙ put-regions t s r l b n (session-of (reading-in t)) ∙ e)
 
 -- ==== what is past the bytes that have to be lent is past those that are used
 

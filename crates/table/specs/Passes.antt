@@ -1,7 +1,7 @@
 -- What passes over the table: an event, received bytes. 01, "What a message does" and "Notices and the clock".
 use mathlib.Core.Path.{_≡_}
 use Prim.Native.Nat.{ℕ, suc, _+_, _^_, _≤_, _<_}
-use mathlib.Core.Bool.{false}
+use mathlib.Core.Bool.{true, false, cond}
 use mathlib.Core.List.{List, [], _∷_}
 use mathlib.Core.Option.{Option·map as option-map}
 use lib.ListN.{length}
@@ -11,23 +11,33 @@ use Rattle.model.specs.Records.{Settings}
 use Rattle.model.specs.Frames.{event-frame, frame-record}
 use Rattle.model.specs.Kinds.{kinds, kind-at, tightenings, copy-most, session-most, event-most, receive-most}
 use Rattle.model.specs.Events.{identified}
-use Rattle.model.specs.Local.{event, takes, announces}
-use Rattle.model.specs.World.{World, session-at, Moment, to as to-one, to-all, happens, hears, next, emits}
+use Rattle.model.specs.Notices.{is-subscribed}
+use Rattle.model.specs.Local.{event, takes, announces, step}
+use Rattle.model.specs.World.{World, session-at, uncounted, Moment, to as to-one, to-all, happens, hears, next, emits}
 use Rattle.model.specs.Calls.{output, takers, happening}
 use Rattle.text.specs.Put.{Put}
-use Rattle.frame.specs.Places.{result-of, place-size, event-in}
+use Rattle.frame.specs.Places.{result-of, place-size, event-in, notice-in}
 use Rattle.frame.specs.Output.{Recorded}
 use Rattle.frame.specs.declared.To.{To}
 use Rattle.frame.specs.declared.Asked.{Asked}
-use Rattle.region.specs.Said.{ending, Knows}
-use Rattle.table.specs.Table.{Table, decode, settings-in, Becomes, Went}
+use Rattle.places.specs.Places.{place-count, place-in}
+use Rattle.lane.specs.Kinds.{most}
+use Rattle.lane.specs.Lane.{is-told, is-held}
+use Rattle.session.specs.Meaning.{is-taken}
+use Rattle.session.specs.declared.Take.{Take}
+use Rattle.session.specs.declared.Taken.{Taken}
+use Rattle.region.specs.Region.{places-held, subscription-in}
+use Rattle.region.specs.Said.{copies-out, Answers, ending, Knows}
+use Rattle.table.specs.Table.{shared-area, places-area, region-in, reading-in, decode, settings-in, Table, Becomes, Went}
 use Rattle.table.specs.Says.{Lent}
 use Rattle.table.specs.declared.Copied.{Copied}
+use Rattle.table.specs.declared.Next.{Next}
+use Rattle.table.specs.declared.Kept.{Kept}
 use Rattle.table.specs.declared.Took.{Took}
 use Rattle.table.specs.declared.Told.{Told}
 use Rattle.table.specs.declared.Heard.{Heard}
 
--- ==== an event of a kind, whose notice is in the place p; a tightening has the next number
+-- ==== an event of a kind, whose notice has the bytes p; a tightening has the next number
 
 pub record EventTo (t : List ℕ) (kind : ℕ) (p : List ℕ) : Type 0 where
   pub table : Table t
@@ -59,12 +69,71 @@ pub record Copies (st : Settings) (asked : Asked) (p : List ℕ) (to : To) (o : 
   pub bytes : Put o (to .at) (frame-record (to .session)
       (event-frame st (asked .revision) (asked .«no_acknowledge») (event-in (asked .kind) p))) next o′
 
--- for the event, to one session, with an output
-pub record EventLent (t o : List ℕ) (to : To) (kind : ℕ) (p : List ℕ) (c : Copied) : Type 0 where
+-- ==== 02, P7: a result that is to be held stands in one place
+
+-- the result p stands in the place, if that is one: else no session holds it yet
+abbrev pub Stands : List ℕ → List ℕ → ℕ → Type 0
+Stands t p place = place < place-count → place-in place (places-area t) ≡ p
+
+-- a session is to hold one more: it holds fewer than it may
+pub record Roomy (t : List ℕ) : Type 0 where
+  pub session : ℕ
+  pub there : session < session-count
+  pub fewer : length (places-held (region-in session t)) < most tightenings
+
+-- what stand asks for
+pub record StandLent (t p : List ℕ) (place : ℕ) : Type 0 where
+  pub table : Table t
+  pub result : length p ≡ place-size tightenings
+  pub stands : Stands t p place
+  pub room : Roomy t
+
+-- p stands in the place, and nothing else has another meaning
+pub record Stood (t p : List ℕ) (q : ℕ) (t′ : List ℕ) : Type 0 where
+  pub place : q < place-count
+  pub stands : place-in q (places-area t′) ≡ p
+  pub becomes : Becomes t (decode t) t′
+  pub shared : shared-area t′ ≡ shared-area t
+  pub regions : (s : ℕ) → s < session-count → region-in s t′ ≡ region-in s t
+
+-- for a result of which that becomes, to one session, which is to hold it
+pub record PlacedLent (t : List ℕ) (s : ℕ) (taken : Taken) (p : List ℕ) (place : ℕ) : Type 0 where
+  pub table : Table t
+  pub session : s < session-count
+  pub answers : Answers tightenings (region-in s t) taken
+  pub holds : is-held (taken .take) ≡ true
+  pub result : length p ≡ place-size tightenings
+  pub stands : Stands t p place
+
+-- for the event, to one session
+pub record KeepLent (t : List ℕ) (s kind : ℕ) (p : List ℕ) (place : ℕ) : Type 0 where
+  pub table : Table t
+  pub session : s < session-count
   pub known : kind < length kinds
-  pub lent : Lent t o to (copy-most (kind-at kind))
-  pub place : length p ≡ place-size kind
-  pub last : Last (settings-in t) kind p c (to .at) o
+  pub notice : length p ≡ place-size kind
+  pub stands : kind ≡ tightenings → Stands t p place
+
+-- what is told of an event of which that becomes
+abbrev pub kept-by : Take → ℕ → Kept
+kept-by t place = record { taken = is-taken t; tell = is-told t; place = place }
+
+-- the session took it, or not, and it is to be sent, or not; and what is then to be said
+pub record Keeps (t : List ℕ) (s kind : ℕ) (p : List ℕ) (k : Kept) (t′ : List ℕ) : Type 0 where
+  pub becomes : Becomes t (uncounted (next (decode t) (to-one s (event (event-in kind p))))) t′
+  pub settings : settings-in t′ ≡ settings-in t
+  pub takes : k .taken ≡ takes kind (session-at (decode t) s)
+  pub ready : k .tell ≡ true → is-subscribed (subscription-in (reading-in t′) kind (region-in s t′)) ≡ true
+  pub says : (step (decode t .shared) (event (event-in kind p)) (session-at (decode t) s)) .1
+      ≡ cond (k .tell) (copies-out (settings-in t) kind (subscription-in (reading-in t′) kind (region-in s t′)) (notice-in kind p ∷ [])) []
+  pub stands : kind ≡ tightenings → Stands t′ p (k .place)
+
+-- for the event, to one session, with an output
+pub record EventLent (t o : List ℕ) (next : Next) (kind : ℕ) (p : List ℕ) : Type 0 where
+  pub known : kind < length kinds
+  pub lent : Lent t o (next .to) (copy-most (kind-at kind))
+  pub notice : length p ≡ place-size kind
+  pub last : Last (settings-in t) kind p (next .copied) (next .to .at) o
+  pub stands : kind ≡ tightenings → Stands t p (next .place)
 
 -- the copy that is then the last
 abbrev pub copied-by : Took → Copied
@@ -76,6 +145,7 @@ pub record TellsOne (t o : List ℕ) (to : To) (kind : ℕ) (p : List ℕ) (r : 
   pub takes : r .taken ≡ takes kind (session-at (decode t) (to .session))
   pub went : Went t o (to .at) (to-one (to .session) (event (event-in kind p)) ∷ []) (r .at) t′ o′
   pub last : Last (settings-in t′) kind p (copied-by r) (r .at) o′
+  pub stands : kind ≡ tightenings → Stands t′ p (r .place)
 
 -- to every session
 pub record Tells (t o : List ℕ) (at kind : ℕ) (p : List ℕ) (r : Told) (t′ o′ : List ℕ) : Type 0 where

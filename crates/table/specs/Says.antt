@@ -14,7 +14,7 @@ use Rattle.text.specs.Put.{Put}
 use Rattle.frame.specs.Places.{place-size}
 use Rattle.frame.specs.declared.To.{To}
 use Rattle.frame.specs.declared.Asked.{Asked}
-use Rattle.lane.specs.Lane.{is-plain, control-of}
+use Rattle.lane.specs.Lane.{is-plain, control-of, open-one, any}
 use Rattle.session.specs.Effects.{out-bytes}
 use Rattle.session.specs.declared.Reply.{Reply}
 use Rattle.session.specs.declared.Reply.the-variants.{Nothing, Started, Accepted, Error, Kept, Mirrored}
@@ -22,14 +22,14 @@ use Rattle.shared.specs.Memory.{payload-kept}
 use Rattle.region.specs.Region.{lane-in, subscriptions-in, subscription-in}
 use Rattle.region.specs.Said.{Ready, AllReady, ended-in}
 use Rattle.region.specs.declared.Ended.{Ended}
-use Rattle.table.specs.Table.{region-in, decode, Table}
+use Rattle.table.specs.Table.{region-in, reading-in, decode, Table}
 
 -- the subscription of a session to a kind, and all of them
 abbrev pub subscription-to : To → ℕ → List ℕ → Subscription
-subscription-to to kind t = subscription-in kind (region-in (to .session) t)
+subscription-to to kind t = subscription-in (reading-in t) kind (region-in (to .session) t)
 
 abbrev pub subscriptions-to : To → List ℕ → List Subscription
-subscriptions-to to t = subscriptions-in (region-in (to .session) t)
+subscriptions-to to t = subscriptions-in (reading-in t) (region-in (to .session) t)
 
 -- how a session asked for notices of a kind, by its region
 abbrev pub asked-in : ℕ → List ℕ → Asked
@@ -43,6 +43,11 @@ pub record Asking (t : List ℕ) (s kind : ℕ) : Type 0 where
   pub session : s < session-count
   pub known : kind < length kinds
 
+-- and that session has a notice of that kind open
+pub record Opened (t : List ℕ) (s kind : ℕ) : Type 0 where
+  pub asking : Asking t s kind
+  pub one : any (open-one (subscription-in (reading-in t) kind (region-in s t))) ≡ true
+
 -- a table, one of its sessions, and room for so many bytes
 pub record Lent (t o : List ℕ) (to : To) (most : ℕ) : Type 0 where
   pub table : Table t
@@ -54,7 +59,7 @@ pub record Wrote (most : ℕ) (es : List Emission) (to : To) (o : List ℕ) (nex
   pub within : next ≤ to .at + most
   pub bytes : Put o (to .at) (out-bytes (to .session) es) next o′
 
--- for a copy of the notice in a place
+-- for a copy of a notice
 pub record CopyLent (t o : List ℕ) (to : To) (kind : ℕ) (p : List ℕ) : Type 0 where
   pub known : kind < length kinds
   pub lent : Lent t o to (copy-most (kind-at kind))

@@ -1,9 +1,10 @@
--- The lent table: what all sessions share, then a region for each session. 01, "What the product holds"; 02, P2; docs/TABLE.md has the map.
+-- The lent table: what all sessions share, the places of the results that wait, and a region for each session. 01, "What the product
+-- holds"; 02, P2 and P7; docs/TABLE.md has the map.
 use mathlib.Core.Path.{_≡_}
 use Prim.Native.Nat.{ℕ, _+_, _*_, _≤_, _<_}
-use mathlib.Core.Bool.{Bool, true, _&&_}
+use mathlib.Core.Bool.{Bool, true, cond, _&&_}
 use mathlib.Core.List.{List}
-use lib.ListN.{length, take, drop}
+use lib.ListN.{length, getD, take, drop}
 use Rattle.model.specs.Limits.{session-count, table-least}
 use Rattle.model.specs.Bytes.{all}
 use Rattle.model.specs.Records.{Settings, settings-of}
@@ -14,6 +15,10 @@ use Rattle.model.specs.Sharing.{Shared, shared-after, unnumbered}
 use Rattle.model.specs.Calls.{output}
 use Rattle.text.specs.Put.{Put}
 use Rattle.text.specs.Areas.{areas}
+use Rattle.frame.specs.Places.{notice-in}
+use Rattle.places.specs.Places.{places-size, place-in}
+use Rattle.lane.specs.Kinds.{is-placed}
+use Rattle.lane.specs.Lane.{Reading}
 use Rattle.shared.specs.Shared.{shared-size, settings-part, in-force-of, last-of, kept-of, shared-formed}
 use Rattle.region.specs.Region.{region-size, session-of, region-formed}
 
@@ -22,9 +27,13 @@ use Rattle.region.specs.Region.{region-size, session-of, region-formed}
 abbrev pub shared-area : List ℕ → List ℕ
 shared-area t = take shared-size (drop 0 t)
 
+-- 02, P7: the places that all sessions share
+abbrev pub places-area : List ℕ → List ℕ
+places-area t = take places-size (drop shared-size t)
+
 -- where the region of a session begins
 abbrev pub region-at : ℕ → ℕ
-region-at s = shared-size + s * region-size
+region-at s = shared-size + places-size + s * region-size
 
 abbrev pub region-in : ℕ → List ℕ → List ℕ
 region-in s t = take region-size (drop (region-at s) t)
@@ -35,7 +44,19 @@ regions f t = areas (λ s. f) region-at (λ s. region-size) 0 session-count t
 
 -- so many bytes are used, of those that are lent
 abbrev pub table-used : ℕ
-table-used = shared-size + session-count * region-size
+table-used = shared-size + places-size + session-count * region-size
+
+-- ==== 02, P7: what a slot of a session means
+
+-- the bytes of the notice: of a kind that is placed those in the place that the slot is, of another the slot's own
+abbrev pub kept-in : List ℕ → ℕ → List ℕ → List ℕ
+kept-in places kind slot = cond (is-placed kind) (place-in (getD slot 0 0) places) slot
+
+abbrev pub reading : List ℕ → Reading
+reading places kind slot = notice-in kind (kept-in places kind slot)
+
+abbrev pub reading-in : List ℕ → Reading
+reading-in t = reading (places-area t)
 
 -- ==== its meaning (it keeps no count of events)
 
@@ -49,7 +70,7 @@ shared-of a = record {
 }
 
 unfoldable pub decode : List ℕ → World
-decode t = record { shared = shared-of (shared-area t); sessions = regions session-of t }
+decode t = record { shared = shared-of (shared-area t); sessions = regions (session-of (reading-in t)) t }
 
 abbrev pub settings-in : List ℕ → Settings
 settings-in t = settings-of (settings-part (shared-area t))

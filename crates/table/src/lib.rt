@@ -6,21 +6,26 @@ ghost use Prim.Native.Nat.{suc, _+_, _≤_, _<_};
 ghost use lib.ListN.{length};
 ghost use Rattle.model.specs.Limits.{session-count, table-least, identifier-length, number-greatest};
 ghost use Rattle.model.specs.Records.{settings-of, settings-length};
-ghost use Rattle.model.specs.Kinds.{kinds, kind-at, copy-most, copies-most, session-most, event-most, receive-most, tick-most};
+ghost use Rattle.model.specs.Kinds.{kinds, tightenings, kind-at, copy-most, copies-most, session-most, event-most, receive-most, tick-most};
 ghost use Rattle.model.specs.Runs.{cut};
 ghost use Rattle.model.specs.Session.{is-closed as is-closed-session};
 ghost use Rattle.model.specs.Local.{tick as one-tick};
 ghost use Rattle.model.specs.World.{session-at, begun, uncounted, to as to-one, opens, hangs-up, hears, ticks, next};
 ghost use Rattle.frame.specs.Places.{event-in, notice-in};
 ghost use Rattle.run.specs.Area.{Ends};
-ghost use Rattle.lane.specs.Lane.{is-plain as is-plain-so};
+ghost use Rattle.places.specs.Places.{place-count};
+ghost use Rattle.places.specs.Free.{is-free};
+ghost use Rattle.lane.specs.Lane.{is-plain as is-plain-so, first-in};
+ghost use Rattle.region.specs.Region.{lane-in, places-held};
 ghost use Rattle.region.specs.Said.{copies-out, due-copy, due-copies, ending, Shows, end-said};
 ghost use Rattle.shared.specs.Shared.{settings-part};
-ghost use Rattle.table.specs.Table.{shared-area, region-in, decode, settings-in, table-formed, Table, Openable, Becomes};
+ghost use Rattle.table.specs.Table.{shared-area, places-area, region-in, regions, kept-in, reading-in, decode, settings-in, table-formed};
+ghost use Rattle.table.specs.Table.{Table, Openable, Becomes};
 ghost use Rattle.table.specs.Table.{noted, WentUpTo};
 ghost use Rattle.table.specs.Says.{Lent, Wrote, CopyLent, OpenLent, DueLent, EndLent, subscription-to, subscriptions-to};
-ghost use Rattle.table.specs.Says.{Asking, asked-in, told-by as told-so};
+ghost use Rattle.table.specs.Says.{Asking, Opened, asked-in, told-by as told-so};
 ghost use Rattle.table.specs.Passes.{EventTo, Repeats, AskedLent, Copies, EventLent, TellsOne, Tells, Happens, Hears, unended};
+ghost use Rattle.table.specs.Passes.{Roomy, StandLent, Stood, PlacedLent, kept-by, KeepLent, Keeps};
 ghost use Rattle.table.specs.Passes.{Received};
 use frame::Asked;
 use frame::To;
@@ -30,12 +35,17 @@ use model::IDENTIFIER_LENGTH;
 use model::IDENTIFIERS;
 use model::KIND_COUNT;
 use model::SESSION_COUNT;
+use model::TIGHTENINGS;
 use region::Ended;
 use session::Form;
 use session::Reply;
+use session::Taken;
+
+// Where the places begin.
+const SHARED: usize = shared::SIZE;
 
 // Where the regions begin, and the size of each.
-const SHARED: usize = shared::SIZE;
+const REGIONS: usize = shared::SIZE + places::SIZE;
 
 const SIZE: usize = region::SIZE;
 
@@ -46,7 +56,7 @@ fn region_of(table: &[u8], s: u64) -> &[u8]
     requires { ⌜ (table-least ≤ length (now table)) × (s < session-count) ⌝ }
     ensures { λ r. ⌜ now r ≡ region-in s (now (table .entry)) ⌝ }
 {
-    let a = SHARED + s as usize * SIZE;
+    let a = REGIONS + s as usize * SIZE;
     &table[a..a + SIZE]
 }
 
@@ -121,7 +131,7 @@ pub fn start(table: &mut [u8], payload: &[u8])
 {
     let mut s: u64 = 0;
     while s < SESSION_COUNT {
-        let a = SHARED + s as usize * SIZE;
+        let a = REGIONS + s as usize * SIZE;
         region::start(&mut table[a..a + SIZE]);
         s += 1;
     }
@@ -135,7 +145,7 @@ pub fn open(table: &mut [u8], s: u64)
     requires { ⌜ Openable (now table) s ⌝ }
     ensures { λ _. ⌜ Becomes (now (table .entry)) (uncounted (next (decode (now (table .entry))) (opens s))) (now (table .exit)) ⌝ }
 {
-    let a = SHARED + s as usize * SIZE;
+    let a = REGIONS + s as usize * SIZE;
     region::open(&mut table[a..a + SIZE]);
 }
 
@@ -144,7 +154,7 @@ pub fn hang_up(table: &mut [u8], s: u64)
     requires { ⌜ Table (now table) × (s < session-count) ⌝ }
     ensures { λ _. ⌜ Becomes (now (table .entry)) (uncounted (next (decode (now (table .entry))) (hangs-up s))) (now (table .exit)) ⌝ }
 {
-    let a = SHARED + s as usize * SIZE;
+    let a = REGIONS + s as usize * SIZE;
     region::hang_up(&mut table[a..a + SIZE]);
 }
 
@@ -175,15 +185,35 @@ fn asked_by(table: &[u8], s: u64, kind: usize) -> Asked
     }
 }
 
-// A copy of the notice in a place, to a session that is subscribed to its kind.
-fn put_copy(table: &[u8], out: &mut [u8], to: To, kind: usize, place: &[u8]) -> usize
-    requires { ⌜ CopyLent (now table) (now out) to kind (now place) ⌝ }
+// The place that a slot is.
+fn number(b: u8) -> usize
+    ensures { λ r. ⌜ r ≡ b ⌝ }
+{
+    b as usize
+}
+
+// The bytes of the open notice of that kind: they stand in a place, or in the lane itself.
+fn open_notice(table: &[u8], s: u64, kind: usize) -> &[u8]
+    requires { ⌜ Opened (now table) s kind ⌝ }
+    ensures { λ r. ⌜ now r ≡ kept-in (places-area (now (table .entry))) kind
+        (first-in kind (lane-in kind (region-in s (now (table .entry))))) ⌝ }
+{
+    let slot = lane::first(region::lane(region_of(table, s), kind), kind);
+    if kind == TIGHTENINGS {
+        return places::at(&table[SHARED..REGIONS], number(slot[0]));
+    }
+    slot
+}
+
+// A copy of a notice, to a session that is subscribed to its kind.
+fn put_copy(table: &[u8], out: &mut [u8], to: To, kind: usize, notice: &[u8]) -> usize
+    requires { ⌜ CopyLent (now table) (now out) to kind (now notice) ⌝ }
     ensures { λ r. ⌜ Wrote (copy-most (kind-at kind)) (copies-out (settings-in (now (table .entry))) kind
-        (subscription-to to kind (now (table .entry))) (notice-in kind (now (place .entry)) ∷ [])) to (now (out .entry)) r
+        (subscription-to to kind (now (table .entry))) (notice-in kind (now (notice .entry)) ∷ [])) to (now (out .entry)) r
         (now (out .exit)) ⌝ }
 {
     let asked = asked_by(table, to.session, kind);
-    frame::put_copy(out, to, asked, settings(table), place)
+    frame::put_copy(out, to, asked, settings(table), notice)
 }
 
 // A copy of the open notice of that kind, where one is due.
@@ -195,8 +225,7 @@ fn say_one(table: &[u8], out: &mut [u8], to: To, kind: usize, due: bool) -> usiz
     if !due {
         return to.at;
     }
-    let lane = region::lane(region_of(table, to.session), kind);
-    put_copy(table, out, to, kind, lane::first(lane, kind))
+    put_copy(table, out, to, kind, open_notice(table, to.session, kind))
 }
 
 // Copies of the open notices of the kinds of which one is due, in order of kind.
@@ -223,7 +252,7 @@ fn tick_session(table: &mut [u8], out: &mut [u8], to: To) -> usize
     ensures { λ r. ⌜ WentUpTo (now (table .entry)) (now (out .entry)) (to .at) (copies-most kinds)
         (to-one (to .session) one-tick ∷ []) r (now (table .exit)) (now (out .exit)) ⌝ }
 {
-    let a = SHARED + to.session as usize * SIZE;
+    let a = REGIONS + to.session as usize * SIZE;
     let ticked = region::tick(&mut table[a..a + SIZE]);
     if ticked.closes {
         return frame::put_close(out, to);
@@ -263,10 +292,12 @@ struct Copied {
     no_acknowledge: bool,
 }
 
-// Where the next one goes, and the one that was written last.
+// Where the next one goes, the one that was written last, and the place where the event's notice stands: as many as there are, where it
+// stands in none.
 struct Next {
     to: To,
     copied: Copied,
+    place: usize,
 }
 
 // Whether there is one, and it was asked for alike.
@@ -283,9 +314,9 @@ fn repeats(copied: Copied, at: usize, asked: Asked) -> bool
 }
 
 // A copy of an event, to a session that asked for it so: the one that was written last, once more, where it was asked for alike.
-fn put_event(table: &[u8], out: &mut [u8], next: Next, asked: Asked, place: &[u8]) -> usize
-    requires { ⌜ AskedLent (now table) (now out) (next .to) asked (now place) (next .copied) ⌝ }
-    ensures { λ r. ⌜ Copies (settings-in (now (table .entry))) asked (now (place .entry)) (next .to) (now (out .entry)) r
+fn put_event(table: &[u8], out: &mut [u8], next: Next, asked: Asked, notice: &[u8]) -> usize
+    requires { ⌜ AskedLent (now table) (now out) (next .to) asked (now notice) (next .copied) ⌝ }
+    ensures { λ r. ⌜ Copies (settings-in (now (table .entry))) asked (now (notice .entry)) (next .to) (now (out .entry)) r
         (now (out .exit)) ⌝ }
 {
     let to = next.to;
@@ -293,45 +324,126 @@ fn put_event(table: &[u8], out: &mut [u8], next: Next, asked: Asked, place: &[u8
     if repeats(copied, to.at, asked) {
         return frame::put_again(out, to, copied.from);
     }
-    frame::put_copy(out, to, asked, settings(table), place)
+    frame::put_copy(out, to, asked, settings(table), notice)
 }
 
-// What an event did to one session: the place behind what went out, whether it was taken, and the copy that was written last.
+// The first place that no session has open or waiting.
+fn free_place(table: &[u8]) -> usize
+    requires { ⌜ Table (now table) × Roomy (now table) ⌝ }
+    ensures { λ r. ⌜ (r < place-count) × (is-free r (regions places-held (now (table .entry))) ≡ true) ⌝ }
+{
+    let mut used = [0; places::COUNT];
+    let mut s: u64 = 0;
+    while s < SESSION_COUNT {
+        region::mark(region_of(table, s), &mut used);
+        s += 1;
+    }
+    places::first_free(&used)
+}
+
+// A result that a session is to hold stands in a place: the one where it stands already, or one that is free.
+fn stand(table: &mut [u8], result: &[u8], place: usize) -> usize
+    requires { ⌜ StandLent (now table) (now result) place ⌝ }
+    ensures { λ r. ⌜ Stood (now (table .entry)) (now (result .entry)) r (now (table .exit)) ⌝ }
+{
+    if place < places::COUNT {
+        return place;
+    }
+    let free = free_place(table);
+    places::put(&mut table[SHARED..REGIONS], free, result);
+    free
+}
+
+// What an event did to one session: whether it was taken, whether a copy is to be sent now, and the place where its notice stands then.
+struct Kept {
+    taken: bool,
+    tell: bool,
+    place: usize,
+}
+
+// A tightening of which that becomes, to one session, which holds its place: where it stands then.
+fn keep_placed(table: &mut [u8], s: u64, taken: Taken, result: &[u8], place: usize) -> usize
+    requires { ⌜ PlacedLent (now table) s taken (now result) place ⌝ }
+    ensures { λ r. ⌜ Keeps (now (table .entry)) s tightenings (now (result .entry)) (kept-by (taken .take) r) (now (table .exit)) ⌝ }
+{
+    let stands = stand(table, result, place);
+    let slot = [stands as u8];
+    let a = REGIONS + s as usize * SIZE;
+    region::take(&mut table[a..a + SIZE], TIGHTENINGS, taken, &slot);
+    stands
+}
+
+// An event of that kind, to one session, which holds its notice or does not.
+fn keep(table: &mut [u8], s: u64, kind: usize, notice: &[u8], place: usize) -> Kept
+    requires { ⌜ KeepLent (now table) s kind (now notice) place ⌝ }
+    ensures { λ r. ⌜ Keeps (now (table .entry)) s kind (now (notice .entry)) r (now (table .exit)) ⌝ }
+{
+    let taken = region::taking(region_of(table, s), kind);
+    let take = taken.take;
+    let told = lane::is_taken(take);
+    let tell = lane::is_told(take);
+    if !lane::is_held(take) {
+        return Kept {
+            taken: told,
+            tell,
+            place,
+        };
+    }
+    let a = REGIONS + s as usize * SIZE;
+    if kind != TIGHTENINGS {
+        region::take(&mut table[a..a + SIZE], kind, taken, notice);
+        return Kept {
+            taken: told,
+            tell,
+            place,
+        };
+    }
+    let place = keep_placed(table, s, taken, notice, place);
+    Kept {
+        taken: told,
+        tell,
+        place,
+    }
+}
+
+// What came of it: the place behind what went out, whether it was taken, the copy that was written last, and where its notice stands.
 struct Took {
     at: usize,
     taken: bool,
     from: usize,
     revision: u64,
     no_acknowledge: bool,
+    place: usize,
 }
 
-// An event of that kind, whose notice is in `place`, to one session.
-fn tell_session(table: &mut [u8], out: &mut [u8], next: Next, kind: usize, place: &[u8]) -> Took
-    requires { ⌜ EventLent (now table) (now out) (next .to) kind (now place) (next .copied) ⌝ }
-    ensures { λ r. ⌜ TellsOne (now (table .entry)) (now (out .entry)) (next .to) kind (now (place .entry)) r (now (table .exit))
+// An event of that kind, to one session.
+fn tell_session(table: &mut [u8], out: &mut [u8], next: Next, kind: usize, notice: &[u8]) -> Took
+    requires { ⌜ EventLent (now table) (now out) next kind (now notice) ⌝ }
+    ensures { λ r. ⌜ TellsOne (now (table .entry)) (now (out .entry)) (next .to) kind (now (notice .entry)) r (now (table .exit))
         (now (out .exit)) ⌝ }
 {
     let to = next.to;
     let copied = next.copied;
-    let a = SHARED + to.session as usize * SIZE;
-    let told = region::take(&mut table[a..a + SIZE], kind, place);
-    if !told.tell {
+    let kept = keep(table, to.session, kind, notice, next.place);
+    if !kept.tell {
         return Took {
             at: to.at,
-            taken: told.taken,
+            taken: kept.taken,
             from: copied.from,
             revision: copied.revision,
             no_acknowledge: copied.no_acknowledge,
+            place: kept.place,
         };
     }
     let asked = asked_by(table, to.session, kind);
-    let at = put_event(table, out, next, asked, place);
+    let at = put_event(table, out, next, asked, notice);
     Took {
         at,
-        taken: told.taken,
+        taken: kept.taken,
         from: to.at,
         revision: asked.revision,
         no_acknowledge: asked.no_acknowledge,
+        place: kept.place,
     }
 }
 
@@ -342,15 +454,16 @@ fn share(taken: bool, bit: u64) -> u64
     if taken { bit } else { 0 }
 }
 
-// An event of that kind, whose notice is in `place`, to every session, in order.
-fn tell(table: &mut [u8], out: &mut [u8], at: usize, kind: usize, place: &[u8]) -> Told
-    requires { ⌜ EventTo (now table) kind (now place) × (at + event-most kind ≤ length (now out)) ⌝ }
-    ensures { λ r. ⌜ Tells (now (table .entry)) (now (out .entry)) at kind (now (place .entry)) r (now (table .exit)) (now (out .exit)) ⌝ }
+// An event of that kind to every session, in order.
+fn tell(table: &mut [u8], out: &mut [u8], at: usize, kind: usize, notice: &[u8]) -> Told
+    requires { ⌜ EventTo (now table) kind (now notice) × (at + event-most kind ≤ length (now out)) ⌝ }
+    ensures { λ r. ⌜ Tells (now (table .entry)) (now (out .entry)) at kind (now (notice .entry)) r (now (table .exit)) (now (out .exit)) ⌝ }
 {
     let mut at = at;
     let mut from = at;
     let mut revision: u64 = 0;
     let mut no_acknowledge = false;
+    let mut place = places::COUNT;
     let mut taken: u64 = 0;
     let mut bit: u64 = 1;
     let mut session: u64 = 0;
@@ -361,11 +474,12 @@ fn tell(table: &mut [u8], out: &mut [u8], at: usize, kind: usize, place: &[u8]) 
             no_acknowledge,
         };
         let to = To { session, at };
-        let took = tell_session(table, out, Next { to, copied }, kind, place);
+        let took = tell_session(table, out, Next { to, copied, place }, kind, notice);
         at = took.at;
         from = took.from;
         revision = took.revision;
         no_acknowledge = took.no_acknowledge;
+        place = took.place;
         taken += share(took.taken, bit);
         bit *= 2;
         session += 1;
@@ -374,29 +488,29 @@ fn tell(table: &mut [u8], out: &mut [u8], at: usize, kind: usize, place: &[u8]) 
 }
 
 // What the event leaves to all sessions: the identifier in force, or the last number and the tightening that has it; an alarm nothing.
-fn note(table: &mut [u8], kind: usize, place: &[u8])
-    requires { ⌜ EventTo (now table) kind (now place) ⌝ }
-    ensures { λ _. ⌜ Becomes (now (table .entry)) (noted (decode (now (table .entry))) (event-in kind (now (place .entry))))
+fn note(table: &mut [u8], kind: usize, notice: &[u8])
+    requires { ⌜ EventTo (now table) kind (now notice) ⌝ }
+    ensures { λ _. ⌜ Becomes (now (table .entry)) (noted (decode (now (table .entry))) (event-in kind (now (notice .entry))))
         (now (table .exit)) ⌝ }
 {
     if kind == IDENTIFIERS {
-        shared::put_in_force(&mut table[0..SHARED], place);
+        shared::put_in_force(&mut table[0..SHARED], notice);
         return;
     }
     if kind == ALARMS {
         return;
     }
-    shared::remember(&mut table[0..SHARED], place);
+    shared::remember(&mut table[0..SHARED], notice);
 }
 
-// An event of that kind, whose notice is in `place`.
-pub fn happens(table: &mut [u8], out: &mut [u8], at: usize, kind: usize, place: &[u8]) -> Told
-    requires { ⌜ EventTo (now table) kind (now place) × (at + event-most kind ≤ length (now out)) ⌝ }
-    ensures { λ r. ⌜ Happens (now (table .entry)) (now (out .entry)) at kind (now (place .entry)) r (now (table .exit))
+// An event of that kind, whose notice is in those bytes.
+pub fn happens(table: &mut [u8], out: &mut [u8], at: usize, kind: usize, notice: &[u8]) -> Told
+    requires { ⌜ EventTo (now table) kind (now notice) × (at + event-most kind ≤ length (now out)) ⌝ }
+    ensures { λ r. ⌜ Happens (now (table .entry)) (now (out .entry)) at kind (now (notice .entry)) r (now (table .exit))
         (now (out .exit)) ⌝ }
 {
-    let told = tell(table, out, at, kind, place);
-    note(table, kind, place);
+    let told = tell(table, out, at, kind, notice);
+    note(table, kind, notice);
     told
 }
 
@@ -408,7 +522,7 @@ fn lengthen(table: &mut [u8], s: u64, bytes: &[u8])
     ensures { λ _. ⌜ Becomes (now (table .entry))
         (uncounted (next (decode (now (table .entry))) (hears s (unended (now (bytes .entry)))))) (now (table .exit)) ⌝ }
 {
-    let a = SHARED + s as usize * SIZE;
+    let a = REGIONS + s as usize * SIZE;
     region::lengthen(&mut table[a..a + SIZE], bytes);
 }
 
@@ -440,7 +554,7 @@ fn told_by<'a>(table: &'a [u8], run: &'a [u8], reply: Reply) -> &'a [u8]
 // What the end of a run leaves to say: the reply, and behind it the copy that is due.
 fn answer<'a>(table: &'a [u8], out: &mut [u8], to: To, bytes: &'a [u8], ended: Ended) -> usize
     requires { ⌜ EndLent (now table) (now out) to (now bytes) ended ⌝ }
-    ensures { λ r. ⌜ Wrote session-most (end-said (decode (now (table .entry)) .shared) (now (bytes .entry)) ended
+    ensures { λ r. ⌜ Wrote session-most (end-said (reading-in (now (table .entry))) (decode (now (table .entry)) .shared) (now (bytes .entry)) ended
         (region-in (to .session) (now (table .entry)))) to (now (out .entry)) r (now (out .exit)) ⌝ }
 {
     let kept = region::run_bytes(region_of(table, to.session));
@@ -467,7 +581,7 @@ fn hear(table: &mut [u8], out: &mut [u8], to: To, bytes: &[u8], place: &mut [u8]
         (now (out .exit)) (now (place .exit)) ⌝ }
 {
     let common = common(table);
-    let a = SHARED + to.session as usize * SIZE;
+    let a = REGIONS + to.session as usize * SIZE;
     let ended = region::end_run(&mut table[a..a + SIZE], common, bytes, place);
     let at = answer(table, out, to, bytes, ended);
     Heard {

@@ -6,7 +6,7 @@ use Rattle.session.specs.Control.{dealt}
 use Rattle.lane.specs.Lane.{control-of}
 use Rattle.lane.proofs.Controls.{storable}
 use Rattle.lane.proofs.Deeds.{feasible}
-use Rattle.lane.proofs.Lanes.{next-storable, deals}
+use Rattle.lane.proofs.Lanes.{next-storable, next-formed, deals}
 use Rattle.lane.proofs.deal.Statement.{statement}
 use Rattle.lane.proofs.deal.Tie as tie
 
@@ -34,11 +34,14 @@ store-requires c κs =
     let d = c .before .before .before .before in
     let t = d .before .before in
     let s = t .before .before .before .before in
+    let read = notice-in (s .args .kind) in
+    let e = the-step t in
     record {
       known = s .pre .0;
       size = d .shift-down .ensures .size;
-      control =
-          rw (the-step t) (next-storable (notice-in (s .args .kind)) (s .args .kind) (s .args .lane .now) (s .pre .1) (s .args .deed));
+      control = rw e (next-storable read (s .args .kind) (s .args .lane .now) (s .pre .1) (s .args .deed));
+      formed = rw e (next-formed read (s .args .kind) (s .args .lane .now) (s .pre .1) (s .args .deed) _
+          (rw (t .before .load .ensures, e) at (d .shift-down .ensures)));
     }
 
 returns : tie.Need-returns

@@ -10,20 +10,20 @@ use Rattle.lane.proofs.Lanes.{first-fits}
 use Rattle.lane.proofs.first.Statement.{statement}
 use Rattle.lane.proofs.first.Tie as tie
 
-module _ (c : tie.After-place-size) where
-  fit : control-size + c .place-size .result ≤ length (c .before .before .args .lane .now)
+module _ (c : tie.After-slot-size) where
+  fit : control-size + c .slot-size .result ≤ length (c .before .before .args .lane .now)
   fit =
       let s = c .before .before in
       let e = s .pre .1 in
       let h = first-fits (s .args .kind) (kind-fits (s .args .kind) (s .pre .0) .some) in
-      rw (c .place-size .ensures, e) h
+      rw (c .slot-size .ensures, e) h
 
 returns : tie.Need-returns
 returns c =
     let z = c .before in
     let s = z .before .before in
     ap (λ (n : ℕ). take n (drop control-size (s .args .lane .now)))
-    (add-sub-cancel-left control-size (z .place-size .result) ∙ z .place-size .ensures)
+    (add-sub-cancel-left control-size (z .slot-size .result) ∙ z .slot-size .ensures)
 
 pub first-spec : {M : Type 1} → statement M
 first-spec =

@@ -9,17 +9,17 @@ use Rattle.lane.proofs.shift_down.Statement.{statement}
 use Rattle.lane.proofs.shift_down.Tie as tie
 
 -- those that wait are there, behind the first
-module _ (c : tie.After-place-size) where
-  fit : control-size + c .place-size .result + (c .before .before .before .args .held - 1) * c .place-size .result
+module _ (c : tie.After-slot-size) where
+  fit : control-size + c .slot-size .result + (c .before .before .before .args .held - 1) * c .slot-size .result
       ≤ length (c .before .before .before .args .lane .now)
-  fit = waiting _ _ _ _ (c .before .before .before .pre) (not-false _ (c .before .if1 .left)) _ (c .place-size .ensures)
+  fit = waiting _ _ _ _ (c .before .before .before .pre) (not-false _ (c .before .if1 .left)) _ (c .slot-size .ensures)
 
 returns-2 : tie.Need-returns-2
 returns-2 c =
     let t = c .before .before in
     let z = t .before .before in
     let i = z .before in
-    rw (t .shift .ensures) (is-shifted _ _ _ _ (i .before .before .pre) (not-false _ (i .if1 .left)) _ (z .place-size .ensures))
+    rw (t .shift .ensures) (is-shifted _ _ _ _ (i .before .before .pre) (not-false _ (i .if1 .left)) _ (z .slot-size .ensures))
 
 pub shift-down-spec : {M : Type 1} → statement M
 shift-down-spec =

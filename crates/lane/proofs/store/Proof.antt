@@ -14,7 +14,7 @@ returns c =
     let f = k .before .before in
     let s = f .before .before in
     rw (p .put-little .ensures .1 .output, y .copy .ensures .output)
-    (stores (s .args .kind) (s .args .lane .now) (s .args .x) (f .form-byte .result) (s .pre .size) (s .pre .control)
+    (stores (s .args .kind) (s .args .lane .now) (s .args .x) (f .form-byte .result) (s .pre .size) (s .pre .control) (s .pre .formed)
     (f .form-byte .ensures .0) (f .form-byte .ensures .1) (omega (arith, k .struct-known2 .given .1)))
 
 pub store-spec : {M : Type 1} → statement M

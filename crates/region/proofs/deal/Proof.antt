@@ -1,7 +1,6 @@
 -- `region::deal` meets its contract, by whether there is anything to do.
 use borrow.Author.Needs.{needs}
 use mathlib.Core.Path.{sym, subst}
-use Rattle.frame.specs.Places.{notice-in}
 use Rattle.session.specs.Meaning.{deed-of}
 use Rattle.session.specs.declared.Deed.{Deed}
 use Rattle.region.specs.Said.{DealtTo}
@@ -15,15 +14,17 @@ returns : tie.Need-returns
 returns c =
     let s = c .before .before .before in
     let r = s .args .region .now in
-    subst (λ (d : Deed). DealtTo (s .args .kind) (deed-of d) r _ r) (sym (c .enum-told .given .1))
-    (nothing-dealt r (s .args .kind) (s .pre .1) (s .pre .0))
+    λ read.
+    subst (λ (d : Deed). DealtTo read (s .args .kind) (deed-of d) r _ r) (sym (c .enum-told .given .1))
+    (nothing-dealt read r (s .args .kind) (s .pre .1) (s .pre .0))
 
 returns-2 : tie.Need-returns-2
 returns-2 c =
     let d = c .before .before in
     let z = d .before .before in
     let s = z .before .before .before .before in
-    dealt-to (s .pre .1) (s .pre .0) (z .before .lane-at .ensures) (z .size .ensures) (d .deal .ensures (notice-in (s .args .kind)))
+    λ read.
+    dealt-to read (s .pre .1) (s .pre .0) (z .before .lane-at .ensures) (z .size .ensures) (d .deal .ensures (read (s .args .kind)))
 
 pub deal-spec : {M : Type 1} → statement M
 deal-spec =

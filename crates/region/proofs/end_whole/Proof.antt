@@ -7,6 +7,8 @@ use lib.ListN.{length}
 use Rattle.model.specs.Limits.{run-kept}
 use Rattle.model.specs.Runs.{Run, longer}
 use Rattle.run.specs.Area.{run-of}
+use Rattle.frame.specs.Places.{notice-in}
+use Rattle.lane.specs.Lane.{Reading}
 use Rattle.region.specs.Region.{run-area}
 use Rattle.region.proofs.Rulings.{ruled-as}
 use Rattle.region.proofs.Ends.{taken-few, fair, ends-whole, Judged}
@@ -21,9 +23,9 @@ rule-requires c κs =
 
 -- the decision is on the run that the bytes are
 module _ (c : tie.After-rule) where
-  judged : let a = c .before .before .before .before .before .before .before .before .before .before .before .args in
-      Judged (a .common) (a .bytes .now) (a .region .now) (a .place .now) (c .rule .result) (c .rule .last .1 .1 .1 .1 .0)
-  judged =
+  judged : (read : Reading) → let a = c .before .before .before .before .before .before .before .before .before .before .before .args in
+      Judged read (a .common) (a .bytes .now) (a .region .now) (a .place .now) (c .rule .result) (c .rule .last .1 .1 .1 .1 .0)
+  judged read =
       let n = c .before .before in
       let k = n .before in
       let l = k .before .before .before in
@@ -34,7 +36,7 @@ module _ (c : tie.After-rule) where
         here = l .load .ensures .0;
         idle = l .load .ensures .1;
         standing = k .before .standing .result;
-        stands = k .before .standing .ensures;
+        stands = (k .before .standing .ensures .0 read, k .before .standing .ensures .1);
         ruled = ruled-as (longer (run-of (run-area (s .args .region .now))) (s .args .bytes .now))
             (k .kept-of .ensures ∙ ap (λ (z : Run). z .kept) whole) (n .count-of .ensures ∙ ap (λ (z : Run). z .count) whole)
             (c .rule .ensures);
@@ -43,16 +45,16 @@ module _ (c : tie.After-rule) where
 carry-out-requires : tie.Need-carry-out-requires
 carry-out-requires c κs =
     let u = c .before .before .before in
-    let o = judged u in
+    let o = judged u notice-in in
     let s = u .before .before .before .before .before .before .before .before .before .before .before in
-    record { good = s .pre .good; known = fair o .0; idle = fair o .1 }
+    record { good = s .pre .good; known = fair notice-in o .0; idle = fair notice-in o .1 }
 
 returns : tie.Need-returns
 returns c =
     let o = c .before .before .before in
     let u = o .before .before .before .before in
     let s = u .before .before .before .before .before .before .before .before .before .before .before in
-    rw (c .left-to-say .ensures) (ends-whole (judged u) (o .carry-out .ensures) (s .pre .empty))
+    λ read. rw (c .left-to-say .ensures) (ends-whole read (judged u read) (o .carry-out .ensures read) (s .pre .empty))
 
 pub end-whole-spec : {M : Type 1} → statement M
 end-whole-spec =

@@ -7,6 +7,6 @@ use Rattle.region.proofs.is_closed.Tie as tie
 pub is-closed-spec : {M : Type 1} → statement M
 is-closed-spec =
     tie.close (tie.spec (λ c κs. search needs) (λ c. search needs) (λ c. search needs) (λ c. search needs)
-    (λ c. rw (means-so _ _ (c .before .before .load .ensures .0), c .enum-told .given .1))
-    (λ c. rw (means-so _ _ (c .before .before .load .ensures .0), c .enum-told2 .given .1))
-    (λ c. rw (means-so _ _ (c .before .before .load .ensures .0), c .enum-told3 .given .1)))
+    (λ c. λ read. rw (means-so read _ _ (c .before .before .load .ensures .0), c .enum-told .given .1))
+    (λ c. λ read. rw (means-so read _ _ (c .before .before .load .ensures .0), c .enum-told2 .given .1))
+    (λ c. λ read. rw (means-so read _ _ (c .before .before .load .ensures .0), c .enum-told3 .given .1)))

@@ -10,7 +10,7 @@ use Rattle.region.proofs.lane_at.Statement.{statement}
 use Rattle.region.proofs.lane_at.Tie as tie
 
 -- the last arm is the last kind's
-last : (kind : ℕ) → kind < length kinds → (kind ≡ identifiers → ⊥) → (kind ≡ tightenings → ⊥) → 1_024 ≡ lane-at kind
+last : (kind : ℕ) → kind < length kinds → (kind ≡ identifiers → ⊥) → (kind ≡ tightenings → ⊥) → 160 ≡ lane-at kind
 last kind h n m = let e : kind ≡ alarms = omega (arith, n, m) in rw e
 
 pub lane-at-spec : {M : Type 1} → statement M

@@ -13,4 +13,4 @@ lengthen-spec =
     (λ c. search needs)
     (λ c κs. let s = c .before .before .before in parts (s .args .region .now) (s .pre) .run)
     (λ c. search needs)
-    (λ c. search (needs, run-replaced)))
+    (λ c. λ read. search (needs, run-replaced)))

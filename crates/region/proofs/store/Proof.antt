@@ -7,4 +7,4 @@ use Rattle.region.proofs.store.Tie as tie
 pub store-spec : {M : Type 1} → statement M
 store-spec =
     tie.close (tie.spec (λ c. search needs) (λ c. search needs) (λ c. search needs) (λ c κs. search needs) (λ c. search needs)
-    (λ c. search (needs, head-replaced)))
+    (λ c. λ read. search (needs, head-replaced)))

@@ -26,10 +26,11 @@ returns-2 c =
     let i = e .before .before in
     let l = i .before in
     let r = l .before .before .before .args .region .now in
-    tick-closes r (l .load .result) (l .load .ensures .0) (l .load .ensures .1) (i .idled .result) _ (i .idled .ensures)
+    λ read.
+    tick-closes read r (l .load .result) (l .load .ensures .0) (l .load .ensures .1) (i .idled .result) _ (i .idled .ensures)
     (e .enum-told .given .1)
-    (subst (λ (x : Session). Changes r x (run-of (run-area r)) (subscriptions-in r) (p .store .last .0)) (p .before .cleared .ensures)
-    (p .store .ensures))
+    (subst (λ (x : Session). Changes read r x (run-of (run-area r)) (subscriptions-in read r) (p .store .last .0))
+    (p .before .cleared .ensures) (p .store .ensures read))
 
 pub tick-spec : {M : Type 1} → statement M
 tick-spec =
@@ -43,6 +44,6 @@ tick-spec =
     (λ c κs. search needs)
     (λ c κs. (c .before .before .before .before .before .before .before .before .pre, rw (c .cleared .ensures) (omega arith)))
     (λ c. search needs)
-    (λ c. search (needs, tick-stays))
+    (λ c. λ read. let w = c .before .before .tick-stays .ensures read in search (needs, tick-stays))
     (λ c. search needs)
     returns-2)

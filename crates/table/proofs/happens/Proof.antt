@@ -17,7 +17,7 @@ returns c =
     record {
       within = e .within;
       went = went-one
-          (becomes-then (λ (w : World). noted w (event-in (a .kind) (a .place .now))) (e .becomes) (n .note .ensures)) (e .bytes);
+          (becomes-then (λ (w : World). noted w (event-in (a .kind) (a .notice .now))) (e .becomes) (n .note .ensures)) (e .bytes);
       taken = e .taken;
       few = rw (e .taken) (takers-below (a .kind) (a .table .now));
     }

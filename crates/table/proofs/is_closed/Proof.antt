@@ -3,6 +3,7 @@ use borrow.Author.Needs.{needs}
 use mathlib.Core.Path.{sym, ap, subst, _∙_}
 use Rattle.model.specs.Session.{is-closed}
 use Rattle.region.specs.Region.{session-of, Good}
+use Rattle.table.specs.Table.{reading-in}
 use Rattle.table.proofs.Regions.{part-in, part-good, part-is}
 use Rattle.table.proofs.is_closed.Statement.{statement}
 use Rattle.table.proofs.is_closed.Tie as tie
@@ -17,7 +18,7 @@ returns : tie.Need-returns
 returns c =
     let s = c .before .before .before in
     let t = s .args .table .now in
-    c .is-closed .ensures ∙ ap (λ r. is-closed (session-of r)) (c .before .region-of .ensures ∙ sym (part-in t (s .args .s)))
+    c .is-closed .ensures (reading-in t) ∙ ap (λ r. is-closed (session-of (reading-in t) r)) (c .before .region-of .ensures ∙ sym (part-in t (s .args .s)))
     ∙ ap is-closed (sym (part-is t (s .args .s) (s .pre .1)))
 
 pub is-closed-spec : {M : Type 1} → statement M

@@ -2,7 +2,7 @@
 use borrow.Author.Needs.{needs}
 use native.Mathlib.Omega.{arith}
 use Rattle.text.proofs.Puts.{put-as}
-use Rattle.table.specs.Table.{region-in, settings-in}
+use Rattle.table.specs.Table.{region-in, reading-in, settings-in}
 use Rattle.table.proofs.Says.{copy-said}
 use Rattle.table.proofs.put_copy.Statement.{statement}
 use Rattle.table.proofs.put_copy.Tie as tie
@@ -28,8 +28,8 @@ returns c =
     let w = rw (a .asked-by .ensures, z .settings .ensures .0) at (y .put-copy .ensures) in
     record {
       within = w .within;
-      bytes = put-as (copy-said (settings-in t) (s .args .to .session) (s .args .kind) (region-in (s .args .to .session) t)
-          (s .args .place .now) (s .pre .subscribed)) (w .put);
+      bytes = put-as (copy-said (reading-in t) (settings-in t) (s .args .to .session) (s .args .kind) (region-in (s .args .to .session) t)
+          (s .args .notice .now) (s .pre .subscribed)) (w .put);
     }
 
 pub put-copy-spec : {M : Type 1} → statement M

@@ -1,14 +1,17 @@
 -- `table::tell` meets its contract. The invariant: what the sessions come to that are left is what all come to, and what is left to add
--- up of those that take the event; and the copy that was written last stands before the place.
+-- up of those that take the event; and the copy that was written last stands before the place, and a
+-- result that is held in its place.
 use borrow.Author.Needs.{needs}
+use mathlib.Core.Path.{_≡_, refl}
 use Prim.Native.Nat.{_-_}
+use native.Mathlib.Nat.{zero-add}
 use native.Mathlib.Omega.{arith}
 use Rattle.model.specs.Limits.{session-count}
-use Rattle.model.specs.Kinds.{kind-at, copy-most}
+use Rattle.model.specs.Kinds.{tightenings, kind-at, copy-most}
 use Rattle.model.specs.Local.{event}
 use Rattle.frame.specs.Places.{event-in}
 use Rattle.table.specs.Table.{decode, settings-in}
-use Rattle.table.specs.Passes.{Last}
+use Rattle.table.specs.Passes.{Last, Stands}
 use Rattle.table.proofs.Turns.{Turns, turns-none, turn-lent, turns-next, turns-all}
 use Rattle.table.proofs.Events.{Summing, bit-small, adds, sums-next, sums-all}
 use Rattle.table.proofs.Again.{last-none}
@@ -16,13 +19,14 @@ use Rattle.table.proofs.tell.Statement.{statement}
 use Rattle.table.proofs.tell.Tie as tie
 
 abbrev Inv-loop : tie.InvT-loop
-Inv-loop table₀ out₀ at kind place at₀ from₀ revision₀ flag₀ taken₀ bit₀ session₀ table out at′ from revision flag taken bit session =
-    Turns (copy-most (kind-at kind)) (event (event-in kind place)) table₀ out₀ at table out at′ session
+Inv-loop table₀ out₀ at kind notice at₀ from₀ revision₀ flag₀ place₀ taken₀ bit₀ session₀ table out at′ from revision flag place taken bit session =
+    Turns (copy-most (kind-at kind)) (event (event-in kind notice)) table₀ out₀ at table out at′ session
     × Summing kind table₀ table session bit taken
-    × Last (settings-in table) kind place (record { from = from; revision = revision; «no_acknowledge» = flag }) at′ out
+    × Last (settings-in table) kind notice (record { from = from; revision = revision; «no_acknowledge» = flag }) at′ out
+    × (kind ≡ tightenings → Stands table notice place)
 
 abbrev μ-loop : tie.MeasureT-loop
-μ-loop table₀ out₀ at kind place at₀ from₀ revision₀ flag₀ taken₀ bit₀ session₀ table out at′ from revision flag taken bit session =
+μ-loop table₀ out₀ at kind notice at₀ from₀ revision₀ flag₀ place₀ taken₀ bit₀ session₀ table out at′ from revision flag place taken bit session =
     session-count - session
 
 returns : tie.Need-returns Inv-loop μ-loop
@@ -38,7 +42,8 @@ tell-spec =
     (tie.spec
     Inv-loop
     μ-loop
-    (λ c. search (needs, turns-none, last-none))
+    (λ c. (turns-none _ _ _ _ _ (c .before .before .before .pre .0 .table), record { power = refl; sum = zero-add _ }, last-none _ _ _ _ _ _ _,
+    λ e h. absurd (omega arith)))
     (λ c κs. search (needs, turn-lent))
     (λ c κs. search needs)
     (λ c. let k = c .before .before .before .before .before in let t = k .before .before .before in

@@ -1,0 +1,2 @@
+pub mod Areas
+pub mod Marks
