@@ -15,6 +15,7 @@ from kept import PAGE, small_disk
 
 SIZE, KEEP = 20000, 3
 RECORD_GREATEST = 4 + 8192
+DRAWN = 6  # of the parts that begin with an earlier table, those in which most results wait
 
 
 def beside(place, end):
@@ -150,11 +151,11 @@ ASKS_FOR_THE_NEWEST = record(HANG_UP) + record(OPEN) + record(BYTES, message(ope
 
 def tables_of_an_earlier_map(place, earlier, without, told):
     """Has the parts of a host's life begin with a table as it was kept earlier: each gives what it gives from today's, but for what is left
-    out of both. It is drawn, with what is told of the table there; and a host finds the last number in such a part, which an older state is
-    behind. Answers the name of the last table, and what stood there before."""
+    out of both. Some are drawn, the last with what is told of the table there; and a host finds the last number in such a part, which an
+    older state is behind. Answers the name of the last table, and what stood there before."""
     play = Play(place, 5)
     play.run(400, "--journal-size", 600, "--journal-keep", 1000)
-    parts, kept, alarms, waiting, shared = place.journal_parts(), [], 0, 0, 0
+    parts, kept, alarms, waiting, shared, most = place.journal_parts(), [], 0, 0, 0, []
     check(len(parts) > 10, "only %d parts: this shows too little", len(parts))
     for part, path in enumerate(parts[1:], 2):
         table = "%s.%d.table" % (place.journal, part)
@@ -164,7 +165,7 @@ def tables_of_an_earlier_map(place, earlier, without, told):
         alarms += sum(len(region.alarms().notices) for region in lent_table.regions(of_today))
         held = [region.tightenings() for region in lent_table.regions(of_today)]
         results = [result for lane in held for result in lane.notices]
-        waiting, shared = waiting + len(results), shared + len(results) - len({*results})
+        waiting, shared, most = waiting + len(results), shared + len(results) - len({*results}), most + [(len({*results}), table, path)]
         with open(table, "wb") as file:
             file.write(earlier(of_today))
         brought = lent_table.read(content(table))
@@ -172,6 +173,10 @@ def tables_of_an_earlier_map(place, earlier, without, told):
         equal(without(place.own_replayed(content(path), table)), without(today), "what part %d gives" % part)
     check(sum(kept) > 100 and alarms > 5, "only %d tightenings were kept and %d alarms held: this shows too little", sum(kept), alarms)
     check(waiting > 50 and shared > 1, "only %d results waited, %d of them for a second session: this shows too little", waiting, shared)
+    for _, *names in sorted(most)[-DRAWN:]:
+        command = [os.path.join(harness.TOOLS, "ladder"), "--replay", place.own_replay, "--table", *names]
+        done = subprocess.run(command, capture_output=True, timeout=SECONDS, check=False)
+        check(done.returncode == 0, "what is drawn of a part in which much waits: %r", done)
     drawn = subprocess.run([os.path.join(harness.TOOLS, "ladder"), place.journal], capture_output=True, timeout=SECONDS, check=False)
     rows = re.sub(rb"\n[ |.]*", b" ", drawn.stdout)  # a label may go on in the next line
     check(drawn.returncode == 0 and told(kept[-1]).encode() in rows, "what is drawn: %r", drawn)
