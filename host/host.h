@@ -173,9 +173,9 @@ bool serial_known(const uint8_t serial[SERIAL_LENGTH], uint32_t *number, uint64_
 /* The kinds besides those of the library; a session's number is added. */
 enum { JOURNAL_OPEN = 16, JOURNAL_HANG_UP = 32, JOURNAL_BYTES = 48, JOURNAL_TICK = 64 };
 
-/* A table that is kept has a line behind it with the number of its map: with another map it has the same mark, and may have the same size.
-   The first map was of 16 KiB; the second had no lanes of alarms; both were kept without a line. */
-#define TABLE_MAP "map 3\n"
+/* A table that is kept has a line behind it with the number of its map. The first map was of 16 KiB; the second had no lanes of alarms;
+   both were kept without a line. In the third each session had its own copy of the results that wait for it. These three had one mark. */
+#define TABLE_MAP "map 4\n"
 enum { TABLE_MAP_LENGTH = sizeof TABLE_MAP - 1, TABLE_KEPT_SIZE = SERIFLADDER_TABLE_SIZE + TABLE_MAP_LENGTH };
 
 struct journal_options {

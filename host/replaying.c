@@ -92,24 +92,71 @@ struct replayed replay_journal(int file, uint8_t table[SERIFLADDER_TABLE_SIZE], 
 
 /* ---- a table that was kept */
 
-/* docs/TABLE.md: where the places of tightenings begin and, behind them, the regions of the sessions, and how long one is. Before there
-   were alarms a region ended where their lane begins. In the first map the regions stood where the places of tightenings are now. */
-enum { FIRST_SIZE = 16384, KEPT_COUNT = 12, PLACES = 1024, REGIONS = 8192, REGION = 1152, EARLIER_REGION = 1024 };
+/* docs/TABLE.md: where it is said how many tightenings are kept, and where these begin; behind them the results that wait, a place for
+   each; behind those the regions of the sessions. In a region: where the lane of tightenings begins, and its slots, and the lane of
+   alarms. */
+enum { MARK_LENGTH = 8, KEPT_COUNT = 12, MEMORY = 1024, PLACES = 8192, PLACE = 110, PLACE_COUNT = 32 };
+enum { REGIONS = PLACES + PLACE_COUNT * PLACE, REGION = 288, LANE = 128, SLOTS = LANE + 16, SLOT_COUNT = 8, ALARMS = 160 };
+enum { STARTED = 2, ACKNOWLEDGED = 2 }; /* a session's phase, a lane's form */
 
-/* Moves the regions of an earlier table from where they begin; of alarms, all that is zero, there is none and nobody is subscribed. */
-static void move_regions(uint8_t table[SERIFLADDER_TABLE_SIZE], size_t from)
+/* In the earlier maps the results that wait stood in the slots of each region, and the lane of alarms behind them; before there were alarms
+   a region ended there. In the first map the regions stood where the tightenings are kept now. */
+enum { FIRST_SIZE = 16384, EARLIER_REGION = 1024, THIRD_REGION = 1152, EARLIER_ALARMS = 1024, ALARMS_LENGTH = REGION - ALARMS };
+#define THIRD_MAP "map 3\n"
+static const char MARK[] = "SERIFLA4", EARLIER_MARK[] = "SERIFLAD";
+
+/* The number of the place at which a result stands; it is put there where no place has it yet. Four sessions hold 32 at most. */
+static uint8_t place_of(uint8_t places[PLACE_COUNT][PLACE], size_t *count, const uint8_t *result)
 {
-    uint8_t regions[SERIFLADDER_SESSIONS][REGION] = { { 0 } };
-    for (unsigned s = 0; s < SERIFLADDER_SESSIONS; s++)
-        memcpy(regions[s], table + from + s * EARLIER_REGION, EARLIER_REGION);
+    size_t place = 0;
+    while (place < *count && memcmp(places[place], result, PLACE) != 0)
+        place++;
+    if (place == *count)
+        memcpy(places[(*count)++], result, PLACE);
+    return (uint8_t)place;
+}
+
+/* Moves the regions of an earlier table from where they begin. What waits for several sessions is equal in each, and comes to one place. Of
+   alarms, all that is zero, there is none and nobody is subscribed. */
+static void move_regions(uint8_t table[SERIFLADDER_TABLE_SIZE], size_t from, size_t size)
+{
+    uint8_t places[PLACE_COUNT][PLACE] = { { 0 } }, regions[SERIFLADDER_SESSIONS][REGION] = { { 0 } };
+    size_t count = 0;
+    for (unsigned s = 0; s < SERIFLADDER_SESSIONS; s++) {
+        const uint8_t *earlier = table + from + s * size, *lane = earlier + LANE;
+        bool waits = earlier[0] == STARTED && lane[0] == ACKNOWLEDGED;
+        memcpy(regions[s], earlier, SLOTS);
+        for (size_t slot = 0; waits && slot < SLOT_COUNT && slot < lane[2]; slot++)
+            regions[s][SLOTS + slot] = place_of(places, &count, earlier + SLOTS + slot * PLACE);
+        if (size > EARLIER_REGION)
+            memcpy(regions[s] + ALARMS, earlier + EARLIER_ALARMS, ALARMS_LENGTH);
+    }
+    memcpy(table + PLACES, places, sizeof places);
     memcpy(table + REGIONS, regions, sizeof regions);
 }
 
 static void bring_first_up_to_date(uint8_t table[SERIFLADDER_TABLE_SIZE])
 {
     table[KEPT_COUNT] = 0;
-    move_regions(table, PLACES);
-    memset(table + PLACES, 0, REGIONS - PLACES);
+    move_regions(table, MEMORY, EARLIER_REGION);
+    memset(table + MEMORY, 0, PLACES - MEMORY);
+}
+
+/* A table of one of the earlier maps, as it stands in one of today; false where what was kept, of that length, is none. */
+static bool bring_up_to_date(uint8_t table[SERIFLADDER_TABLE_SIZE], const uint8_t *behind, size_t length)
+{
+    if (memcmp(table, EARLIER_MARK, MARK_LENGTH) != 0)
+        return false;
+    memcpy(table, MARK, MARK_LENGTH);
+    if (length == FIRST_SIZE)
+        bring_first_up_to_date(table);
+    else if (length == SERIFLADDER_TABLE_SIZE)
+        move_regions(table, PLACES, EARLIER_REGION);
+    else if (length == TABLE_KEPT_SIZE && memcmp(behind, THIRD_MAP, TABLE_MAP_LENGTH) == 0)
+        move_regions(table, PLACES, THIRD_REGION);
+    else
+        return false;
+    return true;
 }
 
 /* An opening of a session that is none is refused, and alters nothing; of a table that is not well formed the refusal is another. */
@@ -125,12 +172,9 @@ bool table_read(int file, uint8_t table[SERIFLADDER_TABLE_SIZE])
     size_t length = 0;
     for (ssize_t got = 1; got > 0 && length < sizeof kept; length += got > 0 ? (size_t)got : 0)
         got = read(file, kept + length, sizeof kept - length);
+    const uint8_t *behind = kept + SERIFLADDER_TABLE_SIZE;
     memcpy(table, kept, SERIFLADDER_TABLE_SIZE);
-    if (length == FIRST_SIZE)
-        bring_first_up_to_date(table);
-    else if (length == SERIFLADDER_TABLE_SIZE)
-        move_regions(table, REGIONS);
-    else if (length != TABLE_KEPT_SIZE || memcmp(kept + SERIFLADDER_TABLE_SIZE, TABLE_MAP, TABLE_MAP_LENGTH) != 0)
-        return false;
-    return table_is_formed(table);
+    if (length == TABLE_KEPT_SIZE && memcmp(behind, TABLE_MAP, TABLE_MAP_LENGTH) == 0)
+        return table_is_formed(table);
+    return bring_up_to_date(table, behind, length) && table_is_formed(table);
 }

@@ -321,9 +321,9 @@ class Lent:
         """And the events of the notices that are held."""
         if kind == TIGHTENED:
             lane = self.region.tightenings()
-            return lane, [lent_table.little(place[lent_table.NUMBER]) for place in lane.places]
+            return lane, [lent_table.little(result[lent_table.NUMBER]) for result in lane.notices]
         lane = self.region.identifiers() if kind == IDENTIFIER else self.region.alarms()
-        return lane, lane.places
+        return lane, lane.notices
 
     def subscription(self, kind):
         """With its notices, or None. The open one was sent before second 0, as often as its clock tells."""

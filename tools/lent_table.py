@@ -1,33 +1,39 @@
-"""The lent table, as docs/TABLE.md has it: what all sessions share, and what the region of each says of it. Whatever reads a table in
-Python reads it by this."""
+"""The lent table, as docs/TABLE.md has it: what all sessions share, the results that wait, and what the region of each session says of it.
+Whatever reads a table in Python reads it by this."""
 
 from dataclasses import dataclass
 
 from house_records import ALARM, PAYLOADS, SCANNED, TIGHTENING
 
 SIZE = 32768
-MAP = b"map 3\n"  # stands behind a table that the host keeps: the number of its map
-MARK = b"SERIFLAD"
+MAP = b"map 4\n"  # stands behind a table that the host keeps: the number of its map
+MARK = b"SERIFLA4"
 LAST = slice(8, 12)  # the last tightening number, in what is shared
 KEPT_COUNT = 12  # the byte that says how many tightenings are kept
-MEMORY, KEPT, PLACE = 1024, 64, PAYLOADS[TIGHTENING].size  # where their places begin, how many there are, the bytes of one
-SHARED, REGION = 8192, 1152  # bytes, of what is shared and of each session's region behind it
+MEMORY, KEPT, KEPT_SIZE = 1024, 64, PAYLOADS[TIGHTENING].size  # where they begin, how many there can be, the bytes of one
+SHARED = 8192  # bytes, of what is shared
 SESSIONS = 4
-USED = SHARED + REGION * SESSIONS  # the bytes that have a meaning
 
-# Tables that were kept earlier, without the number of their map, by their sizes: where their regions begin. A region had no lane of alarms.
-# Of the first map, from before tightenings were kept, the regions stand where the places of these are now.
-FIRST_SIZE, EARLIER_REGION = 16384, 1024
-EARLIER = {FIRST_SIZE: MEMORY, SIZE: SHARED}
+# The results that wait, one copy of each, whoever waits for it: how many there can be, and the bytes of one, which end with its number.
+PLACES, NUMBER = 32, slice(PAYLOADS[TIGHTENING].size, PAYLOADS[TIGHTENING].size + 4)
+PLACE = NUMBER.stop
+REGIONS, REGION = SHARED + PLACES * PLACE, 288  # where the sessions' begin, and the bytes of one
+USED = REGIONS + REGION * SESSIONS  # the bytes that have a meaning
 
 CLOSED, OPENED, STARTED = range(3)  # phases
 RUN_COUNT, RUN = slice(8, 10), slice(10, 55)  # the bytes that were received, and the first of them
 
 NOT, PLAIN, ACKNOWLEDGED = range(3)  # forms of a subscription
-CONTROL = 16  # bytes of a lane before its places
-NUMBER = slice(PAYLOADS[TIGHTENING].size, PAYLOADS[TIGHTENING].size + 4)  # a result's, in its place, behind the payload
-# Where a lane begins, and the bytes of a place in it.
-LANES = IDENTIFIERS, TIGHTENINGS, ALARMS = (56, PAYLOADS[SCANNED].size), (128, NUMBER.stop), (1024, PAYLOADS[ALARM].size)
+CONTROL = 16  # bytes of a lane before its slots
+# Where a lane begins, and the bytes of a slot in it: a notice, or of a tightening the number of its place.
+LANES = IDENTIFIERS, TIGHTENINGS, ALARMS = (56, PAYLOADS[SCANNED].size), (128, 1), (160, PAYLOADS[ALARM].size)
+HELD = 8  # tightenings by a session at most
+
+# Tables that were kept earlier, of another mark. The third map had its number behind it, the first two are told by their sizes. Of each:
+# where its regions begin, and the bytes of one. Each session had the results that wait for it in its own region; its lane of alarms stood
+# behind them, and before the third map there was none. Of the first, from before tightenings were kept, the regions stand where these are.
+EARLIER_MARK, FIRST_SIZE, EARLIER_REGION, THIRD_REGION = b"SERIFLAD", 16384, 1024, 1152
+EARLIER = {(FIRST_SIZE, b""): (MEMORY, EARLIER_REGION), (SIZE, b""): (SHARED, EARLIER_REGION), (SIZE, b"map 3\n"): (SHARED, THIRD_REGION)}
 
 
 def little(data):
@@ -37,19 +43,47 @@ def little(data):
 def read(data):
     """The bytes that have a meaning of a table that was kept, or of an earlier one as they stand in one of today; ValueError where it is
     neither."""
-    if not data.startswith(MARK) or len(data) not in EARLIER and data[SIZE:] != MAP:
+    table, behind = data[:SIZE], data[SIZE:]
+    if table.startswith(EARLIER_MARK) and (len(table), behind) in EARLIER:
+        table = brought_up_to_date(table, *EARLIER[len(table), behind])
+    elif not table.startswith(MARK) or behind != MAP:
         raise ValueError("it is no table")
-    return brought_up_to_date(data) if len(data) in EARLIER else data[:USED]
+    if not all(has_places(region.data) for region in regions(table)):
+        raise ValueError("it is no table")
+    return table[:USED]
 
 
-def brought_up_to_date(data):
-    """Of alarms, all that is zero, there is none and nobody is subscribed; nor is a tightening kept in a table of the first map."""
-    begin, shared = EARLIER[len(data)], bytearray(data[:SHARED])
-    if len(data) == FIRST_SIZE:
+def has_places(region):
+    """Whether what its slots of tightenings say are places, of which it holds no more than it may."""
+    at, first = TIGHTENINGS[0], TIGHTENINGS[0] + CONTROL
+    held = region[at + 2]
+    return held <= HELD and max(region[first:first + held], default=0) < PLACES
+
+
+def brought_up_to_date(table, begin, size):
+    """Of alarms, all that is zero, there is none and nobody is subscribed; nor is a tightening kept in a table of the first map. Results
+    that wait for several sessions are equal in each, and come to one place."""
+    shared = bytearray(MARK + table[len(MARK):SHARED])
+    if len(table) == FIRST_SIZE:
         shared[KEPT_COUNT] = 0
         shared[MEMORY:] = bytes(SHARED - MEMORY)
-    at = range(begin, begin + EARLIER_REGION * SESSIONS, EARLIER_REGION)
-    return bytes(shared) + b"".join(data[each:each + EARLIER_REGION].ljust(REGION, b"\0") for each in at)
+    places = []
+    regions = [region_of_today(table[at:at + size].ljust(THIRD_REGION, b"\0"), places)
+               for at in range(begin, begin + size * SESSIONS, size)]
+    return bytes(shared) + b"".join(places).ljust(PLACES * PLACE, b"\0") + b"".join(regions)
+
+
+def region_of_today(region, places):
+    """What waits for the session has places in its slots; they are added where they are not there."""
+    at, first = TIGHTENINGS[0], TIGHTENINGS[0] + CONTROL
+    form, _, held = region[at:at + 3]
+    slots = bytearray(HELD)
+    for slot in range(min(held, HELD) if region[0] == STARTED and form == ACKNOWLEDGED else 0):
+        result = region[first + slot * PLACE:first + (slot + 1) * PLACE]
+        if result not in places:
+            places.append(result)
+        slots[slot] = places.index(result)
+    return (region[:first] + slots).ljust(ALARMS[0], b"\0") + region[EARLIER_REGION:][:REGION - ALARMS[0]]
 
 
 def last_number(table):
@@ -59,12 +93,17 @@ def last_number(table):
 def kept(table):
     """The payloads of the tightenings that are kept, by their numbers, the oldest first."""
     last = last_number(table)
-    places = {number: MEMORY + number % KEPT * PLACE for number in range(last + 1 - table[KEPT_COUNT], last + 1)}
-    return {number: table[at:at + PLACE] for number, at in places.items()}
+    begins = {number: MEMORY + number % KEPT * KEPT_SIZE for number in range(last + 1 - table[KEPT_COUNT], last + 1)}
+    return {number: table[at:at + KEPT_SIZE] for number, at in begins.items()}
+
+
+def places(table):
+    """What stands at each of them. It has a meaning where a session holds it."""
+    return [table[at:at + PLACE] for at in range(SHARED, REGIONS, PLACE)]
 
 
 def regions(table):
-    return [Region(table[at:at + REGION]) for at in range(SHARED, USED, REGION)]
+    return [Region(table[at:at + REGION], places(table)) for at in range(REGIONS, USED, REGION)]
 
 
 @dataclass
@@ -73,12 +112,13 @@ class Lane:
 
     form: int
     clock: int  # of the open notice
-    places: list  # of the notices that are held, the open one first
+    notices: list  # that are held, the open one first
 
 
 @dataclass
 class Region:
     data: bytes
+    places: list  # of all sessions
 
     def phase(self):
         return self.data[0]
@@ -92,16 +132,19 @@ class Region:
         return self.lane(*IDENTIFIERS)
 
     def tightenings(self):
-        return self.lane(*TIGHTENINGS)
+        lane = self.lane(*TIGHTENINGS)
+        lane.notices = [self.places[slot[0]] for slot in lane.notices]
+        return lane
 
     def alarms(self):
         return self.lane(*ALARMS)
 
     def lane(self, at, size):
-        """What the lanes of a session that is not started hold has no meaning; nor has what one holds that asks no acknowledge."""
+        """What its slots hold. What the lanes of a session that is not started hold has no meaning; nor has what one holds that asks no
+        acknowledge."""
         form, clock, held = self.data[at:at + 3]
         if self.phase() != STARTED:
             form = NOT
         first = at + CONTROL
-        places = range(first, first + size * held, size) if form == ACKNOWLEDGED else []
-        return Lane(form, clock, [self.data[place:place + size] for place in places])
+        slots = range(first, first + size * held, size) if form == ACKNOWLEDGED else []
+        return Lane(form, clock, [self.data[slot:slot + size] for slot in slots])

@@ -40,6 +40,7 @@ enum {
     ANSWER = SERIFLADDER_ANSWER_SIZE,
     SESSIONS = SERIFLADDER_SESSIONS,
     KEPT = 64,    /* tightenings, by the controller */
+    HELD = 8,     /* results, by a session */
     FLOOD = 8192, /* bytes at once */
     REPEATS = 2001,
     ROUNDS_LEAST = 15,
@@ -203,12 +204,32 @@ static void prepare_kept(unsigned i)
         tighten(i);
 }
 
-static void prepare_queue(unsigned i)
+/* Four sessions that acknowledge results; so many wait for all of them, the open one counted. */
+static void all_hold(unsigned i, unsigned count)
 {
     all_started(i, "00200060001         ");
-    for (unsigned k = 0; k < 8; k++)
+    for (unsigned k = 0; k < count; k++)
         tighten(i);
 }
+
+static void prepare_acknowledging(unsigned i) { all_hold(i, 0); }
+static void prepare_seven(unsigned i) { all_hold(i, HELD - 1); }
+static void prepare_queue(unsigned i) { all_hold(i, HELD); }
+
+/* One session after the other, from `first` on, comes to acknowledge results and is told of eight for which no other has room, the last
+   of seven. So as many different ones wait as can, but for one. */
+static void each_holds(unsigned i, uint64_t first)
+{
+    all_started(i, NULL);
+    for (uint64_t s = first; s < SESSIONS; s++) {
+        SEND(i, s, "00200060001         ");
+        for (unsigned k = s + 1 < SESSIONS ? 0 : 1; k < HELD; k++)
+            tighten(i);
+    }
+}
+
+static void prepare_7_wait(unsigned i) { each_holds(i, SESSIONS - 1); }
+static void prepare_31_wait(unsigned i) { each_holds(i, 0); }
 
 /* Four sessions, subscribed to results in revisions 1, 2, 5 and 6. */
 static void prepare_revisions(unsigned i)
@@ -290,6 +311,7 @@ static const struct call_kind CALL_KINDS[] = {
     { "bytes: keep-alive, 8 KB behind it", prepare_started, run_message_in_flood, 8, 25 },
     { "bytes: 8 KB without NUL", prepare_started, run_flood, 8, 0 },
     { "bytes: acknowledge that sends the next", prepare_queue, run_acknowledge, 7, 236 },
+    { "bytes: acknowledge of the first of eight", prepare_queue, run_acknowledge, 1, 236 },
     { "bytes: 0050 to four subscribers", prepare_identifiers, run_download, 8, 29 + 4 * 50 },
     { "bytes: 0064, the newest of 64 kept", prepare_kept, run_newest, 8, 123 },
     { "bytes: 0064, the oldest of 64 kept", prepare_kept, run_oldest, 8, 123 },
@@ -299,6 +321,10 @@ static const struct call_kind CALL_KINDS[] = {
     { "tick, copies of three kinds due on four", prepare_due_all, run_tick, 1, 4 * (133 + 531 + 58) },
     { "tool record to four sessions", prepare_results, run_tighten, 8, 4 * 236 },
     { "tool record without limits to four", prepare_results, run_tighten_without_limits, 8, 4 * 236 },
+    { "tool record that four hold, none before", prepare_acknowledging, run_tighten, 1, 4 * 236 },
+    { "tool record that four hold, behind seven", prepare_seven, run_tighten, 1, 0 },
+    { "tool record that one holds, 7 wait", prepare_7_wait, run_tighten, 1, 0 },
+    { "tool record that one holds, 31 wait", prepare_31_wait, run_tighten, 1, 0 },
     { "tool record, revisions 1, 2, 5 and 6", prepare_revisions, run_tighten, 8, 236 + 390 + 511 + 531 },
     { "tool record, an alarm to four sessions", prepare_alarms, run_alarm, 8, 4 * 58 },
     { "tool record to nobody, none kept", prepare_started, run_tighten, 8, 0 },

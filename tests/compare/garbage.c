@@ -7,11 +7,17 @@
    A call answers 2 exactly where the table is not well formed, by the rule that stands in docs/TABLE.md and, of the
    independent implementation, in tests/README.md; both are said again here. A refused call alters no byte of table or
    output; one that is done leaves the output past its written bytes, and a table that is well formed. Pages that may not
-   be touched lie behind all that is lent, and before the table. The product's calls are made over a twin of the table too,
-   which has something else where a table has no meaning: in the lanes of sessions that are not started, and in the places
-   of the memory that keep nothing. They answer and write the same. Exit status 0: all so, and what is to be met was met often
-   enough: a count over its bound in a started, subscribed session and in the memory, a revision there that no subscription asks for,
-   both of each kind of notice, a session with such lanes that started, and an 0065 out of a memory with such places. */
+   be touched lie behind all that is lent, and before the table. In a history that is not altered the product's table has one
+   copy of each result that waits.
+
+   The product's calls are made over a twin of the table too, which has something else where a table has no meaning: in the
+   lanes of sessions that are not started, where the memory keeps nothing, and at the places that no session holds; and what
+   waits stands at other places, or at one for each session that holds it. They answer and write the same.
+
+   Exit status 0: all so, and what is to be met was met often enough: a count over its bound in a started, subscribed session
+   and in the memory, a revision there that no subscription asks for, both of each kind of notice, a place that is none of the
+   32, a place that one session holds twice, a session with such lanes that started, an 0065 out of such a memory, and an 0061
+   from such places. */
 #define _DEFAULT_SOURCE /* MAP_ANONYMOUS */
 #include "../independent/independent.h"
 
@@ -44,7 +50,9 @@ enum {
     LEAST_ODD = 1000,  /* calls over one in which such a session has a revision of that kind that no subscription asks for */
     LEAST_NEAR = 5000, /* calls over an altered table that is well formed */
     LEAST_OLD = 300,   /* of these, answered by an 0065 */
-    LEAST_TWIN = 100   /* sessions that started where the twin had other lanes, and 0065 where its memory had other places */
+    LEAST_TWIN = 100,  /* sessions that started where the twin had other lanes, 0065 where its memory was another, 0061 of what waited
+                          elsewhere */
+    LEAST_PLACE = 300  /* calls over a table with a place that is none, and over one with a place that a session holds twice */
 };
 
 static const unsigned HELD_AT_MOST[KINDS] = { 2, 8, 4 }, REVISION_AT_MOST[KINDS] = { 2, 6, 1 }, KEPT_AT_MOST = 64;
@@ -56,14 +64,57 @@ static bool kept_over_its_bound(const uint8_t *table);
 
 #ifdef PREFIX
 
-enum { USED = 12800, MARK_SIZE = 8, FIRST_SESSION = 8192, SESSION_SIZE = 1152, RUN_COUNT = 8, CONTROL_SIZE = 16, SHARED_SIZE = 81 };
-enum { LAST = 8, KEPT_COUNT = 12, MEMORY = 1024, PLACE = 106 };
+enum { USED = 12864, MARK_SIZE = 8, FIRST_SESSION = 11712, SESSION_SIZE = 288, RUN_COUNT = 8, CONTROL_SIZE = 18, SHARED_SIZE = 81 };
+enum { LAST = 8, KEPT_COUNT = 12, MEMORY = 1024, KEPT_SIZE = 106 };
+enum { RESULTS = 1, SLOTS = 144, FIRST_PLACE = 8192, PLACES = 32, PLACE = 110 };
 static const unsigned CONTROL[CONTROL_SIZE] =
-    { 0, 1, RUN_COUNT, RUN_COUNT + 1, 56, 57, 58, 64, 128, 129, 130, 136, 1024, 1025, 1026, 1032 };
-static const unsigned SUBSCRIBED[KINDS] = { 56, 128, 1024 }, COUNT[KINDS] = { 58, 130, 1026 }, REVISION[KINDS] = { 64, 136, 1032 };
+    { 0, 1, RUN_COUNT, RUN_COUNT + 1, 56, 57, 58, 64, 128, 129, 130, 136, SLOTS, SLOTS + 3, 160, 161, 162, 168 };
+static const unsigned SUBSCRIBED[KINDS] = { 56, 128, 160 }, COUNT[KINDS] = { 58, 130, 162 }, REVISION[KINDS] = { 64, 136, 168 };
 
-/* A lane begins with form, clock and count. Of a session that is not started they are to be so too, though they have no meaning.
-   Whatever its revision is, it is well formed. */
+/* How many slots of results are looked at: none are where there are more than may be. */
+static unsigned slots_held(const uint8_t *session)
+{
+    return session[COUNT[RESULTS]] <= HELD_AT_MOST[RESULTS] ? session[COUNT[RESULTS]] : 0;
+}
+
+static bool places_formed(const uint8_t *session)
+{
+    for (unsigned slot = 0; slot < slots_held(session); slot++)
+        if (session[SLOTS + slot] >= PLACES)
+            return false;
+    return true;
+}
+
+static bool place_held_twice(const uint8_t *session)
+{
+    for (unsigned slot = 1; slot < slots_held(session); slot++)
+        if (memchr(session + SLOTS, session[SLOTS + slot], slot) != NULL)
+            return true;
+    return false;
+}
+
+/* Where only calls wrote the table: is there one copy of each result that waits, whoever waits for it? Two that are held are at one place
+   where they have one number, and elsewhere else. */
+static bool one_copy_of_each(const uint8_t *table)
+{
+    uint32_t stands[PLACES] = { 0 }; /* the number of what is held there */
+    for (unsigned s = 0; s < SESSIONS; s++) {
+        const uint8_t *session = table + FIRST_SESSION + s * SESSION_SIZE;
+        for (unsigned slot = 0; session[0] == 2 && slot < slots_held(session); slot++) {
+            unsigned place = session[SLOTS + slot];
+            stands[place] = four_bytes(table + FIRST_PLACE + place * PLACE + KEPT_SIZE);
+            for (unsigned other = 0; other < PLACES; other++)
+                if (other != place && stands[other] == stands[place])
+                    return false;
+        }
+        if (session[0] == 2 && place_held_twice(session))
+            return false;
+    }
+    return true;
+}
+
+/* A lane begins with form, clock and count. Of a session that is not started they are to be so too, and its places, though they have no
+   meaning. Whatever its revision is, it is well formed. */
 static bool lane_formed(const uint8_t *lane, unsigned kind)
 {
     return lane[0] <= 2 && lane[1] <= 119 && lane[2] <= HELD_AT_MOST[kind];
@@ -76,12 +127,12 @@ static bool session_formed(const uint8_t *session)
     for (unsigned kind = 0; kind < KINDS; kind++)
         if (!lane_formed(session + SUBSCRIBED[kind], kind))
             return false;
-    return true;
+    return places_formed(session);
 }
 
 static bool shared_formed(const uint8_t *table)
 {
-    return memcmp(table, "SERIFLAD", MARK_SIZE) == 0 && !kept_over_its_bound(table);
+    return memcmp(table, "SERIFLA4", MARK_SIZE) == 0 && !kept_over_its_bound(table);
 }
 
 static void alter(uint8_t *from, const uint8_t *to, unsigned (*any_below)(unsigned))
@@ -89,19 +140,47 @@ static void alter(uint8_t *from, const uint8_t *to, unsigned (*any_below)(unsign
     memset(from, (int)any_below(256), (size_t)(to - from));
 }
 
-/* Something else behind the control, in the places of numbers that are not kept, and behind the last place. */
+/* Something else behind the control, where the numbers stand that are not kept, and behind the last of these. */
 static void alter_memory(uint8_t *table, unsigned (*any_below)(unsigned))
 {
-    uint8_t *places = table + MEMORY;
+    uint8_t *memory = table + MEMORY;
     alter(table + KEPT_COUNT + 1, table + 16, any_below);
     alter(table + 49, table + 56, any_below);
-    alter(table + SHARED_SIZE, places, any_below);
-    for (unsigned place = 0; place < KEPT_AT_MOST; place++) {
-        unsigned age = (four_bytes(table + LAST) - place) % KEPT_AT_MOST;
+    alter(table + SHARED_SIZE, memory, any_below);
+    for (unsigned kept = 0; kept < KEPT_AT_MOST; kept++) {
+        unsigned age = (four_bytes(table + LAST) - kept) % KEPT_AT_MOST;
         if (age >= table[KEPT_COUNT])
-            alter(places + place * PLACE, places + (place + 1) * PLACE, any_below);
+            alter(memory + kept * KEPT_SIZE, memory + (kept + 1) * KEPT_SIZE, any_below);
     }
-    alter(places + KEPT_AT_MOST * PLACE, table + FIRST_SESSION, any_below);
+    alter(memory + KEPT_AT_MOST * KEPT_SIZE, table + FIRST_PLACE, any_below);
+}
+
+/* Other places for all that waits for a session that is started, in any order; mostly a place for each session that holds it, else one
+   for those that held the same. Something else at the places that are left. */
+static void alter_places(uint8_t *table, unsigned (*any_below)(unsigned))
+{
+    static uint8_t before[PLACES * PLACE];
+    uint8_t order[PLACES], moved_to[PLACES], *places = table + FIRST_PLACE;
+    bool shared = any_below(4) == 0;
+    unsigned used = 0;
+    for (unsigned place = 0; place < PLACES; place++) {
+        unsigned other = any_below(place + 1);
+        order[place] = order[other];
+        order[other] = (uint8_t)place;
+    }
+    memset(moved_to, PLACES, sizeof moved_to);
+    memcpy(before, places, sizeof before);
+    memset(places, (int)any_below(256), sizeof before);
+    for (unsigned s = 0; s < SESSIONS; s++) {
+        uint8_t *session = table + FIRST_SESSION + s * SESSION_SIZE;
+        for (unsigned slot = 0; session[0] == 2 && slot < slots_held(session); slot++) {
+            uint8_t place = session[SLOTS + slot];
+            if (!shared || moved_to[place] == PLACES)
+                moved_to[place] = order[used++];
+            memcpy(places + moved_to[place] * PLACE, before + place * PLACE, PLACE);
+            session[SLOTS + slot] = moved_to[place];
+        }
+    }
 }
 
 /* Other lanes, well formed, for sessions that are not started. */
@@ -116,12 +195,31 @@ static void alter_lanes(uint8_t *session, unsigned (*any_below)(unsigned))
         lane[1] = (uint8_t)any_below(120);
         lane[2] = (uint8_t)any_below(HELD_AT_MOST[kind] + 1);
     }
+    for (unsigned slot = 0; slot < HELD_AT_MOST[RESULTS]; slot++)
+        session[SLOTS + slot] = (uint8_t)any_below(PLACES);
+}
+
+/* A place at an edge for what waits, or that of another which waits; false where nothing does. */
+static bool spoil_place(uint8_t *session, unsigned (*any_below)(unsigned))
+{
+    static const uint8_t EDGES[] = { 0, 1, 30, 31, 32, 33, 64, 255 };
+    unsigned held = slots_held(session);
+    if (held == 0)
+        return false;
+    uint8_t other = session[SLOTS + any_below(held)];
+    session[SLOTS + any_below(held)] = any_below(2) ? other : EDGES[any_below(sizeof EDGES)];
+    return true;
 }
 
 #else
 
+static bool spoil_place(uint8_t *session, unsigned (*any_below)(unsigned)) { return (void)session, (void)any_below, false; }
+static bool places_formed(const uint8_t *session) { return (void)session, true; }
+static bool place_held_twice(const uint8_t *session) { return (void)session, false; }
+static bool one_copy_of_each(const uint8_t *table) { return (void)table, true; }
+
 enum { USED = 14076, MARK_SIZE = 8, FIRST_SESSION = 66, SESSION_SIZE = 1934, RUN_COUNT = 2, CONTROL_SIZE = 19, SHARED_SIZE = 66 };
-enum { LAST = 37, KEPT_COUNT = 7802, OLDEST = 7803, MEMORY = 7804, PLACE = 98 };
+enum { LAST = 37, KEPT_COUNT = 7802, OLDEST = 7803, MEMORY = 7804, KEPT_SIZE = 98 };
 enum { TEXT = 25 };
 static const unsigned CONTROL[CONTROL_SIZE] =
     { 0, 1, RUN_COUNT, RUN_COUNT + 1, 49, 50, 51, 52, 53, 54, 55, 56, 57, 58, 59, 60, 61, 62, 63 };
@@ -165,7 +263,7 @@ static bool session_formed(const uint8_t *session)
 static bool memory_formed(const uint8_t *table)
 {
     return !kept_over_its_bound(table) && table[OLDEST] < KEPT_AT_MOST
-        && (table[OLDEST] == 0 || table[KEPT_COUNT] == KEPT_AT_MOST) && is_text(table + MEMORY, PLACE * table[KEPT_COUNT]);
+        && (table[OLDEST] == 0 || table[KEPT_COUNT] == KEPT_AT_MOST) && is_text(table + MEMORY, KEPT_SIZE * table[KEPT_COUNT]);
 }
 
 static bool shared_formed(const uint8_t *table)
@@ -209,12 +307,29 @@ static bool revision_odd(const uint8_t *table, unsigned kind)
     return false;
 }
 
+/* Is it so of a session that is started and acknowledges results? */
+static bool place_so(const uint8_t *table, bool (*is_so)(const uint8_t *))
+{
+    for (unsigned s = 0; s < SESSIONS; s++) {
+        const uint8_t *session = table + FIRST_SESSION + s * SESSION_SIZE;
+        if (session[0] == 2 && session[SUBSCRIBED[1]] == 2 && is_so(session))
+            return true;
+    }
+    return false;
+}
+
+static bool place_is_none(const uint8_t *session)
+{
+    return !places_formed(session);
+}
+
 /* ---- the calls */
 
 static uint8_t *table, *output, *answer, *given; /* what is lent */
 static uint8_t before[TABLE], output_before[OUTPUT], kept[TABLE];
 static uint64_t dice;
 static unsigned long numbers[11], aside_count, over_count[KINDS], kept_over_count, odd_count[KINDS], near_count, old_count;
+static unsigned long none_count, twice_count;
 
 static unsigned roll(unsigned below)
 {
@@ -427,8 +542,8 @@ static uint8_t another(uint8_t byte)
     }
 }
 
-/* Mostly a byte of a session's control; else one of what all share, the memory's control, a run, a revision, or any byte that is
-   used; seldom everything, or everything but the mark. */
+/* Mostly a byte of a session's control; else one of what all share, the memory's control, a run, a revision, the place of a result, or
+   any byte that is used; seldom everything, or everything but the mark. */
 static void spoil(void)
 {
     unsigned sort = roll(200);
@@ -447,7 +562,7 @@ static void spoil(void)
             spoil_memory();
         else if (where == 5)
             spoil_revision(session);
-        else
+        else if (where != 6 || !spoil_place(session, roll))
             *byte = another(*byte);
     }
 }
@@ -456,7 +571,7 @@ static void spoil(void)
 
 static uint8_t twin[TABLE], with_twin[OUTPUT], answer_before[ANSWER];
 static bool twin_stands;
-static unsigned long twin_starts, twin_fetches;
+static unsigned long twin_starts, twin_fetches, twin_results;
 
 static void swap_twin(void)
 {
@@ -476,6 +591,16 @@ static void begin_twin(void)
     for (unsigned s = 0; s < SESSIONS; s++)
         alter_lanes(twin + FIRST_SESSION + s * SESSION_SIZE, roll);
     alter_memory(twin, roll);
+    alter_places(twin, roll);
+}
+
+/* Did the call send a result that had waited, or one once more? */
+static bool sent_waiting_result(const struct asked *asked)
+{
+    for (uint64_t at = 0; asked->what != RECORD && at + 4 < answered(2); at += 4 + output[at] + 256u * output[at + 1])
+        if (memcmp(output + at + 8, "0061", 4) == 0)
+            return true;
+    return false;
 }
 
 /* The call that was made over the table, over its twin. */
@@ -486,21 +611,24 @@ static void call_twin(const struct asked *asked)
     for (unsigned s = 0; s < SESSIONS; s++)
         twin_starts += twin[FIRST_SESSION + s * SESSION_SIZE] == 1 && table[FIRST_SESSION + s * SESSION_SIZE] == 2;
     twin_fetches += sent_old_result();
+    twin_results += sent_waiting_result(asked);
     memcpy(with_twin, output, OUTPUT);
     memcpy(answer_before, answer, ANSWER);
     memcpy(output, output_before, OUTPUT);
     swap_twin();
     uint64_t number = make_call(asked);
     if (memcmp(answer, answer_before, ANSWER) != 0 || memcmp(output, with_twin, OUTPUT) != 0)
-        wrong("otherwise where the lanes of a session that is not started, or places that keep nothing, are others", number);
+        wrong("otherwise where the lanes of a session that is not started, what keeps nothing, or the places are others", number);
     swap_twin();
 }
 
 static bool twins_enough(void)
 {
-    printf("garbage: %lu sessions started where a twin of the table had other lanes, %lu 0065 sent where its memory had other places\n",
-           twin_starts, twin_fetches);
-    return twin_starts >= LEAST_TWIN && twin_fetches >= LEAST_TWIN;
+    printf("garbage: %lu sessions started where a twin of the table had other lanes, %lu 0065 sent where its memory was another,\n"
+           "%lu times an 0061 of what waited at another place there; %lu calls over a place that is none, %lu over one held twice\n",
+           twin_starts, twin_fetches, twin_results, none_count, twice_count);
+    return twin_starts >= LEAST_TWIN && twin_fetches >= LEAST_TWIN && twin_results >= LEAST_TWIN && none_count >= LEAST_PLACE
+        && twice_count >= LEAST_PLACE;
 }
 
 #else
@@ -525,6 +653,8 @@ static void aside(const struct asked *asked)
         }
         kept_over_count += kept_over_its_bound(table);
         near_count += table_formed(table);
+        none_count += place_so(table, place_is_none);
+        twice_count += table_formed(table) && place_so(table, place_held_twice);
         aside_count += 1;
         checked_call(&call);
         old_count += sent_old_result();
@@ -540,6 +670,8 @@ static void serve_history(const uint8_t *data, size_t size, uint32_t seed)
     memset(table, 0, TABLE);
     for (size_t at = 0; next_asked(data, size, &at, &asked);) {
         checked_call(&asked);
+        if (!one_copy_of_each(table))
+            wrong("a result that waits has no copy or two", answered(0));
         if (roll(2))
             aside(&asked);
     }

@@ -42,6 +42,7 @@ BAD_REVISIONS = (b"0  ", b"  1", b"00 ", b" 01", b"1  ", b"0 1", b"00a", b"/00",
 NO_DIGITS = (0x20, 0x2F, 0x3A, 0x3B, 0x3C, 0x3D, 0x3E, 0x3F, 0x2B, 0x2D, 0x41, 0xB0, 0x1F)
 TICK_RECORD = record(TICK)
 KEPT = 64  # tightenings, by the controller
+HELD, GIVEN_UP_AFTER = 8, 120  # results by a session; ticks of one that is open
 LIMITS = [name for name, item in PAYLOADS[TIGHTENING].items.items() if item.sort == LIMIT]
 OF_TORQUE, OF_ANGLE = LIMITS[:3], LIMITS[3:]
 
@@ -968,6 +969,110 @@ class History:
         for _ in range(self.between(0, 12) if chosen else 0):
             self.acknowledge(self.pick(chosen), 62)
 
+    def wait_anew(self, s):
+        """Results subscribed to, with acknowledges, and as many told of as a session holds."""
+        self.send(s, message(60, self.good_revision(60), self.pick((b"0", b" "))))
+        self.come_to_wait(HELD)
+
+    def come_to_wait(self, count):
+        for _ in range(count):
+            if self.chance(0.1):
+                self.scan()
+            self.tightening()
+
+    def keep_all_but(self, s=None):
+        for other in range(4):
+            if other != s:
+                self.send(other, message(9999, self.pick(REVISIONS), self.twelve(), self.rest()))
+
+    def fill_places(self):
+        """The four sessions anew. One after the other subscribes and is told of eight results for which no other has room: 32 wait."""
+        order = self.random.sample(range(4), 4)
+        for s in order:
+            self.hang_up(s)
+            self.open(s)
+            self.begin(s)
+        for s in order:
+            self.wait_anew(s)
+
+    def end_by_acknowledges(self, s):
+        count = self.between(1, HELD)
+        for _ in range(count):
+            self.acknowledge(s, 62)
+        self.come_to_wait(count + self.between(0, 1))
+
+    def end_by_0063(self, s):
+        self.unsubscribe(s, 60)
+        self.wait_anew(s)
+
+    def end_by_0003(self, s):
+        self.stop(s)
+        self.begin(s)
+        self.wait_anew(s)
+
+    def end_by_hang_up(self, s):
+        self.hang_up(s)
+        self.open(s)
+        self.begin(s)
+        self.wait_anew(s)
+
+    def end_by_time_out(self, s):
+        for ticks in (8, 7):
+            self.keep_all_but(s)
+            for _ in range(ticks):
+                self.tick()
+        self.open(s)
+        self.begin(s)
+        self.wait_anew(s)
+
+    def end_by_giving_up(self, _):
+        """What is open in all four; what comes then waits in several."""
+        for tick in range(GIVEN_UP_AFTER + self.between(0, 2)):
+            if tick % 13 == 0:
+                self.keep_all_but()
+            self.tick()
+        self.come_to_wait(self.between(1, 4))
+
+    def end_by_start(self, _):
+        self.start()
+        self.fill_places()
+
+    ENDS = ((4, "acknowledges"), (3, "0063"), (3, "0003"), (3, "hang_up"), (4, "time_out"), (0.7, "giving_up"), (0.7, "start"))
+
+    def all_places(self):
+        """As many different results wait as can: then those of one session are gone in one way or another, and as many others come to
+        wait, again and again; at last all are acknowledged, in any order, while some more come."""
+        self.manner = "whole"
+        self.fill_places()
+        weights, names = zip(*self.ENDS)
+        for _ in range(self.between(3, 7)):
+            if not self.full():
+                getattr(self, "end_by_" + self.random.choices(names, weights)[0])(self.between(0, 3))
+        for _ in range(self.between(0, 50)):
+            self.acknowledge(self.between(0, 3), 62)
+            if self.chance(0.2):
+                self.tightening()
+
+    def shared_results(self):
+        """Results that wait in several sessions, some of which acknowledge sooner: the others are sent theirs when many more have come."""
+        self.manner = "whole"
+        late, *early = self.random.sample(range(4), self.between(2, 4))
+        for s in (late, *early):
+            self.hang_up(s)
+            self.open(s)
+            self.begin(s)
+            self.send(s, message(60, self.good_revision(60), b"0"))
+        self.come_to_wait(self.between(2, HELD))
+        for _ in range(self.pick((5, 20, 40))):
+            s = self.pick(early)
+            self.acknowledge(s, 62)
+            if self.chance(0.9):
+                self.tightening()
+            if self.chance(0.1):
+                self.tick()
+        for _ in range(HELD):
+            self.acknowledge(late, 62)
+
     def before_start(self):
         """Calls on a table of zeros."""
         for _ in range(self.between(1, 6)):
@@ -979,6 +1084,7 @@ class History:
         (6, "ladder"), (4, "bad_records"), (10, "lifecycle"), (7, "resubscribe"), (2.5, "long_run"),
         (7, "idle_edge"), (4, "time_out_in_step"), (4, "unstarted"), (1.5, "second_start"),
         (2, "numbers_end"), (2, "fullest"), (6, "old_results"), (3.5, "more_than_kept"), (4, "revisions"),
+        (3, "all_places"), (2, "shared_results"),
     )
 
     def make(self):

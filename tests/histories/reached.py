@@ -4,8 +4,9 @@
     reached.py PROGRAM [--count N] [--first-seed N]
 
 What was sent is read off the records. What a tick gave up, in which revisions results went out and
-with which limits, how 0060, 0064 and 0070 to 0073 were answered, and what became of alarms, is read off
-the lines of a test program, which is given a hang-up of session 15 behind each record: 'R 4' ends its lines."""
+with which limits, how 0060, 0064 and 0070 to 0073 were answered, what became of alarms, and which results
+waited for whom, is read off the lines of a test program, which is given received bytes run by run and a
+hang-up of session 15 behind each record: 'R 4' ends its lines."""
 
 import argparse
 import collections
@@ -24,6 +25,7 @@ NO_DIGITS = b"/:;<=>?"
 GIVEN_UP_WHOLE = 7  # of eight held seven are sent when the one before them is given up, within 840 ticks
 KEPT = 64  # tightenings
 ALARMS_HELD, GIVEN_UP_AFTER = 4, 120  # by a session; ticks of one that is open
+RESULTS_HELD, PLACES = 8, 32  # results by a session, and how many different ones can wait in all
 
 
 @dataclass
@@ -422,9 +424,124 @@ class Alarms:
             self.ended(s, mid)
 
 
+class Waiting:
+    """Which results a history's sessions hold, the open one first, by their numbers; how many different ones there are, which need a place
+    each; and in which ways they are gone. `times` counts it, `seen` has the values. What is sent is held against it."""
+
+    def __init__(self, times, seen):
+        self.times, self.seen, self.ended = times, seen, collections.Counter()
+        self.begin(0)
+
+    def begin(self, last):
+        """By the ways in which results are gone from the last session that held them: how many places that freed. A start frees all."""
+        self.ended = collections.Counter({"a start": self.ended["a start"]})
+        self.last, self.came = last, 0  # how many came to wait
+        self.sent, self.held, self.clock = collections.defaultdict(bytes), collections.defaultdict(list), collections.Counter()
+        self.asks = {}  # by session that is subscribed: whether acknowledges are asked
+        self.when, self.gone = {}, collections.defaultdict(set)  # by number: when it came to wait; how it was gone from a session
+
+    def count(self, what, how_often=True):
+        self.times[what] += how_often
+
+    def waiting(self):
+        return {number for numbers in self.held.values() for number in numbers}
+
+    def record(self, record_kind, payload, lines):
+        done = not any(line.startswith("R ") for line in lines)
+        if record_kind == SETTINGS and done:
+            self.ended["a start"] += len(self.waiting())
+            self.begin(fields_of(record_kind, payload)["last"])
+        elif record_kind == TIGHTENING and done:
+            self.tightening()
+        elif HANG_UP <= record_kind < BYTES and done:
+            self.unsubscribed(record_kind - HANG_UP, "a hang-up")
+            self.sent.pop(record_kind - HANG_UP, None)
+        elif record_kind == TICK:
+            self.tick(lines)
+        elif BYTES <= record_kind < BYTES + 4:
+            self.bytes(record_kind - BYTES, payload, lines)
+        for result in filter(None, map(result_in, lines)):
+            self.told(result, record_kind)
+
+    def tightening(self):
+        self.last += 1
+        waiting = self.waiting()
+        takers = [s for s, asked in self.asks.items() if asked and len(self.held[s]) < RESULTS_HELD]
+        self.seen["how many results wait at once, 0 to 32"].add(len(waiting))
+        self.count("a tightening while 32 results wait", len(waiting) == PLACES)
+        if not takers:
+            return
+        self.count("a result that comes to wait in %d session%s" % (len(takers), "s"[len(takers) == 1:]))
+        self.count("a result that takes the last of 32 places, in a session that holds seven",
+                   len(waiting) == PLACES - 1 and len(self.held[takers[0]]) == RESULTS_HELD - 1)
+        for way, ended in self.ended.items():
+            self.count("a result that needs one of the places that %s freed" % way, len(waiting) + ended >= PLACES)
+        for s in takers:
+            self.held[s].append(self.last)
+        self.came += 1
+        self.when[self.last] = self.came
+
+    def told(self, result, record_kind):
+        """A result that was sent, to one that acknowledges: the first that it holds."""
+        s, number = result.session, result.number
+        if not self.asks.get(s):
+            return
+        if self.held[s][:1] != [number]:
+            raise SystemExit("reached: session %d is sent %d, and holds %s" % (s, number, self.held[s]))
+        if record_kind != TIGHTENING:
+            for way in self.gone[number]:
+                self.count("0061 of a result that %s ended in another session" % way)
+            self.count("0061 of a result since which 32 or more came to wait", self.came - self.when[number] >= PLACES)
+
+    def end(self, s, way, count):
+        """Of the results of a session the first are gone."""
+        ended, self.held[s] = self.held[s][:count], self.held[s][count:]
+        left = self.waiting()
+        for number in ended:
+            self.gone[number].add(way)
+        self.ended[way] += len([number for number in ended if number not in left])
+        self.clock[s] = 0
+
+    def unsubscribed(self, s, way):
+        self.asks.pop(s, None)
+        self.end(s, way, RESULTS_HELD)
+
+    def tick(self, lines):
+        for s in range(4):
+            if "%d C" % s in lines:
+                self.unsubscribed(s, "a time-out")
+                self.sent.pop(s, None)
+            self.clock[s] += bool(self.held[s])
+            if self.clock[s] == GIVEN_UP_AFTER:
+                self.end(s, "giving up", 1)
+
+    def bytes(self, s, payload, lines):
+        """One run ends, at most."""
+        *runs, self.sent[s] = (self.sent[s] + payload).split(b"\0")
+        for run in runs:
+            if len(run) == 20 and re.match(rb"0020(0003|006[023])(\d{3}|   )[01 ]", run):
+                self.message(s, run, any(re.match(r"\d S 00240005.{12}%s" % run[4:8].decode(), line) for line in lines))
+
+    def message(self, s, run, accepted):
+        if run[4:8] == b"0062" and s in self.asks:
+            self.end(s, "an acknowledge", 1)
+        elif run[4:8] == b"0060" and accepted:
+            self.asks[s] = run[11:12] != b"1"
+        elif accepted:
+            self.unsubscribed(s, run[4:8].decode())
+
+
+def run_by_run(records):
+    """The same records, where received bytes are cut behind each NUL, which does not matter to any call."""
+    for record_kind, payload in records:
+        pieces = re.findall(rb"[^\0]*\0|[^\0]+", payload) if BYTES <= record_kind < BYTES + 4 else []
+        yield from ((record_kind, piece) for piece in pieces or [payload])
+
+
 def groups_of(program, records):
     """Each record with its lines. Records to sessions that there are not are left out: they print what the marker does."""
-    records = [(record_kind, payload) for record_kind, payload in records if not (16 <= record_kind < 64 and record_kind % 16 > 3)]
+    records = [(record_kind, payload) for record_kind, payload in run_by_run(records)
+               if not (16 <= record_kind < 64 and record_kind % 16 > 3)]
     data = b"".join(record(record_kind, payload) + MARKER for record_kind, payload in records)
     done = subprocess.run([program], input=data, capture_output=True, timeout=60, check=True)
     texts = done.stdout.decode("latin-1").split("R 4\n")
@@ -446,7 +563,7 @@ def main():
         groups = list(groups_of(options.program, records))
         reached.identifiers(groups)
         reached.given_up(groups)
-        readers = [reader(reached.times) for reader in (Memory, Results, Alarms)]
+        readers = [reader(reached.times) for reader in (Memory, Results, Alarms)] + [Waiting(reached.times, reached.seen)]
         for group in groups:
             for reader in readers:
                 reader.record(*group)

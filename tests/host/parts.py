@@ -7,13 +7,15 @@ import signal
 import subprocess
 
 import generate
-from harness import (BYTES, HANG_UP, OPEN, ROOT, SECONDS, InTime, Skipped, Wrong, check, content, equal, in_memory, lent_table, message,
+import harness
+from harness import (BYTES, HANG_UP, OPEN, SECONDS, InTime, Skipped, Wrong, check, content, equal, in_memory, lent_table, message,
                      openprotocol, record, tell_and_acknowledge, test)
 from journal import Play
 from kept import PAGE, small_disk
 
 SIZE, KEEP = 20000, 3
 RECORD_GREATEST = 4 + 8192
+DRAWN = 6  # of the parts that begin with an earlier table, those in which most results wait
 
 
 def beside(place, end):
@@ -108,10 +110,30 @@ def parts_replayed_alone(place):
     place.said.append("%d parts, %d lines" % (len(data), whole.count(b"\n")))
 
 
-def regions_without_alarms(table):
-    """Each session as it stood in a table before there were alarms: the same bytes, up to where their lane begins now."""
-    regions = range(lent_table.SHARED, lent_table.USED, lent_table.REGION)
-    return b"".join(table[at:at + lent_table.EARLIER_REGION] for at in regions)
+def earlier_table(table, shared, region_size, size):
+    """A table as it stood earlier, of that size: what was shared, then each session with a copy of each result that waits for it, and
+    behind these its alarms, where there were any."""
+    def earlier(region):
+        at, first = lent_table.TIGHTENINGS[0], lent_table.TIGHTENINGS[0] + lent_table.CONTROL
+        slots = region.data[first:first + region.data[at + 2]]
+        results = (region.data[:first] + b"".join(region.places[slot] for slot in slots)).ljust(lent_table.EARLIER_REGION, b"\0")
+        return (results + region.data[lent_table.ALARMS[0]:])[:region_size]
+
+    regions = b"".join(earlier(region) for region in lent_table.regions(table))
+    return (lent_table.EARLIER_MARK + table[len(lent_table.MARK):shared] + regions).ljust(size, b"\0")
+
+
+def of_the_first_map(table):
+    """Its sessions stood where tightenings are kept now."""
+    return earlier_table(table, lent_table.MEMORY, lent_table.EARLIER_REGION, lent_table.FIRST_SIZE)
+
+
+def of_the_second_map(table):
+    return earlier_table(table, lent_table.SHARED, lent_table.EARLIER_REGION, lent_table.SIZE)
+
+
+def of_the_third_map(table):
+    return earlier_table(table, lent_table.SHARED, lent_table.THIRD_REGION, lent_table.SIZE) + b"map 3\n"
 
 
 def without_alarms(printed):
@@ -129,28 +151,38 @@ ASKS_FOR_THE_NEWEST = record(HANG_UP) + record(OPEN) + record(BYTES, message(ope
 
 def tables_of_an_earlier_map(place, earlier, without, told):
     """Has the parts of a host's life begin with a table as it was kept earlier: each gives what it gives from today's, but for what is left
-    out of both. It is drawn, with what is told of the table there; and a host finds the last number in such a part, which an older state is
-    behind. Answers the name of the last table, and what stood there before."""
+    out of both. Some are drawn, the last with what is told of the table there; and a host finds the last number in such a part, which an
+    older state is behind. Answers the name of the last table, and what stood there before."""
     play = Play(place, 5)
     play.run(400, "--journal-size", 600, "--journal-keep", 1000)
-    parts, kept, alarms = place.journal_parts(), [], 0
+    parts, kept, alarms, waiting, shared, most = place.journal_parts(), [], 0, 0, 0, []
     check(len(parts) > 10, "only %d parts: this shows too little", len(parts))
     for part, path in enumerate(parts[1:], 2):
         table = "%s.%d.table" % (place.journal, part)
         today, was = place.own_replayed(content(path), table), content(table)
         of_today = lent_table.read(was)
         kept.append(len(lent_table.kept(of_today)))
-        alarms += sum(len(region.alarms().places) for region in lent_table.regions(of_today))
+        alarms += sum(len(region.alarms().notices) for region in lent_table.regions(of_today))
+        held = [region.tightenings() for region in lent_table.regions(of_today)]
+        results = [result for lane in held for result in lane.notices]
+        waiting, shared, most = waiting + len(results), shared + len(results) - len({*results}), most + [(len({*results}), table, path)]
         with open(table, "wb") as file:
             file.write(earlier(of_today))
+        brought = lent_table.read(content(table))
+        equal([region.tightenings() for region in lent_table.regions(brought)], held, "what waits in table %d, brought up to date" % part)
         equal(without(place.own_replayed(content(path), table)), without(today), "what part %d gives" % part)
     check(sum(kept) > 100 and alarms > 5, "only %d tightenings were kept and %d alarms held: this shows too little", sum(kept), alarms)
-    drawn = subprocess.run([os.path.join(ROOT, "tools", "ladder"), place.journal], capture_output=True, timeout=SECONDS, check=False)
+    check(waiting > 50 and shared > 1, "only %d results waited, %d of them for a second session: this shows too little", waiting, shared)
+    for _, *names in sorted(most)[-DRAWN:]:
+        command = [os.path.join(harness.TOOLS, "ladder"), "--replay", place.own_replay, "--table", *names]
+        done = subprocess.run(command, capture_output=True, timeout=SECONDS, check=False)
+        check(done.returncode == 0, "what is drawn of a part in which much waits: %r", done)
+    drawn = subprocess.run([os.path.join(harness.TOOLS, "ladder"), place.journal], capture_output=True, timeout=SECONDS, check=False)
     rows = re.sub(rb"\n[ |.]*", b" ", drawn.stdout)  # a label may go on in the next line
     check(drawn.returncode == 0 and told(kept[-1]).encode() in rows, "what is drawn: %r", drawn)
     os.remove(place.state)
     place.refused(place.start(), 1, place.state, place.journal, "--state-behind", "that %d was" % play.number)
-    place.said.append("%d tables" % (len(parts) - 1))
+    place.said.append("%d tables, %d results waiting in them, %d for one session more" % (len(parts) - 1, waiting, shared))
     return table, was
 
 
@@ -159,32 +191,46 @@ def tables_of_an_earlier_map(place, earlier, without, told):
 def tables_from_before(place):
     """From a table that was kept before tightenings were, a part gives what it gives from today's, old results and alarms aside, of which
     none is kept there; it is drawn, too; and a host finds the last number in such a part, which an older state is behind."""
-    def earlier(table):
-        """Its sessions stood where tightenings are now."""
-        return (table[:lent_table.MEMORY] + regions_without_alarms(table)).ljust(lent_table.FIRST_SIZE, b"\0")
-
-    table, _ = tables_of_an_earlier_map(place, earlier, without_old_results, lambda kept: ", 0 tightenings kept")
+    table, _ = tables_of_an_earlier_map(place, of_the_first_map, without_old_results, lambda kept: ", 0 tightenings kept")
     equal(place.own_replayed(ASKS_FOR_THE_NEWEST, table)[-31:], b"0 S 00260004001_________006415\n", "the newest of none")
 
 
 @test
 @in_memory
 def tables_from_before_alarms(place):
-    """From a table that was kept before there were alarms, of the same size and with the same mark, a part gives what it gives from
-    today's, alarms aside, old results too; it is drawn, and a host finds the last number in such a part. With another map's number behind
-    it a table of today is none."""
-    def earlier(table):
-        return (table[:lent_table.SHARED] + regions_without_alarms(table)).ljust(lent_table.SIZE, b"\0")
-
-    table, was = tables_of_an_earlier_map(place, earlier, without_alarms, lambda kept: ", %d tightenings kept" % kept)
+    """From a table that was kept before there were alarms, of the same size, a part gives what it gives from today's, alarms aside, old
+    results too; it is drawn, and a host finds the last number in such a part."""
+    table, _ = tables_of_an_earlier_map(place, of_the_second_map, without_alarms, lambda kept: ", %d tightenings kept" % kept)
     check(b"01180065" in place.own_replayed(ASKS_FOR_THE_NEWEST, table), "no old result is kept in %s", table)
-    for behind, status in ((lent_table.MAP, 0), (b"map 4\n", 1), (b"map 3", 1), (b"map 3\n\n", 1), (b"\0" * 6, 1)):
+
+
+def with_a_place_that_is_none(table):
+    """The same with 32 in the slot of a result that waits."""
+    at = next(at for at in range(lent_table.REGIONS, lent_table.USED, lent_table.REGION) if table[at + lent_table.TIGHTENINGS[0] + 2])
+    slot = at + lent_table.TIGHTENINGS[0] + lent_table.CONTROL
+    return table[:slot] + bytes([lent_table.PLACES]) + table[slot + 1:]
+
+
+@test
+@in_memory
+def tables_from_before_places(place):
+    """From a table that was kept when each session had its own copies of the results that wait for it, a part gives what it gives from
+    today's, alarms too; it is drawn, and a host finds the last number in such a part. With another map's number behind it, with another
+    map's mark, or with a place that is none of the 32, a table is none."""
+    table, was = tables_of_an_earlier_map(place, of_the_third_map, lambda printed: printed, lambda kept: ", %d tightenings kept" % kept)
+    today, third = was[:lent_table.SIZE], content(table)[:lent_table.SIZE]
+    cases = [(today + behind, status) for behind, status in (
+        (lent_table.MAP, 0), (b"map 5\n", 1), (b"map 3\n", 1), (b"map 4", 1), (b"map 4\n\n", 1), (b"\0" * 6, 1), (b"", 1))]
+    cases += [(third + behind, status) for behind, status in ((b"map 3\n", 0), (lent_table.MAP, 1), (b"map 2\n", 1), (b"map 3\n\n", 1))]
+    cases += [(with_a_place_that_is_none(today) + lent_table.MAP, 1)]
+    for data, status in cases:
         with open(table, "wb") as file:
-            file.write(was[:lent_table.SIZE] + behind)
-        for command in ([place.own_replay], [os.path.join(ROOT, "tools", "ladder"), "--replay", place.own_replay]):
+            file.write(data)
+        for command in ([place.own_replay], [os.path.join(harness.TOOLS, "ladder"), "--replay", place.own_replay]):
             done = subprocess.run([*command, "--table", table], input=b"", capture_output=True, timeout=SECONDS, check=False)
             said = b"is no table" in done.stderr
-            equal((done.returncode, said), (status, status == 1), "status of %s, with %r behind a table" % (command[0], behind))
+            equal((done.returncode, said), (status, status == 1), "status of %s, with a table that begins with %r and ends with %r" % (
+                command[0], data[:8], data[lent_table.SIZE:]))
 
 
 @test

@@ -103,20 +103,29 @@ def region_told(region):
     identifiers, results, alarms = region.identifiers(), region.tightenings(), region.alarms()
     return {"phase": "started" if region.phase() == lent_table.STARTED else "opened", "identifiers": identifiers.form != lent_table.NOT,
             "results": results.form != lent_table.NOT, "acknowledges": results.form == lent_table.ACKNOWLEDGED,
-            "held": [lent_table.little(place[lent_table.NUMBER]) for place in results.places],
+            "held": [lent_table.little(result[lent_table.NUMBER]) for result in results.notices],
             "alarms": alarms.form != lent_table.NOT, "acknowledges_alarms": alarms.form == lent_table.ACKNOWLEDGED,
-            "held_alarms": [fields_of(ALARM, place)["code"].decode("ascii") for place in alarms.places]}
+            "held_alarms": [fields_of(ALARM, alarm)["code"].decode("ascii") for alarm in alarms.notices]}
+
+
+def one_copy_of_each(regions):
+    """Whether each result that waits stands at one place, whoever waits for it; and for how many a second session waits, or a third."""
+    lanes = [(region.lane(*lent_table.TIGHTENINGS).notices, region.tightenings().notices) for region in regions]
+    held = [(slot[0], result) for slots, results in lanes for slot, result in zip(slots, results)]
+    places, results = {place for place, _ in held}, {lent_table.little(result[lent_table.NUMBER]) for _, result in held}
+    return len(places) == len(results), len(held) - len(places)
 
 
 @test
 @in_memory
 def the_status_and_the_table(place):
     """In a host's life at random the status tells of each session what the lent table holds, as it is kept beside a journal whose parts
-    are of one call each; at its end too, when all were stopped and what the table still has of their subscriptions counts for nothing."""
+    are of one call each; at its end too, when all were stopped and what the table still has of their subscriptions counts for nothing. Of
+    each result that waits the table has one copy."""
     play = Play(place, 15)
     play.host = place.host("--status", place.path("status"), "--journal-size", 1, "--journal-keep", 2)
     play.tool = place.tool()
-    held = alarms = 0
+    held = alarms = shared = 0
 
     def regions():
         play.tool.give(record(5))  # before this call, which alters nothing, the table is kept
@@ -136,9 +145,12 @@ def the_status_and_the_table(place):
         play.step()
         if i % 4 == 0:
             told, = wait(equal_now, "a status that tells what the table holds")
+            once, more = one_copy_of_each(regions())
+            check(once, "a result that waits has no copy or two")
+            shared += more
             held += sum(len(session.get("held", [])) for session in told)
             alarms += sum(len(session.get("held_alarms", [])) for session in told)
-    check(held > 100, "only %d results were held: this shows too little", held)
+    check(held > 100 and shared > 5, "only %d results were held, %d by one session more: this shows too little", held, shared)
     check(alarms > 50, "only %d alarms were held: this shows too little", alarms)
     for server in play.here():
         if play.settle(server):
@@ -146,8 +158,9 @@ def the_status_and_the_table(place):
     told, = wait(stopped_now, "a status of sessions that were stopped, which tells what the table holds")
     left = [region.data[at] for region in regions() if region.phase() == lent_table.OPENED for at, _ in lent_table.LANES]
     check(any(left), "nothing is left of any subscription: this shows too little")
-    place.said.append("100 times, with %d results and %d alarms held; and with %d subscriptions left of %d that were stopped" % (
-        held, alarms, len([form for form in left if form]), len([session for session in told if session["phase"] == "opened"])))
+    place.said.append("100 times, with %d results, %d by one session more, and %d alarms held; and with %d subscriptions left of %d "
+                      "that were stopped" % (held, shared, alarms, len([form for form in left if form]),
+                                             len([session for session in told if session["phase"] == "opened"])))
 
 
 @test

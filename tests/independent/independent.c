@@ -1010,6 +1010,120 @@ static void send_old_result(const struct state *state, unsigned s, const uint8_t
     send_frame(output, s, &frame);
 }
 
+/* ---------------------------------------------------------------- planted: places */
+
+/* The product keeps one copy of each result that waits, at one of 32 places. Here each session has copies of its own; what a library
+   that shares them may do wrong is planted by the places at which they would stand. */
+enum {
+    PLACES = FAULT == THIRTY_ONE_PLACES ? 31 : 32,
+    PLACES_PLANTED = FAULT >= PLACE_STILL_HELD && FAULT <= PLACE_LEAKED_AT_TIME_OUT
+};
+
+struct place {
+    uint64_t number; /* of the result that stands there */
+    bool left;       /* by the first session that acknowledged it */
+    bool leaked;
+};
+
+static struct place places[PLACES];
+
+static uint64_t number_of(const uint8_t *result)
+{
+    return decimal(result + RESULT_BYTES - NUMBER_DIGITS, NUMBER_DIGITS);
+}
+
+static struct place *place_of(uint64_t number)
+{
+    for (unsigned p = 0; p < PLACES; p++)
+        if (places[p].number == number)
+            return &places[p];
+    return NULL;
+}
+
+/* A session's copy of the result with that number; NULL where it holds none. */
+static uint8_t *held_copy(struct session *session, uint64_t number)
+{
+    uint8_t *result = notices(session, TIGHTENING);
+    for (unsigned i = 0; i < session->subscription[TIGHTENING].count; i++)
+        if (number_of(result + i * RESULT_BYTES) == number)
+            return result + i * RESULT_BYTES;
+    return NULL;
+}
+
+static bool is_free(struct state *state, const struct place *place)
+{
+    for (unsigned s = 0; s < (FAULT == PLACE_STILL_HELD ? SESSIONS - 1 : SESSIONS); s++)
+        if (held_copy(&state->session[s], place->number) != NULL)
+            return place->left;
+    return !place->leaked;
+}
+
+/* Puts a result at a place, over what stands there, unless it has one; false where none is free. */
+static bool find_place(struct state *state, const uint8_t *result)
+{
+    struct place *place = places;
+    if (place_of(number_of(result)) != NULL)
+        return true;
+    while (place < places + PLACES && !is_free(state, place))
+        place++;
+    if (place == places + PLACES)
+        return false;
+    for (unsigned s = 0; s < SESSIONS; s++) {
+        uint8_t *copy;
+        while ((copy = held_copy(&state->session[s], place->number)) != NULL)
+            memcpy(copy, result, RESULT_BYTES);
+    }
+    *place = (struct place){ .number = number_of(result) };
+    return true;
+}
+
+/* Those that wait stand in the order of their places: the last goes before those of later ones. */
+static void order_by_place(struct session *session)
+{
+    uint8_t *result = notices(session, TIGHTENING), moved[RESULT_BYTES];
+    for (unsigned i = session->subscription[TIGHTENING].count - 1; i > 1; i--) {
+        uint8_t *last = result + i * RESULT_BYTES, *before = last - RESULT_BYTES;
+        if (place_of(number_of(before)) < place_of(number_of(last)))
+            return;
+        memcpy(moved, before, RESULT_BYTES);
+        memcpy(before, last, RESULT_BYTES);
+        memcpy(last, moved, RESULT_BYTES);
+    }
+}
+
+/* A session that was told of an identifier, and has not acknowledged it, puts it into the result for all. */
+static void stamp_for_all(struct state *state, unsigned s, uint64_t number)
+{
+    struct session *session = &state->session[s];
+    for (unsigned other = 0; session->subscription[IDENTIFIER].count > 0 && other < SESSIONS; other++) {
+        uint8_t *copy = held_copy(&state->session[other], number);
+        if (copy != NULL)
+            memcpy(copy + 39, notices(session, IDENTIFIER), TEXT_BYTES);
+    }
+}
+
+/* What becomes of the places when a result has come to wait, when one is acknowledged, and when a session is closed by a time-out. */
+static void plant_in_held(struct state *state, unsigned s, const uint8_t *result)
+{
+    if (FAULT == SENT_BY_PLACE)
+        order_by_place(&state->session[s]);
+    if (FAULT == OWN_IDENTIFIER_FOR_ALL)
+        stamp_for_all(state, s, number_of(result));
+}
+
+static void plant_in_acknowledged(struct session *session)
+{
+    struct place *place = place_of(number_of(notices(session, TIGHTENING)));
+    if (FAULT == PLACE_LEFT_BY_THE_FIRST && place != NULL)
+        place->left = true;
+}
+
+static void plant_in_time_out(struct session *session)
+{
+    for (unsigned p = 0; FAULT == PLACE_LEAKED_AT_TIME_OUT && p < PLACES; p++)
+        places[p].leaked |= held_copy(session, places[p].number) != NULL;
+}
+
 /* ---------------------------------------------------------------- notices */
 
 static unsigned in_turn(unsigned i)
@@ -1124,6 +1238,8 @@ static void acknowledge(struct state *state, unsigned s, enum kind kind, struct 
     struct subscription *part = &session->subscription[kind];
     if (part->count == 0)
         return;
+    if (PLACES_PLANTED && kind == TIGHTENING)
+        plant_in_acknowledged(session);
     if (FAULT == NEXT_WAITS_FOR_REPEAT) {
         drop_open(session, kind);
         return;
@@ -1143,6 +1259,8 @@ static void hold(struct state *state, unsigned s, enum kind kind, const uint8_t 
     if (FAULT == NONE_AS_ZEROS_WHEN_WAITED && kind == TIGHTENING && part->count > 0)
         put_zeros(notices(session, kind) + part->count * RESULT_BYTES);
     part->count += 1;
+    if (PLACES_PLANTED && kind == TIGHTENING)
+        plant_in_held(state, s, notice);
     if (FAULT == ARRIVAL_RESETS_CLOCK)
         part->clock = 0;
     if (part->count == 1) {
@@ -1167,6 +1285,8 @@ static bool offer(struct state *state, unsigned s, enum kind kind, const uint8_t
             return true;
         part->count -= 1;
     }
+    if (PLACES_PLANTED && kind == TIGHTENING && !find_place(state, notice))
+        return false;
     hold(state, s, kind, notice, output);
     return true;
 }
@@ -1347,6 +1467,8 @@ static void tick_session(struct state *state, unsigned s, struct output *output)
         tick_notices(state, s, output);
     if (over) {
         put_record(output, RECORD_KIND_CLOSE + s, NULL, 0);
+        if (PLACES_PLANTED)
+            plant_in_time_out(session);
         clear_session(session, CLOSED, KEPT_THROUGH_TIME_OUT);
         forget_kept(&state->memory, MEMORY_GONE_AT_TIME_OUT);
     }
@@ -1885,6 +2007,8 @@ uint64_t independent_start(uint8_t *table, size_t table_len,
         if (load(table, &before))
             state.memory = before.memory;
     }
+    if (PLACES_PLANTED)
+        memset(places, 0, sizeof places);
     save(table, &state);
     return reply(answer, DONE, 0, 0, 0);
 }

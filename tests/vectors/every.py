@@ -7,8 +7,8 @@ import itertools
 
 import openprotocol
 import places
-from house_records import (ALARM, BYTES, GREATEST_NUMBER, LIMIT, NUMBERS, OPEN, PAYLOADS, SCANNED, SETTINGS, TEXT, TICK, TIGHTENING,
-                           fields_of, filled, record)
+from house_records import (ALARM, BYTES, GREATEST_NUMBER, HANG_UP, LIMIT, NUMBERS, OPEN, PAYLOADS, SCANNED, SETTINGS, TEXT, TICK,
+                           TIGHTENING, fields_of, filled, record)
 from openprotocol import ACCEPTED, IDENTIFIER, OLD_RESULT, REFUSED, RESULT, STARTED, write
 
 GOOD_SETTINGS = {"cell": 12, "channel": 3, "granted": 1, "name": filled("LINE4"), "last": 41}
@@ -697,9 +697,132 @@ def nothing_acknowledged():
     return case.named("960 ticks with nothing acknowledged")
 
 
+class Waiting(Case):
+    """Sessions that acknowledge results, and those that wait for each, the open one first, by 01's rules of notices and ticks."""
+
+    def __init__(self):
+        super().__init__()
+        self.results, self.clock, self.silent = {}, {}, {}  # by session: what waits, the clock of the open one, ticks without a message
+
+    def say(self, s, mid, *header):
+        self.put(BYTES + s, message(mid, *header) + b"\0")
+        self.silent[s] = 0
+
+    def accepted(self, s, mid, *header):
+        self.say(s, mid, *header)
+        self.expect(write(ACCEPTED, {"mid": mid}), s)
+
+    def enter(self, s):
+        self.put(OPEN + s)
+        self.begin(s)
+
+    def begin(self, s):
+        self.say(s, 1)
+        self.expect(write(STARTED, GOOD_SETTINGS), s)
+
+    def fill(self, s):
+        """Subscribes and is told of as many as it holds, which all wait for it alone where the others are full."""
+        self.accepted(s, 60, b"%03d" % (s + 1))
+        self.results[s] = []
+        self.tighten(8)
+
+    def tighten(self, count):
+        for _ in range(count):
+            self.last += 1
+            fields = some_never_set(self.last, identifier=b"N%d" % self.last, torque=self.last)
+            self.give(TIGHTENING, fields)
+            for s, results in sorted(self.results.items()):
+                if len(results) < 8:
+                    results.append(result_frame((s + 1, False), fields, fields["identifier"], self.last))
+                    self.send_open(s, len(results) == 1)
+
+    def send_open(self, s, is_new=True):
+        if is_new and self.results[s]:
+            self.clock[s] = 0
+            self.expect(self.results[s][0], s)
+
+    def acknowledge(self, s):
+        self.say(s, 62)
+        self.results[s].pop(0)
+        self.send_open(s)
+
+    def tick(self):
+        self.put(TICK)
+        for s in sorted(self.silent):
+            self.silent[s] += 1
+            if self.silent[s] == 15:
+                self.lines.append("%d C" % s)
+                del self.results[s], self.silent[s]
+            elif self.results[s]:
+                self.tick_open(s)
+
+    def tick_open(self, s):
+        self.clock[s] += 1
+        if self.clock[s] == 120:
+            self.results[s].pop(0)
+            self.send_open(s)
+        elif self.clock[s] % 20 == 0:
+            self.expect(self.results[s][0], s)
+
+    def keep(self, sessions):
+        for s in sessions:
+            self.say(s, 9999)
+            self.expect(message(9999), s)
+
+    # ---- the ways in which what waits for a session is gone; it is there again afterwards, and not subscribed
+
+    def unsubscribe(self, s):
+        self.accepted(s, 63)
+
+    def stop(self, s):
+        self.accepted(s, 3)
+        self.begin(s)
+
+    def hang_up(self, s):
+        self.put(HANG_UP + s)
+        self.enter(s)
+
+    def time_out(self, s):
+        for tick in range(15 - self.silent[s]):
+            if tick % 8 == 0:
+                self.keep({*range(4)} - {s})
+            self.tick()
+        self.enter(s)
+
+
+def results_wait_and_are_gone():
+    """32 results wait, eight for each session; those of each session in turn are gone in each way, and eight others come to wait for it
+    in their place. At last each session is sent what waits for it; or a start ends it all, and it begins anew."""
+    case, order = Waiting(), (3, 2, 0, 1)
+    for acknowledged in (4, 8):
+        for s in order:
+            case.enter(s)
+        for s in order:
+            case.fill(s)
+        for way, s in itertools.product((case.unsubscribe, case.time_out, case.stop, case.hang_up), range(4)):
+            way(s)
+            case.fill(s)
+            for _ in range(s):
+                case.acknowledge(s)
+            case.tighten(s)
+        for tick in range(125):  # what is open is given up by all; then one comes for all
+            if tick % 14 == 0:
+                case.keep(order)
+            case.tick()
+        case.tighten(1)
+        for _, s in itertools.product(range(acknowledged), order):
+            case.acknowledge(s)
+        if acknowledged < 8:
+            case.tighten(9)
+            case.give(SETTINGS, GOOD_SETTINGS)
+            case.last, case.results, case.silent = LAST, {}, {}
+    return case.named("32 results wait, and are gone in each way")
+
+
 BY_RULE = [message_numbers, header_bytes, revisions, downloads, downloads_not_granted, fetches, numbers_asked, numbers_asked_from_0,
            numbers_asked_at_the_end, kept_values, tool_texts, alarm_bytes, tool_numbers, places_of_results, limits_never_set,
-           places_of_alarms, settings, record_lengths, record_kinds, subscribed_anew, fullest_output, nothing_acknowledged]
+           places_of_alarms, settings, record_lengths, record_kinds, subscribed_anew, fullest_output, nothing_acknowledged,
+           results_wait_and_are_gone]
 
 
 def cases():
