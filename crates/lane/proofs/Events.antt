@@ -1,5 +1,5 @@
 -- An event that was taken in a lane is the model's.
-use mathlib.Core.Path.{_≡_, refl, sym, ap, _∙_, subst}
+use mathlib.Core.Path.{_≡_, refl, sym, ap, ap₂, _∙_, subst}
 use Prim.Native.Nat.{ℕ, _+_, _*_, _≤_, _<_, zero-le}
 use native.Mathlib.Nat.{mul-le-mul-right, suc-mul}
 use native.Mathlib.Numerals.{add-one}
@@ -11,11 +11,11 @@ use lib.ListN.{length, take, drop, length-append, length-drop}
 use lib.Seq.{sets, length-sets}
 use borrow.Author.Tests.{eqb-true, eqb-false, leb-false}
 use Rattle.model.specs.Events.{Notice}
-use Rattle.model.specs.Kinds.{Room, the-newest, up-to, kinds, room-of}
+use Rattle.model.specs.Kinds.{Room, the-newest, up-to, kinds, tightenings, room-of}
 use Rattle.model.specs.Notices.{act, news, takes}
 use Rattle.model.specs.Notices as model
 use Rattle.text.specs.Cells.{cells}
-use Rattle.text.proofs.Lists.{drop-sets}
+use Rattle.text.proofs.Lists.{drop-sets, take-sets}
 use Rattle.text.proofs.Cells.{cells-push}
 use Rattle.session.specs.Meaning.{subscription-in, Took, kept, told, place-of}
 use Rattle.session.specs.Control.{taken, taken-busy, take-from, takes as takes-as}
@@ -27,9 +27,9 @@ use Rattle.session.specs.declared.Take.{Take}
 use Rattle.session.specs.declared.Take.the-variants as take
 use Rattle.session.specs.declared.Taken.{Taken}
 use Rattle.session.specs.declared.Subscription.{Subscription}
-use Rattle.lane.specs.Kinds.{slot-size, slot-formed, control-size, lane-size}
+use Rattle.lane.specs.Kinds.{most, slot-size, slot-formed, control-size, lane-size}
 use Rattle.lane.specs.Lane.{control-of, notices-in, lane-by, Storable, Stored, any, is-told, is-held, Pushing, Pushes}
-use Rattle.lane.specs.Lane.{Lane, slots-formed, Storing, Keeping, Keeps, Takes}
+use Rattle.lane.specs.Lane.{Lane, slots-formed, places-in, Storing, Keeping, Keeps, Takes}
 use Rattle.lane.proofs.KindLaws.{kind-fits}
 use Rattle.lane.proofs.Slots.{fewer-formed, pushed-formed}
 use Rattle.lane.proofs.Controls.{held-formed}
@@ -70,6 +70,7 @@ module _ (kind i : ℕ) (p : List ℕ) (x : Subscription) (l : List ℕ) (k : Pu
             same-slots read kind (i + 1) (sets l (control-size + i * size) p) l′ (w .slots)
             ∙ rw (z, add-one, drop-sets p l control-size (i * slot-size kind))
             (cells-push read (slot-size kind) (drop control-size l) i p (k .slot) (omega arith));
+        slots = w .slots ∙ rw z (drop-sets p l control-size (i * slot-size kind));
       }
 
 -- ==== where it is held
@@ -85,12 +86,13 @@ module _ (read : List ℕ → Notice) (kind : ℕ) (t : Take) (p : List ℕ) (x 
     control = k .same (rw e unheld);
     lane = k .lane;
     notices = rw (same, held-length read kind held l);
+    slots = λ h. absurd (true≢false (sym h ∙ unheld));
   }
 
   module _ (l′ : List ℕ) where
     pub keeps-opens : t ≡ take.Opens → Pushes kind 0 p x l l′ → Keeps read kind t p x l l′
     unfolding notices-in cells
-    keeps-opens e q = rw e record { control = q .control; lane = q .lane; notices = q .notices read }
+    keeps-opens e q = rw e record { control = q .control; lane = q .lane; notices = q .notices read; slots = λ h. q .slots }
 
     pub keeps-waits : (i : ℕ) → t ≡ take.Waits i → Pushes kind i p x l l′ → Keeps read kind t p x l l′
     keeps-waits i e q =
@@ -98,7 +100,7 @@ module _ (read : List ℕ → Notice) (kind : ℕ) (t : Take) (p : List ℕ) (x 
         let pre : take i (notices-in read kind held l) ≡ notices-in read kind i l = prefix read kind i held l few in
         let n : length (notices-in read kind i l ++ (read p ∷ [])) ≡ i + 1 =
         length-append (notices-in read kind i l) (read p ∷ []) ∙ ap (λ (m : ℕ). m + 1) (held-length read kind i l) in
-        rw e record { control = q .control; lane = q .lane; notices = rw (pre, n) (q .notices read) }
+        rw e record { control = q .control; lane = q .lane; notices = rw (pre, n) (q .notices read); slots = λ h. q .slots }
 
 -- the slot is one of those held, or the one behind them, and is the last; and what is not held leaves the subscription as it was
 record Fair (x : Subscription) (t : Taken) : Type 0 where
@@ -140,6 +142,21 @@ fewer-held m x some h = by-form (x .form) h
     by-form Acknowledged =
         chosen Few (eqb (x .held) 0) (λ e h. let z = eqb-true (x .held) 0 e in omega arith)
         (λ e. chosen Few (leb m (x .held)) (λ f h. absurd (true≢false (sym h))) (λ f h. let g = leb-false m (x .held) f in omega arith))
+
+-- it goes behind those that are held
+pub behind-held : (m : ℕ) (x : Subscription) → is-held (taken (up-to m) x .take) ≡ true → place-of (taken (up-to m) x .take) ≡ x .held
+unfolding taken
+behind-held m x h = by-form (x .form) h
+  where
+    Behind : Taken → Type 0
+    Behind t = is-held (t .take) ≡ true → place-of (t .take) ≡ x .held
+
+    by-form : (f : Form) → Behind (take-from f x (taken-busy (up-to m) x))
+    by-form Not = λ h. absurd (true≢false (sym h))
+    by-form Plain = λ h. absurd (true≢false (sym h))
+    by-form Acknowledged =
+        chosen Behind (eqb (x .held) 0) (λ e h. sym (eqb-true (x .held) 0 e))
+        (λ e. chosen Behind (leb m (x .held)) (λ f h. absurd (true≢false (sym h))) (λ f h. refl))
 
 -- ==== the whole event
 
@@ -216,3 +233,36 @@ module _ (read : List ℕ → Notice) (kind : ℕ) (l : List ℕ) (known : kind 
   pub takes-unheld : (n : Notice) → is-held (t .take) ≡ false → Takes read kind n l (t .take) l
   takes-unheld n e =
       takes-as-told n l lane (fair (room-of kind) x .same e) (rw (unheld-kept (t .take) n ns e, held-length read kind (x .held) l))
+
+-- the places that are then held
+pub takes-adds : (read : List ℕ → Notice) (l p l′ : List ℕ) → Lane tightenings l → length p ≡ slot-size tightenings
+    → let t = taken (room-of tightenings) (control-of l) in
+    Keeps read tightenings (t .take) p (t .next) l l′ → is-held (t .take) ≡ true → places-in l′ ≡ places-in l ++ p
+unfolding places-in
+takes-adds read l p l′ lane one k h =
+    let x = control-of l in
+    let d = drop control-size l in
+    let last = fair (room-of tightenings) x .last h in
+    let there = behind-held (most tightenings) x h in
+    let few = fewer-held (most tightenings) x (omega arith) h in
+    let size = lane .size in
+    let long = length-drop control-size l in
+    let n : control-of l′ .held ≡ x .held + length p = ap (λ (y : Subscription). y .held) (k .control) ∙ omega arith in
+    let at : place-of (taken (room-of tightenings) x .take) * slot-size tightenings ≡ x .held = omega arith in
+    ap₂ (λ (m : ℕ) (z : List ℕ). take m z) n (k .slots h ∙ ap (λ (m : ℕ). sets d m p) at) ∙ take-sets p d (x .held) (omega arith)
+
+pub takes-places : (read : List ℕ → Notice) (kind : ℕ) {t : Taken} {p l l′ : List ℕ} → t ≡ taken (room-of kind) (control-of l) → Lane kind l
+    → length p ≡ slot-size kind → Keeps read kind (t .take) p (t .next) l l′ → kind ≡ tightenings → is-held (t .take) ≡ true
+    → places-in l′ ≡ places-in l ++ p
+takes-places read kind {t} {p} {l} {l′} e lane one k z h =
+    let v = subst (λ (y : Taken). Keeps read kind (y .take) p (y .next) l l′) e k in
+    let g = subst (λ (y : Taken). is-held (y .take) ≡ true) e h in
+    go kind z lane one v g
+  where
+    go : (n : ℕ) → n ≡ tightenings → Lane n l → length p ≡ slot-size n
+        → Keeps read n (taken (room-of n) (control-of l) .take) p (taken (room-of n) (control-of l) .next) l l′
+        → is-held (taken (room-of n) (control-of l) .take) ≡ true → places-in l′ ≡ places-in l ++ p
+    go n z lane one v g =
+        takes-adds read l p l′ (subst (λ (m : ℕ). Lane m l) z lane) (subst (λ (m : ℕ). length p ≡ slot-size m) z one)
+        (subst (λ (m : ℕ). Keeps read m (taken (room-of m) (control-of l) .take) p (taken (room-of m) (control-of l) .next) l l′) z v)
+        (subst (λ (m : ℕ). is-held (taken (room-of m) (control-of l) .take) ≡ true) z g)

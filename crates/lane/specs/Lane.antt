@@ -1,14 +1,15 @@
 -- A lane: a session's subscription to one kind of notice, and the notices that it holds, in one run of bytes. 01, "Notices and the
 -- clock", and 02, P7. docs/TABLE.md has the map.
 use mathlib.Core.Path.{_≡_}
-use Prim.Native.Nat.{ℕ, zero, suc, _+_, _-_, _≤_, _<_}
+use Prim.Native.Nat.{ℕ, zero, suc, _+_, _-_, _*_, _≤_, _<_}
 use mathlib.Core.Bool.{Bool, true, false, cond, _&&_}
 use mathlib.Core.List.{List, [], _∷_, _++_}
 use lib.Dec.{leb, ltb}
 use lib.ListN.{length, getD, take, drop}
+use lib.Seq.{sets}
 use Rattle.model.specs.Limits.{given-up-at}
 use Rattle.model.specs.Bytes.{all, little}
-use Rattle.model.specs.Kinds.{kinds, room-of}
+use Rattle.model.specs.Kinds.{kinds, tightenings, room-of}
 use Rattle.model.specs.Events.{Notice}
 use Rattle.model.specs.Notices.{empty, busy, unsubscribed, plain, acked, act}
 use Rattle.model.specs.Notices as model
@@ -172,6 +173,7 @@ pub record Pushes (kind i : ℕ) (p : List ℕ) (x : Subscription) (l l′ : Lis
   pub control : control-of l′ ≡ x
   pub lane : Lane kind l′
   pub notices : (read : List ℕ → Notice) → notices-in read kind (i + 1) l′ ≡ notices-in read kind i l ++ (read p ∷ [])
+  pub slots : drop control-size l′ ≡ sets (drop control-size l) (i * slot-size kind) p
 
 -- the slot p is to be held as `t` says, and x to be the subscription that holds it; where it is not held, x is what it was
 pub record Keeping (kind : ℕ) (t : Take) (p : List ℕ) (x : Subscription) (l : List ℕ) : Type 0 where
@@ -187,6 +189,7 @@ pub record Keeps (read : List ℕ → Notice) (kind : ℕ) (t : Take) (p : List 
   pub notices :
       let ns = kept t (read p) (notices-in read kind (control-of l .held) l) in
       notices-in read kind (length ns) l′ ≡ ns
+  pub slots : is-held t ≡ true → drop control-size l′ ≡ sets (drop control-size l) (place-of t * slot-size kind) p
 
 -- an event of a kind, to a lane of that kind, where it becomes of its notice what `t` says; the slot p is for it
 pub record Taking (kind : ℕ) (t : Taken) (p l : List ℕ) : Type 0 where
@@ -200,3 +203,8 @@ pub record Taking (kind : ℕ) (t : Taken) (p l : List ℕ) : Type 0 where
 pub record Takes (read : List ℕ → Notice) (kind : ℕ) (n : Notice) (l : List ℕ) (t : Take) (l′ : List ℕ) : Type 0 where
   pub deals : Deals read kind (model.news n) l (is-told t) l′
   pub takes : is-taken t ≡ model.takes (room-of kind) (lane-by read kind l)
+
+-- whatever the slots mean, the notice is the one that the slot p means; and of a kind that is placed that place is held behind the others
+pub record TakesSo (kind : ℕ) (t : Take) (p l l′ : List ℕ) : Type 0 where
+  pub means : (read : List ℕ → Notice) → Takes read kind (read p) l t l′
+  pub adds : kind ≡ tightenings → is-held t ≡ true → places-in l′ ≡ places-in l ++ p

@@ -37,7 +37,7 @@ ghost use Rattle.lane.specs.Lane.{
   Keeping,
   Keeps,
   Taking,
-  Takes,
+  TakesSo,
 };
 use session::Deed;
 use session::Form;
@@ -395,8 +395,7 @@ fn hold(lane: &mut [u8], kind: usize, take: Take, slot: &[u8], next: Subscriptio
 // An event of which that becomes; `slot` is what is held of its notice.
 pub fn take(lane: &mut [u8], kind: usize, taken: Taken, slot: &[u8])
     requires { ⌜ Taking kind taken (now slot) (now lane) ⌝ }
-    ensures { λ _. ⌜ ((read : List ℕ → Notice) → Takes read kind (read (now (slot .entry))) (now (lane .entry)) (taken .take)
-        (now (lane .exit))) ⌝ }
+    ensures { λ _. ⌜ TakesSo kind (taken .take) (now (slot .entry)) (now (lane .entry)) (now (lane .exit)) ⌝ }
 {
     let take = taken.take;
     let next = taken.next;

@@ -120,6 +120,11 @@ module _ (r : List ℕ) {kind a z : ℕ} (few : kind < length kinds) (ea : a ≡
     lane-size-kept =
         ap length as-put ∙ replaced-size r ys s (lane-at kind) (lane-size kind) (lane .size) (lane-ends kind few)
 
+    -- it stands there
+    pub lane-now : lane-in kind replaced ≡ ys
+    lane-now =
+        ap (lane-in kind) as-put ∙ area-same (lane-at kind) (lane-size kind) r ys (lane .size) in-region
+
     -- what stands before the lanes is as it was
     before : (b m : ℕ) → b + m ≤ 8 + run-size → midOf b m replaced ≡ midOf b m r
     before b m h =

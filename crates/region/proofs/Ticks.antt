@@ -1,5 +1,5 @@
 -- A tick and an event, to a session in its region.
-use mathlib.Core.Path.{_≡_, refl, sym, ap, _∙_}
+use mathlib.Core.Path.{_≡_, refl, sym, ap, subst, _∙_}
 use mathlib.Core.Bool.{Bool, true, false, true≢false}
 use mathlib.Core.List.{List, [], _∷_}
 use Prim.Native.Nat.{ℕ, _+_, _-_, _<_}
@@ -40,10 +40,11 @@ use Rattle.lane.specs.Lane as lane
 use Rattle.lane.proofs.Events.{takes-unheld}
 use Rattle.lane.proofs.Sayings.{told}
 use Rattle.region.specs.Region.{head-area, run-area, lane-at, lane-in, subscriptions-in, subscription-in, session-of, meaning}
-use Rattle.region.specs.Region.{Good, Changes}
+use Rattle.region.specs.Region.{places-held, Good, Changes}
 use Rattle.region.specs.Said.{DealtTo, DealtToAll, TickStays, Ticks}
-use Rattle.region.specs.Said.{Answers, Taking, Takes}
-use Rattle.region.proofs.Areas.{lane-good, lane-part, length-subscriptions, subscription-at, there, means, unchanged}
+use Rattle.region.specs.Said.{Answers, Taking, Holds, Takes}
+use Rattle.region.proofs.Areas.{lane-good, lane-part, lane-now, head-kept, length-subscriptions}
+use Rattle.region.proofs.Areas.{subscription-at, there, means, unchanged}
 use Rattle.region.proofs.Walks.{dealt-to}
 use Rattle.region.proofs.Says.{sent-itself, row-acting, said-due, all-ready, now-is, row-one, said-one, none-due}
 use Rattle.region.proofs.Says.{none-ready}
@@ -196,11 +197,25 @@ module _ {kind : ℕ} {r : List ℕ} (g : Good r) (few : kind < length kinds) {x
   }
 
 -- its notice is held
-pub takes-held : {kind : ℕ} {t : Taken} {slot r : List ℕ} {a z : ℕ} {ys : List ℕ} → Taking kind t slot r → a ≡ lane-at kind
-    → z ≡ lane-size kind
-    → ((read : List ℕ → Notice) → lane.Takes read kind (read slot) (midOf a (a + z - a) r) (t .take) ys)
-    → (read : Reading) (p : List ℕ) → read kind slot ≡ notice-in kind p → Takes read kind p r (t .take) (putMid a (a + z - a) r ys)
-takes-held {kind} {t} {slot} {r} k ea ez w read p e =
-    let v = rw e at (w (read kind)) in
-    takes-one read p r (k .known) refl (k .answers .started (k .holds)) (dealt-to read (k .known) (k .good) ea ez (v .deals))
-    (v .takes ∙ ap (λ l. notices.takes (room-of kind) (lane-of read kind l)) (lane-part r (k .known) ea ez))
+module _ {kind : ℕ} {t : Taken} {slot r : List ℕ} {a z : ℕ} {ys : List ℕ} (k : Taking kind t slot r) (ea : a ≡ lane-at kind)
+    (ez : z ≡ lane-size kind) (w : lane.TakesSo kind (t .take) slot (midOf a (a + z - a) r) ys) where
+  abbrev r₁ : List ℕ
+  r₁ = putMid a (a + z - a) r ys
+
+  holds-takes : (read : Reading) (p : List ℕ) → read kind slot ≡ notice-in kind p → Takes read kind p r (t .take) r₁
+  holds-takes read p e =
+      let v = rw e at (w .means (read kind)) in
+      takes-one read p r (k .known) refl (k .answers .started (k .holds)) (dealt-to read (k .known) (k .good) ea ez (v .deals))
+      (v .takes ∙ ap (λ l. notices.takes (room-of kind) (lane-of read kind l)) (lane-part r (k .known) ea ez))
+
+  pub takes-held : Holds kind (t .take) slot r r₁
+  unfolding places-held
+  takes-held = record {
+    takes = holds-takes;
+    adds = λ e.
+        let lane = w .means (notice-in kind) .deals .lane in
+        let started = k .answers .started (k .holds) in
+        let now = subst (λ (n : ℕ). lane-in n r₁ ≡ ys) e (lane-now r (k .known) ea ez (k .good .size) lane) in
+        let was = subst (λ (n : ℕ). midOf a (a + z - a) r ≡ lane-in n r) e (lane-part r (k .known) ea ez) in
+        rw (head-kept r (k .known) ea ez (k .good .size) lane, started, now, ← was) (w .adds e (k .holds));
+  }

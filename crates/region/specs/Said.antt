@@ -9,7 +9,7 @@ use lib.ListN.{length, getD, set, take, drop}
 use Rattle.model.specs.Limits.{header-length, identifier-length, idle-limit}
 use Rattle.model.specs.Records.{Settings}
 use Rattle.model.specs.Runs.{Run, Piece, empty-run}
-use Rattle.model.specs.Kinds.{kinds, room-of}
+use Rattle.model.specs.Kinds.{kinds, tightenings, room-of}
 use Rattle.model.specs.Events.{Notice}
 use Rattle.model.specs.Notices.{Subscription, unsubscribed, is-subscribed, Deed, act}
 use Rattle.model.specs.Messages as model-messages
@@ -38,7 +38,7 @@ use Rattle.lane.specs.Lane.{Reading, control-of, open-one, any, is-told, is-hel
 use Rattle.run.specs.Area.{run-of}
 use Rattle.head.specs.Head.{head-of}
 use Rattle.region.specs.Region.{head-area, run-area, lane-in, subscriptions-in, subscription-in, session-of, Good, run-bytes}
-use Rattle.region.specs.Region.{Changes}
+use Rattle.region.specs.Region.{places-held, Changes}
 use Rattle.region.specs.declared.Ticked.{Ticked}
 use Rattle.region.specs.declared.Ended.{Ended}
 
@@ -139,6 +139,11 @@ pub record Taking (kind : ℕ) (t : Taken) (slot r : List ℕ) : Type 0 where
   pub holds : is-held (t .take) ≡ true
   pub size : length slot ≡ slot-size kind
   pub formed : slot-formed kind slot ≡ true
+
+-- it is held so, where the slot means it, whatever the slots mean; and of a kind that is placed that place is held behind the others
+pub record Holds (kind : ℕ) (t : Take) (slot r r′ : List ℕ) : Type 0 where
+  pub takes : (read : Reading) (p : List ℕ) → read kind slot ≡ notice-in kind p → Takes read kind p r t r′
+  pub adds : kind ≡ tightenings → places-held r′ ≡ places-held r ++ slot
 
 -- ==== the end of a run
 

@@ -2,8 +2,8 @@
 // done here changes the region and nothing else, and tells by value what is then to be said.
 ghost use mathlib.Core.Path.{_≡_};
 ghost use mathlib.Core.Bool.{Bool, false, cond};
-ghost use mathlib.Core.List.{List, map};
-ghost use Prim.Native.Nat.{ℕ, _≤_, _<_};
+ghost use mathlib.Core.List.{map};
+ghost use Prim.Native.Nat.{_≤_, _<_};
 ghost use lib.ListN.{length};
 ghost use Rattle.model.specs.Limits.{run-kept, identifier-length, idle-limit};
 ghost use Rattle.model.specs.Bytes.{all, padded};
@@ -11,7 +11,6 @@ ghost use Rattle.model.specs.Runs.{empty-run, longer};
 ghost use Rattle.model.specs.Kinds.{kinds};
 ghost use Rattle.model.specs.Notices.{is-subscribed, beats};
 ghost use Rattle.model.specs.Session.{closed, fresh, is-closed as is-closed-session, no-subscriptions};
-ghost use Rattle.frame.specs.Places.{notice-in};
 ghost use Rattle.session.specs.Meaning.{deed-of};
 ghost use Rattle.session.specs.declared.Take.the-variants.{Not};
 ghost use Rattle.session.specs.Decisions.{is-started as is-started-so};
@@ -23,7 +22,7 @@ ghost use Rattle.lane.specs.Lane.{Reading, lane-formed};
 ghost use Rattle.region.specs.Region.{region-size, head-area, run-area, lane-at as lane-begins, lanes, lane-in, subscriptions-in};
 ghost use Rattle.region.specs.Region.{session-of, region-formed, Good, run-bytes as bytes-of-run, Becomes, Changes, LanesCleared};
 ghost use Rattle.region.specs.Region.{places-held};
-ghost use Rattle.region.specs.Said.{DealtTo, DealtToAll, TickStays, Ticks, Answers, Taking, Takes};
+ghost use Rattle.region.specs.Said.{DealtTo, DealtToAll, TickStays, Ticks, Answers, Taking, Holds};
 ghost use Rattle.region.specs.Said.{StandsSo, Ruled, CarryingOut, CarriesOut, ended-by, EndingWhole, RunEnds, KeptEnds};
 use message::Common;
 use message::Standing;
@@ -310,8 +309,7 @@ pub fn taking(region: &[u8], kind: usize) -> Taken
 // Its notice is held so: `slot` is what is kept of it, which means that notice to whoever reads it.
 pub fn take(region: &mut [u8], kind: usize, taken: Taken, slot: &[u8])
     requires { ⌜ Taking kind taken (now slot) (now region) ⌝ }
-    ensures { λ _. ⌜ ((read : Reading) (p : List ℕ) → read kind (now (slot .entry)) ≡ notice-in kind p
-        → Takes read kind p (now (region .entry)) (taken .take) (now (region .exit))) ⌝ }
+    ensures { λ _. ⌜ Holds kind (taken .take) (now (slot .entry)) (now (region .entry)) (now (region .exit)) ⌝ }
 {
     let a = lane_at(kind);
     let e = a + lane::size(kind);

@@ -19,22 +19,22 @@ use Rattle.frame.specs.Places.{event-in, notice-in}
 use Rattle.frame.specs.declared.To.{To}
 use Rattle.frame.specs.declared.Asked.{Asked}
 use Rattle.session.specs.Effects.{out-bytes}
-use Rattle.places.specs.Places.{place-in}
+use Rattle.places.specs.Places.{place-count, place-in}
 use Rattle.session.specs.declared.Take.{Take}
 use Rattle.lane.specs.Lane.{Reading}
 use Rattle.shared.specs.Shared.{settings-part}
-use Rattle.region.specs.Region.{session-of, subscription-in, Good}
+use Rattle.region.specs.Region.{session-of, subscription-in, places-held, Good}
 use Rattle.region.specs.Said.{copies-out, Ticks, tick-said, Takes, event-said}
 use Rattle.region.specs.declared.Ticked.{Ticked}
 use Rattle.table.specs.Table.{shared-area, region-in, reading-in, decode, settings-in, Becomes, Went}
 use Rattle.table.specs.Says.{Lent, DueLent, asked-in}
-use Rattle.table.specs.Passes.{Last, AskedLent, Copies, Stands, kept-by, KeepLent, Keeps, EventLent, TellsOne}
+use Rattle.table.specs.Passes.{Last, AskedLent, Copies, Stands, Adds, no-more, kept-by, KeepLent, Keeps, EventLent, TellsOne}
 use Rattle.table.specs.declared.Copied.{Copied}
 use Rattle.table.specs.declared.Took.{Took}
 use Rattle.table.specs.declared.Next.{Next}
 use Rattle.table.specs.declared.Kept.{Kept}
 use Rattle.table.proofs.Regions.{part, put, part-in, part-is, put-in, put-means, put-settings, put-same-to-all, put-places}
-use Rattle.table.proofs.Regions.{put-reading, so-many-sessions}
+use Rattle.table.proofs.Regions.{put-reading, put-other, so-many-sessions}
 use Rattle.table.proofs.Alone.{went-one, went-alone, became-alone, stayed-alone, by-settings}
 use Rattle.table.proofs.Events.{becomes-then}
 use Rattle.table.proofs.Says.{copy-said}
@@ -83,7 +83,8 @@ module _ {t o : List ℕ} {to : To} (l : Lent t o to (copies-most kinds)) {ticke
 
 -- it was taken so, where t₁ means what t means
 module _ {t : List ℕ} {s kind : ℕ} {p t₁ r : List ℕ} {take : Take} (few : s < session-count) (b : Becomes t (decode t) t₁)
-    (same : shared-area t₁ ≡ shared-area t) (w : Takes (reading-in t₁) kind p (part t₁ s) take r) where
+    (same : shared-area t₁ ≡ shared-area t) (regions : (j : ℕ) → j < session-count → region-in j t₁ ≡ region-in j t)
+    (w : Takes (reading-in t₁) kind p (part t₁ s) take r) where
   abbrev t₂ : List ℕ
   t₂ = put t₁ s r
 
@@ -102,9 +103,9 @@ module _ {t : List ℕ} {s kind : ℕ} {p t₁ r : List ℕ} {take : Take} (few 
   sees : session-at (decode t) s ≡ session-of (reading-in t₁) (part t₁ s)
   sees = ap (λ (v : World). session-at v s) (sym (b .meaning)) ∙ part-is t₁ s few
 
-  pub kept-so : {place : ℕ} → (kind ≡ tightenings → Stands t₁ p place)
-      → Keeps t s kind p (kept-by take place) t₂
-  kept-so {place} stands = record {
+  pub kept-so : {before place : ℕ} → (kind ≡ tightenings → Stands t₁ p place) → (before < place-count → place ≡ before)
+      → (kind ≡ tightenings → Adds (places-held (part t₁ s)) place (places-held r)) → Keeps t s kind p before (kept-by take place) t₂
+  kept-so {place = place} stands still adds = record {
     becomes = becomes-then (λ (v : World). uncounted (next v (to-one s (event (event-in kind p))))) b
         (became-alone t₁ s (event (event-in kind p)) (b .table) few r (w .good)
         (ap (λ (z : Session × List Emission). z .0) (sym steps-so)));
@@ -121,12 +122,15 @@ module _ {t : List ℕ} {s kind : ℕ} {p t₁ r : List ℕ} {take : Take} (few 
         )
         (ap (λ (z : Session × List Emission). z .1) steps-so);
     stands = λ e h. ap (place-in place) (put-places t₁ s r (b .table .size) few (w .good .size)) ∙ stands e h;
+    same = still;
+    adds = λ e. rw (there-now, ← regions s few, ← part-in t₁ s) (adds e);
+    others = λ j k ne. ap places-held (put-other t₁ s r (b .table .size) few (w .good .size) j k ne ∙ regions j k);
   }
 
 -- it is not held: the table is as it was
 pub kept-not : {t : List ℕ} {s kind : ℕ} {p : List ℕ} {take : Take} {place : ℕ} → KeepLent t s kind p place
     → Takes (reading-in t) kind p (part t s) take (part t s)
-    → Keeps t s kind p (kept-by take place) t
+    → Keeps t s kind p place (kept-by take place) t
 kept-not {t} {s} {kind} {p} {take} k w =
     let steps : step (decode t .shared) (event (event-in kind p)) (session-of (reading-in t) (part t s))
     ≡ (session-of (reading-in t) (part t s), event-said (reading-in t) (settings-in t) kind p take (part t s)) =
@@ -139,10 +143,13 @@ kept-not {t} {s} {kind} {p} {take} k w =
       ready = λ q. rw (← part-in t s) (w .ready q);
       says = rw (part-is t s (k .session), ← part-in t s) (ap (λ (z : Session × List Emission). z .1) steps);
       stands = k .stands;
+      same = λ h. refl;
+      adds = λ e. no-more;
+      others = λ j h ne. refl;
     }
 
 module _ {t o : List ℕ} {n : Next} {kind : ℕ} {p : List ℕ} (e : EventLent t o n kind p) {k : Kept} {t₁ : List ℕ}
-    (w : Keeps t (n .to .session) kind p k t₁) where
+    (w : Keeps t (n .to .session) kind p (n .place) k t₁) where
   -- what was written last is so by the settings, which are as they were
   last-still : Last (settings-in t₁) kind p (n .copied) (n .to .at) o
   last-still = rw (w .settings) (e .last)
@@ -167,7 +174,7 @@ module _ {t o : List ℕ} {n : Next} {kind : ℕ} {p : List ℕ} (e : EventLent 
   told-one : {next : ℕ} {o′ : List ℕ} (c′ : Copied) → next ≤ n .to .at + copy-most (kind-at kind)
       → Put o (n .to .at) (out-bytes (n .to .session) (cond (k .tell) (copies-out (settings-in t) kind
       (subscription-in (reading-in t₁) kind (region-in (n .to .session) t₁)) (notice-in kind p ∷ [])) [])) next o′
-      → Last (settings-in t₁) kind p c′ next o′ → TellsOne t o (n .to) kind p (took next c′) t₁ o′
+      → Last (settings-in t₁) kind p c′ next o′ → TellsOne t o n kind p (took next c′) t₁ o′
   told-one c′ within v last =
       let few : n .to .session < length (decode t .sessions) = rw (so-many-sessions t) (e .lent .session) in
       record {
@@ -177,15 +184,18 @@ module _ {t o : List ℕ} {n : Next} {kind : ℕ} {p : List ℕ} (e : EventLent 
             (rw (emits-to (decode t) (n .to .session) (event (event-in kind p)) few, w .says) v);
         last = last;
         stands = w .stands;
+        same = w .same;
+        adds = w .adds;
+        others = w .others;
       }
 
   -- nothing went out: what was written last still is
-  pub told-nothing : k .tell ≡ false → TellsOne t o (n .to) kind p (took (n .to .at) (n .copied)) t₁ o
+  pub told-nothing : k .tell ≡ false → TellsOne t o n kind p (took (n .to .at) (n .copied)) t₁ o
   told-nothing b = told-one (n .copied) (omega arith) (rw b (put-nothing o (n .to .at))) last-still
 
   -- a copy went out: it is the last
   pub told-copy : {next : ℕ} {o′ : List ℕ} {asked : Asked} → k .tell ≡ true → asked ≡ asked-in kind (region-in (n .to .session) t₁)
-      → Copies (settings-in t₁) asked p (n .to) o next o′ → TellsOne t o (n .to) kind p (took next (copied-so (n .to .at) asked)) t₁ o′
+      → Copies (settings-in t₁) asked p (n .to) o next o′ → TellsOne t o n kind p (took next (copied-so (n .to .at) asked)) t₁ o′
   told-copy b q v =
       let u = rw q at v in
       rw q (told-one (copied-so (n .to .at) (asked-in kind (region-in (n .to .session) t₁))) (u .within)

@@ -2,10 +2,11 @@
 use mathlib.Core.Path.{_≡_, refl, sym, ap, subst, _∙_, fun-ext}
 use Prim.Native.Nat.{ℕ, _+_, _-_, _*_, _≤_, _<_}
 use native.Mathlib.Omega.{arith}
-use mathlib.Core.Bool.{Bool, true, cond}
-use mathlib.Core.List.{List, []}
+use mathlib.Core.Bool.{Bool, true, false, cond}
+use mathlib.Core.List.{List, [], _∷_, _++_}
 use lib.ListN.{length, getD, drop, replicate, drop-of-length-le}
-use borrow.Author.Tests.{ne-eqb}
+use lib.Dec.{eqb}
+use borrow.Author.Tests.{ne-eqb, eqb-true, eqb-false}
 use Rattle.model.specs.Limits.{session-count}
 use Rattle.model.specs.Kinds.{tightenings}
 use Rattle.text.proofs.Lists.{drop-next, all-at}
@@ -17,7 +18,9 @@ use Rattle.lane.specs.Kinds.{most}
 use Rattle.region.specs.Region.{region-size, region-formed, session-of, places-held, Good}
 use Rattle.region.proofs.Places.{Agree, areas-alike, same-session, holds-few}
 use Rattle.table.specs.Table.{places-area, region-at, region-in, regions, reading, reading-in, decode, Table}
-use Rattle.table.specs.Passes.{Stands, Roomy, StandLent, Stood}
+use Rattle.table.specs.Passes.{Stands, Adds, no-more, one-more, held-by, Roomy, StandLent, Stood, TellsOne, OneCopy, Notes}
+use Rattle.table.specs.declared.Next.{Next}
+use Rattle.table.specs.declared.Took.{Took}
 use Rattle.table.proofs.Regions.{part-in, part-good, length-regions, region-read, formed-parts, becomes-of, holds-as-before}
 use Rattle.table.proofs.Regions.{length-places, middle, middle-size, middle-past, middle-shared, middle-places, middle-region}
 use Rattle.table.proofs.Regions.{middle-regions}
@@ -86,10 +89,11 @@ module _ (t : List ℕ) (h : Table t) where
     none-holds s k =
         ap (lacks q) (sym (holds-at s k)) ∙ all-at (lacks q) (each-holds t) s [] free (rw (length-regions places-held t) k)
 
-    pub put-there : Stood t p q (middle t a)
+    pub put-there : {place : ℕ} → place-count ≤ place → Stood t p place q (middle t a)
     unfolding decode
-    put-there = record {
-      place = few;
+    put-there none = record {
+      there = few;
+      same = λ some. absurd (omega arith);
       stands = ap (place-in q) (middle-places t a (h .size) long) ∙ w .there;
       becomes = becomes-of (h .size) (middle-size t a (h .size) long) (middle-past t a (h .size) long)
           (holds-as-before t (middle t a) h (middle-shared t a (h .size) long))
@@ -104,9 +108,10 @@ module _ (t : List ℕ) (h : Table t) where
     }
 
   -- it stands in one already
-  pub stands-there : {p : List ℕ} {q : ℕ} → q < place-count → Stands t p q → Stood t p q t
+  pub stands-there : {p : List ℕ} {q : ℕ} → q < place-count → Stands t p q → Stood t p q q t
   stands-there few s = record {
-    place = few;
+    there = few;
+    same = λ some. refl;
     stands = s few;
     becomes = record { table = h; size = refl; past = refl; meaning = refl };
     shared = refl;
@@ -115,3 +120,48 @@ module _ (t : List ℕ) (h : Table t) where
 
 pub putting : {t p : List ℕ} {place q : ℕ} → StandLent t p place → q < place-count → Putting q p (places-area t)
 putting {t} k few = record { size = length-places t (k .table .size); place = few; whole = k .result }
+
+-- ==== one copy, session by session
+
+adds-still : {held : List ℕ} {place q : ℕ} {after : List ℕ} → (place < place-count → q ≡ place) → Adds held place after → Adds held q after
+adds-still same no-more = no-more
+adds-still {held} {place} {q} same (one-more few) =
+    subst (λ (z : ℕ). Adds held q (held ++ (z ∷ []))) (same few) (one-more (rw (same few) few))
+
+module _ (kind : ℕ) (t₀ : List ℕ) where
+  -- those before s have had their turn, and those from s on hold what they held
+  pub record Copying (t : List ℕ) (place s : ℕ) : Type 0 where
+    pub before : kind ≡ tightenings → (j : ℕ) → j < s → Adds (held-by j t₀) place (held-by j t)
+    pub from : (j : ℕ) → s ≤ j → j < session-count → held-by j t ≡ held-by j t₀
+
+  pub copying-none : (place : ℕ) → Copying t₀ place 0
+  copying-none place = record { before = λ e j h. absurd (omega arith); from = λ j h k. refl }
+
+  pub copying-next : {t o t₁ o₁ : List ℕ} {n : Next} {p : List ℕ} {r : Took} → n .to .session < session-count
+      → Copying t (n .place) (n .to .session) → TellsOne t o n kind p r t₁ o₁ → Copying t₁ (r .place) (n .to .session + 1)
+  copying-next {t} {t₁ = t₁} {n = n} {r = r} few w v = record {
+    before = λ e j h. turn e j h (eqb j (n .to .session)) refl;
+    from = λ j h k. v .others j k (λ z. omega arith) ∙ w .from j (omega arith) k;
+  }
+    where
+      turn : kind ≡ tightenings → (j : ℕ) → j < n .to .session + 1 → (b : Bool) → eqb j (n .to .session) ≡ b
+          → Adds (held-by j t₀) (r .place) (held-by j t₁)
+      turn e j h true q =
+          let z = eqb-true j (n .to .session) q in
+          subst (λ (i : ℕ). Adds (held-by i t₀) (r .place) (held-by i t₁)) (sym z)
+          (subst (λ (ps : List ℕ). Adds ps (r .place) (held-by (n .to .session) t₁)) (w .from (n .to .session) (omega arith) few)
+          (v .adds e))
+      turn e j h false q =
+          let ne = eqb-false j (n .to .session) q in
+          let less : j < n .to .session = omega (arith, ne) in
+          subst (Adds (held-by j t₀) (r .place)) (sym (v .others j (omega arith) ne)) (adds-still (v .same) (w .before e j less))
+
+  pub copied-all : {t : List ℕ} {place s : ℕ} → session-count ≤ s → Copying t place s → OneCopy kind t₀ t
+  copied-all {place = place} h w = record { place = place; each = λ e j k. w .before e j (omega arith) }
+
+  -- and behind what is left to all
+  pub copied-then : {t t₁ p : List ℕ} → OneCopy kind t₀ t → Notes t kind p t₁ → OneCopy kind t₀ t₁
+  copied-then w v = record {
+    place = w .place;
+    each = λ e s k. subst (λ (r : List ℕ). Adds (held-by s t₀) (w .place) (places-held r)) (sym (v .regions s)) (w .each e s k);
+  }

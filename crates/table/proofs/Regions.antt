@@ -4,10 +4,10 @@ use Prim.Native.Nat.{ℕ, _+_, _-_, _≤_, _<_}
 use native.Mathlib.Nat.{add-sub-cancel-left}
 use native.Mathlib.Omega.{arith}
 use mathlib.Core.Bool.{Bool, true, false, and-eq-true-iff}
-use mathlib.Core.List.{List}
+use mathlib.Core.List.{List, []}
 use lib.Dec.{lit≤}
 use lib.ListN.{length, getD, set, drop, replicate, length-drop}
-use lib.Seq.{drop-drop, length-take-le}
+use lib.Seq.{drop-drop, length-take-le, getD-set-other}
 use borrow.Rule.Slice.PartMut.{putMid, midOf, mid-len, same-len-mid}
 use Rattle.model.specs.Limits.{session-count, table-least, identifier-length}
 use Rattle.model.specs.Bytes.{all}
@@ -196,6 +196,13 @@ module _ (t : List ℕ) (s : ℕ) (ys : List ℕ) (long : table-least ≤ length
   pub put-in : region-in s (put t s ys) ≡ ys
   put-in = sym (part-in (put t s ys) s) ∙ put-same
 
+  -- and the others as they stood
+  pub put-other : (j : ℕ) → j < session-count → (j ≡ s → ⊥) → region-in j (put t s ys) ≡ region-in j t
+  put-other j few ne =
+      sym (region-read (λ r. r) (put t s ys) j [] few ∙ part-in (put t s ys) j)
+      ∙ ap (λ (l : List (List ℕ)). getD l j []) (put-regions (λ r. r))
+      ∙ getD-set-other (regions (λ r. r) t) s j ys [] ne ∙ region-read (λ r. r) t j [] few ∙ part-in t j
+
 -- ==== what is shared was replaced
 
 abbrev pub front : List ℕ → List ℕ → List ℕ
@@ -218,6 +225,9 @@ module _ (t ys : List ℕ) (long : table-least ≤ length t) (len : length ys �
   front-regions f =
       areas-same (λ (s : ℕ). f) region-at (λ (s : ℕ). region-size) t (front t ys) 0 session-count
       (λ j p q. area-after 0 shared-size t ys len front-fits (region-at j) region-size (omega arith))
+
+  pub front-region : (s : ℕ) → region-in s (front t ys) ≡ region-in s t
+  front-region s = area-after 0 shared-size t ys len front-fits (region-at s) region-size (omega arith)
 
   pub front-places : places-area (front t ys) ≡ places-area t
   front-places = area-after 0 shared-size t ys len front-fits shared-size places-size (omega arith)

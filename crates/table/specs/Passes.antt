@@ -2,7 +2,7 @@
 use mathlib.Core.Path.{_≡_}
 use Prim.Native.Nat.{ℕ, suc, _+_, _^_, _≤_, _<_}
 use mathlib.Core.Bool.{true, false, cond}
-use mathlib.Core.List.{List, [], _∷_}
+use mathlib.Core.List.{List, [], _∷_, _++_}
 use mathlib.Core.Option.{Option·map as option-map}
 use lib.ListN.{length}
 use Rattle.model.specs.Limits.{session-count}
@@ -28,7 +28,7 @@ use Rattle.session.specs.declared.Take.{Take}
 use Rattle.session.specs.declared.Taken.{Taken}
 use Rattle.region.specs.Region.{places-held, subscription-in}
 use Rattle.region.specs.Said.{copies-out, Answers, ending, Knows}
-use Rattle.table.specs.Table.{shared-area, places-area, region-in, reading-in, decode, settings-in, Table, Becomes, Went}
+use Rattle.table.specs.Table.{shared-area, places-area, region-in, reading-in, decode, settings-in, Table, Becomes, noted, Went}
 use Rattle.table.specs.Says.{Lent}
 use Rattle.table.specs.declared.Copied.{Copied}
 use Rattle.table.specs.declared.Next.{Next}
@@ -75,11 +75,20 @@ pub record Copies (st : Settings) (asked : Asked) (p : List ℕ) (to : To) (o : 
 abbrev pub Stands : List ℕ → List ℕ → ℕ → Type 0
 Stands t p place = place < place-count → place-in place (places-area t) ≡ p
 
+-- the places that a session holds when an event has come to it: those that it held, or behind them the one that is told
+pub data Adds (held : List ℕ) (place : ℕ) : List ℕ → Type 0 where
+  no-more : Adds held place held
+  one-more : place < place-count → Adds held place (held ++ (place ∷ []))
+
+-- what it holds of them
+abbrev pub held-by : ℕ → List ℕ → List ℕ
+held-by s t = places-held (region-in s t)
+
 -- a session is to hold one more: it holds fewer than it may
 pub record Roomy (t : List ℕ) : Type 0 where
   pub session : ℕ
   pub there : session < session-count
-  pub fewer : length (places-held (region-in session t)) < most tightenings
+  pub fewer : length (held-by session t) < most tightenings
 
 -- what stand asks for
 pub record StandLent (t p : List ℕ) (place : ℕ) : Type 0 where
@@ -88,9 +97,10 @@ pub record StandLent (t p : List ℕ) (place : ℕ) : Type 0 where
   pub stands : Stands t p place
   pub room : Roomy t
 
--- p stands in the place, and nothing else has another meaning
-pub record Stood (t p : List ℕ) (q : ℕ) (t′ : List ℕ) : Type 0 where
-  pub place : q < place-count
+-- p stands in the place q, where it stood if it did, and nothing else has another meaning
+pub record Stood (t p : List ℕ) (place q : ℕ) (t′ : List ℕ) : Type 0 where
+  pub there : q < place-count
+  pub same : place < place-count → q ≡ place
   pub stands : place-in q (places-area t′) ≡ p
   pub becomes : Becomes t (decode t) t′
   pub shared : shared-area t′ ≡ shared-area t
@@ -117,8 +127,9 @@ pub record KeepLent (t : List ℕ) (s kind : ℕ) (p : List ℕ) (place : ℕ) :
 abbrev pub kept-by : Take → ℕ → Kept
 kept-by t place = record { taken = is-taken t; tell = is-told t; place = place }
 
--- the session took it, or not, and it is to be sent, or not; and what is then to be said
-pub record Keeps (t : List ℕ) (s kind : ℕ) (p : List ℕ) (k : Kept) (t′ : List ℕ) : Type 0 where
+-- the session took it, or not, and it is to be sent, or not; and what is then to be said. A result that it holds it holds in the place
+-- where it stands, which is no other than it was
+pub record Keeps (t : List ℕ) (s kind : ℕ) (p : List ℕ) (place : ℕ) (k : Kept) (t′ : List ℕ) : Type 0 where
   pub becomes : Becomes t (uncounted (next (decode t) (to-one s (event (event-in kind p))))) t′
   pub settings : settings-in t′ ≡ settings-in t
   pub takes : k .taken ≡ takes kind (session-at (decode t) s)
@@ -126,6 +137,9 @@ pub record Keeps (t : List ℕ) (s kind : ℕ) (p : List ℕ) (k : Kept) (t′ :
   pub says : (step (decode t .shared) (event (event-in kind p)) (session-at (decode t) s)) .1
       ≡ cond (k .tell) (copies-out (settings-in t) kind (subscription-in (reading-in t′) kind (region-in s t′)) (notice-in kind p ∷ [])) []
   pub stands : kind ≡ tightenings → Stands t′ p (k .place)
+  pub same : place < place-count → k .place ≡ place
+  pub adds : kind ≡ tightenings → Adds (held-by s t) (k .place) (held-by s t′)
+  pub others : (j : ℕ) → j < session-count → (j ≡ s → ⊥) → held-by j t′ ≡ held-by j t
 
 -- for the event, to one session, with an output
 pub record EventLent (t o : List ℕ) (next : Next) (kind : ℕ) (p : List ℕ) : Type 0 where
@@ -140,12 +154,20 @@ abbrev pub copied-by : Took → Copied
 copied-by r = record { from = r .from; revision = r .revision; «no_acknowledge» = r .«no_acknowledge» }
 
 -- to one session
-pub record TellsOne (t o : List ℕ) (to : To) (kind : ℕ) (p : List ℕ) (r : Took) (t′ o′ : List ℕ) : Type 0 where
-  pub within : r .at ≤ to .at + copy-most (kind-at kind)
-  pub takes : r .taken ≡ takes kind (session-at (decode t) (to .session))
-  pub went : Went t o (to .at) (to-one (to .session) (event (event-in kind p)) ∷ []) (r .at) t′ o′
+pub record TellsOne (t o : List ℕ) (n : Next) (kind : ℕ) (p : List ℕ) (r : Took) (t′ o′ : List ℕ) : Type 0 where
+  pub within : r .at ≤ n .to .at + copy-most (kind-at kind)
+  pub takes : r .taken ≡ takes kind (session-at (decode t) (n .to .session))
+  pub went : Went t o (n .to .at) (to-one (n .to .session) (event (event-in kind p)) ∷ []) (r .at) t′ o′
   pub last : Last (settings-in t′) kind p (copied-by r) (r .at) o′
   pub stands : kind ≡ tightenings → Stands t′ p (r .place)
+  pub same : n .place < place-count → r .place ≡ n .place
+  pub adds : kind ≡ tightenings → Adds (held-by (n .to .session) t) (r .place) (held-by (n .to .session) t′)
+  pub others : (j : ℕ) → j < session-count → (j ≡ n .to .session → ⊥) → held-by j t′ ≡ held-by j t
+
+-- 02, P7: one copy of a result that came: each session holds what it held, or behind it one place, which is the same for all of them
+pub record OneCopy (kind : ℕ) (t t′ : List ℕ) : Type 0 where
+  pub place : ℕ
+  pub each : kind ≡ tightenings → (s : ℕ) → s < session-count → Adds (held-by s t) place (held-by s t′)
 
 -- to every session
 pub record Tells (t o : List ℕ) (at kind : ℕ) (p : List ℕ) (r : Told) (t′ o′ : List ℕ) : Type 0 where
@@ -153,6 +175,12 @@ pub record Tells (t o : List ℕ) (at kind : ℕ) (p : List ℕ) (r : Told) (t�
   pub taken : r .taken ≡ takers kind 0 (decode t .sessions)
   pub becomes : Becomes t (next (decode t) (to-all (event (event-in kind p)))) t′
   pub bytes : Put o at (output (emits (decode t) (to-all (event (event-in kind p))))) (r .at) o′
+  pub one-copy : OneCopy kind t t′
+
+-- what it leaves to all sessions, whose regions are as they were
+pub record Notes (t : List ℕ) (kind : ℕ) (p t′ : List ℕ) : Type 0 where
+  pub becomes : Becomes t (noted (decode t) (event-in kind p)) t′
+  pub regions : (s : ℕ) → region-in s t′ ≡ region-in s t
 
 -- and to what all share
 pub record Happens (t o : List ℕ) (at kind : ℕ) (p : List ℕ) (r : Told) (t′ o′ : List ℕ) : Type 0 where
@@ -160,6 +188,7 @@ pub record Happens (t o : List ℕ) (at kind : ℕ) (p : List ℕ) (r : Told) (t
   pub went : Went t o at (happens (event-in kind p) ∷ []) (r .at) t′ o′
   pub taken : r .taken ≡ takers kind 0 (decode t .sessions)
   pub few : r .taken < 2 ^ session-count
+  pub one-copy : OneCopy kind t t′
 
 -- ==== received bytes
 

@@ -11,7 +11,7 @@ ghost use Rattle.model.specs.Runs.{cut};
 ghost use Rattle.model.specs.Session.{is-closed as is-closed-session};
 ghost use Rattle.model.specs.Local.{tick as one-tick};
 ghost use Rattle.model.specs.World.{session-at, begun, uncounted, to as to-one, opens, hangs-up, hears, ticks, next};
-ghost use Rattle.frame.specs.Places.{event-in, notice-in};
+ghost use Rattle.frame.specs.Places.{notice-in};
 ghost use Rattle.run.specs.Area.{Ends};
 ghost use Rattle.places.specs.Places.{place-count};
 ghost use Rattle.places.specs.Free.{is-free};
@@ -21,11 +21,11 @@ ghost use Rattle.region.specs.Said.{copies-out, due-copy, due-copies, ending, S
 ghost use Rattle.shared.specs.Shared.{settings-part};
 ghost use Rattle.table.specs.Table.{shared-area, places-area, region-in, regions, kept-in, reading-in, decode, settings-in};
 ghost use Rattle.table.specs.Table.{table-formed, Table, Openable, Becomes};
-ghost use Rattle.table.specs.Table.{noted, WentUpTo};
+ghost use Rattle.table.specs.Table.{WentUpTo};
 ghost use Rattle.table.specs.Says.{Lent, Wrote, CopyLent, OpenLent, DueLent, EndLent, subscription-to, subscriptions-to};
 ghost use Rattle.table.specs.Says.{Asking, Opened, asked-in, told-by as told-so};
 ghost use Rattle.table.specs.Passes.{EventTo, Repeats, AskedLent, Copies, EventLent, TellsOne, Tells, Happens, Hears, unended};
-ghost use Rattle.table.specs.Passes.{Roomy, StandLent, Stood, PlacedLent, kept-by, KeepLent, Keeps};
+ghost use Rattle.table.specs.Passes.{Roomy, StandLent, Stood, PlacedLent, kept-by, KeepLent, Keeps, Notes};
 ghost use Rattle.table.specs.Passes.{Received};
 use frame::Asked;
 use frame::To;
@@ -344,7 +344,7 @@ fn free_place(table: &[u8]) -> usize
 // A result that a session is to hold stands in a place: the one where it stands already, or one that is free.
 fn stand(table: &mut [u8], result: &[u8], place: usize) -> usize
     requires { ⌜ StandLent (now table) (now result) place ⌝ }
-    ensures { λ r. ⌜ Stood (now (table .entry)) (now (result .entry)) r (now (table .exit)) ⌝ }
+    ensures { λ r. ⌜ Stood (now (table .entry)) (now (result .entry)) place r (now (table .exit)) ⌝ }
 {
     if place < places::COUNT {
         return place;
@@ -364,7 +364,8 @@ struct Kept {
 // A tightening of which that becomes, to one session, which holds its place: where it stands then.
 fn keep_placed(table: &mut [u8], s: u64, taken: Taken, result: &[u8], place: usize) -> usize
     requires { ⌜ PlacedLent (now table) s taken (now result) place ⌝ }
-    ensures { λ r. ⌜ Keeps (now (table .entry)) s tightenings (now (result .entry)) (kept-by (taken .take) r) (now (table .exit)) ⌝ }
+    ensures { λ r. ⌜ Keeps (now (table .entry)) s tightenings (now (result .entry)) place (kept-by (taken .take) r)
+        (now (table .exit)) ⌝ }
 {
     let stands = stand(table, result, place);
     let slot = [stands as u8];
@@ -376,7 +377,7 @@ fn keep_placed(table: &mut [u8], s: u64, taken: Taken, result: &[u8], place: usi
 // An event of that kind, to one session, which holds its notice or does not.
 fn keep(table: &mut [u8], s: u64, kind: usize, notice: &[u8], place: usize) -> Kept
     requires { ⌜ KeepLent (now table) s kind (now notice) place ⌝ }
-    ensures { λ r. ⌜ Keeps (now (table .entry)) s kind (now (notice .entry)) r (now (table .exit)) ⌝ }
+    ensures { λ r. ⌜ Keeps (now (table .entry)) s kind (now (notice .entry)) place r (now (table .exit)) ⌝ }
 {
     let taken = region::taking(region_of(table, s), kind);
     let take = taken.take;
@@ -419,7 +420,7 @@ struct Took {
 // An event of that kind, to one session.
 fn tell_session(table: &mut [u8], out: &mut [u8], next: Next, kind: usize, notice: &[u8]) -> Took
     requires { ⌜ EventLent (now table) (now out) next kind (now notice) ⌝ }
-    ensures { λ r. ⌜ TellsOne (now (table .entry)) (now (out .entry)) (next .to) kind (now (notice .entry)) r (now (table .exit))
+    ensures { λ r. ⌜ TellsOne (now (table .entry)) (now (out .entry)) next kind (now (notice .entry)) r (now (table .exit))
         (now (out .exit)) ⌝ }
 {
     let to = next.to;
@@ -490,8 +491,7 @@ fn tell(table: &mut [u8], out: &mut [u8], at: usize, kind: usize, notice: &[u8])
 // What the event leaves to all sessions: the identifier in force, or the last number and the tightening that has it; an alarm nothing.
 fn note(table: &mut [u8], kind: usize, notice: &[u8])
     requires { ⌜ EventTo (now table) kind (now notice) ⌝ }
-    ensures { λ _. ⌜ Becomes (now (table .entry)) (noted (decode (now (table .entry))) (event-in kind (now (notice .entry))))
-        (now (table .exit)) ⌝ }
+    ensures { λ _. ⌜ Notes (now (table .entry)) kind (now (notice .entry)) (now (table .exit)) ⌝ }
 {
     if kind == IDENTIFIERS {
         shared::put_in_force(&mut table[0..SHARED], notice);

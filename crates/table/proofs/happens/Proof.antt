@@ -5,6 +5,7 @@ use Rattle.frame.specs.Places.{event-in}
 use Rattle.table.specs.Table.{noted}
 use Rattle.table.proofs.Alone.{went-one}
 use Rattle.table.proofs.Events.{takers-below, still-to, becomes-then}
+use Rattle.table.proofs.Places.{copied-then}
 use Rattle.table.proofs.happens.Statement.{statement}
 use Rattle.table.proofs.happens.Tie as tie
 
@@ -17,9 +18,10 @@ returns c =
     record {
       within = e .within;
       went = went-one
-          (becomes-then (λ (w : World). noted w (event-in (a .kind) (a .notice .now))) (e .becomes) (n .note .ensures)) (e .bytes);
+          (becomes-then (λ (w : World). noted w (event-in (a .kind) (a .notice .now))) (e .becomes) (n .note .ensures .becomes)) (e .bytes);
       taken = e .taken;
       few = rw (e .taken) (takers-below (a .kind) (a .table .now));
+      one-copy = copied-then _ _ (e .one-copy) (n .note .ensures);
     }
 
 pub happens-spec : {M : Type 1} → statement M

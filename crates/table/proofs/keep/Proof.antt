@@ -82,9 +82,10 @@ returns-2 c =
     let p = s .args .notice .now in
     let e = ne-eqb (s .args .kind) tightenings (i .if2 .taken) in
     rw (n .is-taken .ensures, o .is-told .ensures)
-    (kept-so (s .pre .session) (record { table = s .pre .table; size = refl; past = refl; meaning = refl }) refl
-    (w .take .ensures (reading-in t) p
-    (ap (λ (b : Bool). notice-in (s .args .kind) (cond b (place-in (getD p 0 0) (places-area t)) p)) e)) (s .pre .stands))
+    (kept-so (s .pre .session) (record { table = s .pre .table; size = refl; past = refl; meaning = refl }) refl (λ j few. refl)
+    (w .take .ensures .takes (reading-in t) p
+    (ap (λ (b : Bool). notice-in (s .args .kind) (cond b (place-in (getD p 0 0) (places-area t)) p)) e)) (s .pre .stands) (λ h. refl)
+    (λ q. absurd (i .if2 .taken q)))
 
 keep-placed-requires : tie.Need-keep-placed-requires
 keep-placed-requires c κs =
@@ -113,7 +114,7 @@ returns-3 c =
     let k = n .before in
     let s = k .before .before .before .before .before in
     rw (n .is-taken .ensures, o .is-told .ensures)
-    (subst (λ (m : ℕ). Keeps (s .args .table .now) (s .args .s) m (s .args .notice .now)
+    (subst (λ (m : ℕ). Keeps (s .args .table .now) (s .args .s) m (s .args .notice .now) (s .args .place)
     (kept-by (k .taking .result .take) (w .keep-placed .result)) (w .keep-placed .last .0)) (sym (i .if2 .left)) (w .keep-placed .ensures))
 
 pub keep-spec : {M : Type 1} → statement M

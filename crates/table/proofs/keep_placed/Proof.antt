@@ -8,10 +8,12 @@ use native.Mathlib.Omega.{arith}
 use Rattle.model.specs.Kinds.{tightenings}
 use Rattle.frame.specs.Places.{notice-in}
 use Rattle.places.specs.Places.{place-count}
+use Rattle.region.specs.Region.{places-held}
 use Rattle.region.specs.Said.{Answers}
 use Rattle.region.proofs.Places.{holds-fewer}
 use Rattle.table.specs.Table.{reading-in}
-use Rattle.table.proofs.Regions.{part-in, part-good}
+use Rattle.table.specs.Passes.{Adds, one-more}
+use Rattle.table.proofs.Regions.{part, part-in, part-good}
 use Rattle.table.proofs.Passes.{kept-so}
 use Rattle.table.proofs.keep_placed.Statement.{statement}
 use Rattle.table.proofs.keep_placed.Tie as tie
@@ -41,7 +43,7 @@ take-requires c κs =
           (sym (part-in t₁ (s .args .s) ∙ o .regions (s .args .s) (p .session))) (p .answers);
       holds = p .holds;
       size = refl;
-      formed = lt-ltb (w .stand .result) place-count (o .place);
+      formed = lt-ltb (w .stand .result) place-count (o .there);
     }
 
 returns : tie.Need-returns
@@ -52,16 +54,17 @@ returns c =
     let p = s .pre in
     let o = w .stand .ensures in
     let t₁ = w .stand .last .0 in
-    kept-so (p .session) (o .becomes) (o .shared)
-    (k .take .ensures (reading-in t₁) (s .args .result .now) (ap (notice-in tightenings) (o .stands)))
-    (λ e h. o .stands)
+    let g = k .take .ensures in
+    kept-so (p .session) (o .becomes) (o .shared) (o .regions)
+    (g .takes (reading-in t₁) (s .args .result .now) (ap (notice-in tightenings) (o .stands))) (λ e h. o .stands) (o .same)
+    (λ e. subst (Adds (places-held (part t₁ (s .args .s))) (w .stand .result)) (sym (g .adds refl)) (one-more (o .there)))
 
 pub keep-placed-spec : {M : Type 1} → statement M
 keep-placed-spec =
     tie.close
     (tie.spec
     stand-requires
-    (λ c. let f = c .before .before .stand .ensures .place in search needs)
+    (λ c. let f = c .before .before .stand .ensures .there in search needs)
     (λ c. let f = c .before .before .before .before .before .before .pre .session in search needs)
     (λ c. let f = c .before .before .before .before .before .before .pre .session in search needs)
     (λ c. let f = c .before .before .before .before .before .before .pre .session in search needs)

@@ -1,10 +1,10 @@
 -- `table::note` meets its contract, by the kind.
 use borrow.Author.Needs.{needs}
-use mathlib.Core.Path.{_≡_, ap, _∙_}
+use mathlib.Core.Path.{_≡_, refl, ap, _∙_}
 use native.Mathlib.Omega.{arith}
 use Rattle.model.specs.Kinds.{tightenings}
 use Rattle.frame.specs.Places.{place-size}
-use Rattle.table.proofs.Regions.{shared-good}
+use Rattle.table.proofs.Regions.{shared-good, front-region}
 use Rattle.table.proofs.Events.{noted-identifier, comes-next, noted-tightening, noted-alarm}
 use Rattle.table.proofs.note.Statement.{statement}
 use Rattle.table.proofs.note.Tie as tie
@@ -24,12 +24,22 @@ note-spec =
     (λ c κs. let p = c .before .before .before .before .pre in (shared-good _ (p .table), p .place ∙ ap place-size (c .before .if1 .taken)))
     (λ c. search needs)
     (λ c. let k = c .before .before in let i = k .before .before in
-    noted-identifier _ _ _ _ (i .before .before .before .pre) (i .if1 .taken) (k .put-in-force .ensures))
-    (λ c. noted-alarm (c .before .before .before .before .pre) (c .if2 .taken))
+    let p = i .before .before .before .pre in
+    record {
+      becomes = noted-identifier _ _ _ _ p (i .if1 .taken) (k .put-in-force .ensures);
+      regions = front-region (i .before .before .before .args .table .now) (k .put-in-force .last .0) (p .table .size)
+          (k .put-in-force .ensures .area .size);
+    })
+    (λ c. record { becomes = noted-alarm (c .before .before .before .before .pre) (c .if2 .taken); regions = λ s. refl })
     (λ c. search needs)
     (λ c. search needs)
     (λ c. search needs)
     (λ c κs. let i = c .before in comes-next (i .before .before .before .before .pre) (tightening i))
     (λ c. search needs)
     (λ c. let k = c .before .before in let i = k .before .before in
-    noted-tightening _ _ _ _ (i .before .before .before .before .pre) (tightening i) (k .remember .ensures)))
+    let p = i .before .before .before .before .pre in
+    record {
+      becomes = noted-tightening _ _ _ _ p (tightening i) (k .remember .ensures);
+      regions = front-region (i .before .before .before .before .args .table .now) (k .remember .last .0) (p .table .size)
+          (k .remember .ensures .area .size);
+    }))

@@ -17,4 +17,4 @@ stand-spec =
     (λ c. search needs)
     (λ c. let w = c .before .before in let f = w .before .before in
     put-there _ (f .before .before .before .before .before .pre .table) (f .free-place .ensures .0) (f .free-place .ensures .1)
-    (w .put .ensures)))
+    (w .put .ensures) (f .before .before .if1 .left)))
