@@ -8,3 +8,4 @@ pub mod Outputs
 pub mod Modelled
 pub mod Uncut
 pub mod Layouts
+pub mod TableBefore
