@@ -1,6 +1,6 @@
--- 02, P7: a table that the program before that change left, byte by byte, and what the layout that is kept of it makes of these bytes: so
--- the figures of that layout are those of the program before.
-use Prim.Native.Nat.{ℕ, suc, _+_, _-_, _*_}
+-- 02, P7: a table that the program before that change left, byte by byte, and what the layout that is kept of it makes of these bytes: they
+-- hold the figures of that layout, which no program has any more, to what the program wrote.
+use Prim.Native.Nat.{ℕ, _+_, _-_, _*_}
 use mathlib.Core.Path.{_≡_, refl}
 use mathlib.Core.Bool.{Bool, true, false}
 use mathlib.Core.List.{List, [], _∷_, _++_, map}
