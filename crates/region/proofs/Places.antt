@@ -70,6 +70,11 @@ module _ (q : ℕ) (read other : Reading) (a : Agree q read other) (r : List ℕ
 
 -- ==== how many it holds
 
+-- 02, P7: one that is not started has none open or waiting
+pub none-held : (r : List ℕ) → is-started (head-of (head-area r) .phase) ≡ false → places-held r ≡ []
+unfolding places-held
+none-held r e = ap (λ (b : Bool). cond b (places-in (lane-in tightenings r)) []) e
+
 places-few : (l : List ℕ) (b : Bool) → control-of l .held ≤ most tightenings → length (cond b (places-in l) []) ≤ most tightenings
 unfolding places-in
 places-few l true h = rw (length-take (control-of l .held) (drop control-size l)) (omega arith)
