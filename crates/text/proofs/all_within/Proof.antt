@@ -9,31 +9,31 @@ use Rattle.text.proofs.Lists.{all_goes_on, all_stops, all_end}
 use Rattle.text.proofs.all_within.Statement.{statement}
 use Rattle.text.proofs.all_within.Tie as tie
 
-abbrev invariant-loop : tie.invariant-loop
+abbrev invariant-loop : tie.invariant-loop-i
 invariant-loop s least greatest i₀ i = all (within least greatest) (drop i s) ≡ all (within least greatest) s
 
-abbrev decreases-loop : tie.decreases-loop
+abbrev decreases-loop : tie.decreases-loop-i
 decreases-loop s least greatest i₀ i = length s - i
 
-returns : tie.Need-returns invariant-loop decreases-loop
+returns : tie.Need-returns-then-b-least invariant-loop decreases-loop
 returns c =
     let l = c.before.before.before in
-    all_stops _ _ _ c.before.before.loop-test.true (rw (lt-leb _ _ c.if1.true)) l.loop.invariant
+    all_stops _ _ _ c.before.before.loop-i-test.true (rw (lt-leb _ _ c.if-b-least.true)) l.loop-i.invariant
 
-returns-2 : tie.Need-returns-2 invariant-loop decreases-loop
+returns-2 : tie.Need-returns-then-b-greatest invariant-loop decreases-loop
 returns-2 c =
     let l = c.before.before.before.before in
-    all_stops _ _ _ c.before.before.before.loop-test.true (rw (le-leb _ _ c.before.if1.false, lt-leb _ _ c.if2.true))
-    l.loop.invariant
+    all_stops _ _ _ c.before.before.before.loop-i-test.true (rw (le-leb _ _ c.before.if-b-least.false, lt-leb _ _ c.if-b-greatest.true))
+    l.loop-i.invariant
 
-loop-again : tie.Need-loop-preserved invariant-loop decreases-loop
+loop-again : tie.Need-loop-i-preserved invariant-loop decreases-loop
 loop-again c =
     let l = c.before.before.before.before in
-    all_goes_on _ _ _ c.before.before.before.loop-test.true (rw (le-leb _ _ c.before.if1.false, le-leb _ _ c.if2.false))
-    l.loop.invariant
+    all_goes_on _ _ _ c.before.before.before.loop-i-test.true (rw (le-leb _ _ c.before.if-b-least.false, le-leb _ _ c.if-b-greatest.false))
+    l.loop-i.invariant
 
-pub all-within-spec : {M : Type 1} → statement M
-all-within-spec =
+pub all_within_spec : {M : Type 1} → statement M
+all_within_spec =
     tie.close
     (tie.spec
     invariant-loop
@@ -45,4 +45,4 @@ all-within-spec =
     (λ c. search rules)
     (λ c. search rules)
     loop-again
-    (λ c. sym (all_end _ c.before.before.args.s.now c.before.loop.i c.loop-test.false) ∙ c.before.loop.invariant))
+    (λ c. sym (all_end _ c.before.before.args.s.now c.before.loop-i.i c.loop-i-test.false) ∙ c.before.loop-i.invariant))

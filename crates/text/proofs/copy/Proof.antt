@@ -9,17 +9,17 @@ use Rattle.text.proofs.Lists.{drop_next}
 use Rattle.text.proofs.copy.Statement.{statement}
 use Rattle.text.proofs.copy.Tie as tie
 
-abbrev invariant-loop : tie.invariant-loop
+abbrev invariant-loop : tie.invariant-loop-i
 invariant-loop s out₀ at i₀ out i = (i ≤ length s) × Left out₀ at s out (at + i) (drop i s)
 
-abbrev decreases-loop : tie.decreases-loop
+abbrev decreases-loop : tie.decreases-loop-i
 decreases-loop s out₀ at i₀ out i = length s - i
 
 pub copy_spec : {M : Type 1} → statement M
 copy_spec =
     tie.close (tie.spec invariant-loop decreases-loop (λ c. (omega arith, rw add-zero (left_all _ _ _))) (λ c. search rules) (λ c. search rules)
     (λ c. search rules) (λ c. search rules) (λ c. search rules)
-    (λ c. (omega arith, left_set _ _ (drop_next _ _ 0 c.before.loop-test.true) c.before.before.loop.invariant.1))
+    (λ c. (omega arith, left_set _ _ (drop_next _ _ 0 c.before.loop-i-test.true) c.before.before.loop-i.invariant.1))
     (λ c. search rules) (λ c. search rules)
-    (λ c. let l = c.before.loop in
-    left_none (left_as (drop_of_length-le c.before.before.args.s.now {i = l.i} c.loop-test.false) l.invariant.1)))
+    (λ c. let l = c.before.loop-i in
+    left_none (left_as (drop_of_length-le c.before.before.args.s.now {i = l.i} c.loop-i-test.false) l.invariant.1)))

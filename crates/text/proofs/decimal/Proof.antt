@@ -14,47 +14,47 @@ use Rattle.text.proofs.Numbers.{decimal_next, digit_more, power_bound}
 use Rattle.text.proofs.decimal.Statement.{statement}
 use Rattle.text.proofs.decimal.Tie as tie
 
-abbrev invariant-loop : tie.invariant-loop
+abbrev invariant-loop : tie.invariant-loop-i
 invariant-loop s i₀ n₀ i n = (i ≤ length s) × (decimal_from n (drop i s) ≡ decimal_from 0 s) × (n < 10 ^ i)
 
-abbrev decreases-loop : tie.decreases-loop
+abbrev decreases-loop : tie.decreases-loop-i
 decreases-loop s i₀ n₀ i n = length s - i
 
 -- eighteen digits at most are read before another, which is a digit
-few : (c : tie.In-loop invariant-loop decreases-loop) → c.before.loop.n < 10 ^ 18
-few c = power_bound 10 _ 18 _ (lit< tt) (omega arith) c.before.loop.invariant.2
+few : (c : tie.In-loop-i invariant-loop decreases-loop) → c.before.loop-i.n < 10 ^ 18
+few c = power_bound 10 _ 18 _ (lit< tt) (omega arith) c.before.loop-i.invariant.2
 
-digit : (c : tie.In-loop invariant-loop decreases-loop)
-    → let b = get_or c.before.before.before.args.s.now c.before.loop.i 0 in (48 ≤ b) × (b ≤ 57)
+digit : (c : tie.In-loop-i invariant-loop decreases-loop)
+    → let b = get_or c.before.before.before.args.s.now c.before.loop-i.i 0 in (48 ≤ b) × (b ≤ 57)
 digit c =
     let s = c.before.before.before in
-    let b = get_or s.args.s.now c.before.loop.i 0 in
+    let b = get_or s.args.s.now c.before.loop-i.i 0 in
     let t = (and-eq-true_iff (leb 48 b) (leb b 57)).0
-    (all_at is_digit s.args.s.now c.before.loop.i 0 s.requires.1 c.loop-test.true) in
+    (all_at is_digit s.args.s.now c.before.loop-i.i 0 s.requires.1 c.loop-i-test.true) in
     (leb-true 48 b t.0, leb-true b 57 t.1)
 
-loop-again : tie.Need-loop-preserved invariant-loop decreases-loop
+loop-again : tie.Need-loop-i-preserved invariant-loop decreases-loop
 loop-again c =
     let t = c.before.before in
-    let l = t.before.loop in
+    let l = t.before.loop-i in
     let w = c.wide.ensures in
     let d = digit t in (
       omega arith,
-      rw w (sym (decimal_next _ l.i l.n t.loop-test.true) ∙ l.invariant.1),
+      rw w (sym (decimal_next _ l.i l.n t.loop-i-test.true) ∙ l.invariant.1),
       rw (w, add-one) (digit_more 10 _ _ _ l.invariant.2 (omega arith)),
     )
 
 returns : tie.Need-returns invariant-loop decreases-loop
 returns c =
     let s = c.before.before.before.args.s.now in
-    let l = c.before.loop in
+    let l = c.before.loop-i in
     let z : l.i ≡ length s = omega arith in (
-      ap (decimal_from l.n) (sym (drop_of_length-le s {i = l.i} c.loop-test.false)) ∙ l.invariant.1,
+      ap (decimal_from l.n) (sym (drop_of_length-le s {i = l.i} c.loop-i-test.false)) ∙ l.invariant.1,
       rw (← z) l.invariant.2,
     )
 
-pub decimal-spec : {M : Type 1} → statement M
-decimal-spec =
+pub decimal_spec : {M : Type 1} → statement M
+decimal_spec =
     tie.close
     (tie.spec
     invariant-loop

@@ -7,7 +7,7 @@ use Rattle.text.proofs.Numbers.{within_one}
 use Rattle.text.proofs.is_spaces.Statement.{statement}
 use Rattle.text.proofs.is_spaces.Tie as tie
 
-pub is-spaces-spec : {M : Type 1} → statement M
-is-spaces-spec =
+pub is_spaces_spec : {M : Type 1} → statement M
+is_spaces_spec =
     tie.close (tie.spec (λ c κs. search rules)
     (λ c. c.all_within.ensures ∙ all_same (within 32 32) is_space (within_one 32) c.before.before.args.s.now))

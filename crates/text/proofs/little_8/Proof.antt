@@ -9,12 +9,12 @@ returns : tie.Need-returns
 returns c =
     let s = c.before.before.before in
     let a = c.before.little_4.ensures in
-    let b = c.little-42.ensures in
+    let b = c.little_4-2.ensures in
     let e = little_8 s.args.b.now s.args.at s.requires in
     omega (arith, e, a.0, b.0)
 
-pub little-8-spec : {M : Type 1} → statement M
-little-8-spec =
+pub little_8_spec : {M : Type 1} → statement M
+little_8_spec =
     tie.close (tie.spec (λ c κs. search rules) (λ c. search rules) (λ c κs. search rules)
-    (λ c. omega (arith, c.little-42.ensures.1)) (λ c. omega (arith, c.little-42.ensures.1, c.before.little_4.ensures.1))
+    (λ c. omega (arith, c.little_4-2.ensures.1)) (λ c. omega (arith, c.little_4-2.ensures.1, c.before.little_4.ensures.1))
     returns)

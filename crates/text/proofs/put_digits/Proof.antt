@@ -14,24 +14,24 @@ use Rattle.text.proofs.Puts.{put_of, put_length}
 use Rattle.text.proofs.put_digits.Statement.{statement}
 use Rattle.text.proofs.put_digits.Tie as tie
 
-abbrev invariant-loop : tie.invariant-loop
+abbrev invariant-loop : tie.invariant-loop-i
 invariant-loop out₀ at width n left₀ i₀ out left i =
     (i ≤ width) × (length out ≡ length out₀) × (sets out at (digits i left) ≡ sets out₀ at (digits width n))
 
-abbrev decreases-loop : tie.decreases-loop
+abbrev decreases-loop : tie.decreases-loop-i
 decreases-loop out₀ at width n left₀ i₀ out left i = i
 
-loop-again : tie.Need-loop-preserved invariant-loop decreases-loop
+loop-again : tie.Need-loop-i-preserved invariant-loop decreases-loop
 loop-again c =
     let p = c.before.before in
     let l = p.before.before.before in
     let a = l.before.before.args in
-    let v = l.loop.invariant in (
+    let v = l.loop-i.invariant in (
       omega arith,
-      put_length p.put-pair.ensures.1 ∙ v.1,
-      ap (λ (o : List ℕ). sets o a.at (digits (l.loop.i - 2) (l.loop.left / 100))) p.put-pair.ensures.1.output
-          ∙ written_before l.loop.out (digits (l.loop.i - 2) (l.loop.left / 100)) (digits 2 (l.loop.left % 100)) a.at
-          (l.loop.i - 2) (digits_pair _ _ p.before.before.loop-test.true) (digits_length _ _) v.2,
+      put_length p.put_pair.ensures.1 ∙ v.1,
+      ap (λ (o : List ℕ). sets o a.at (digits (l.loop-i.i - 2) (l.loop-i.left / 100))) p.put_pair.ensures.1.output
+          ∙ written_before l.loop-i.out (digits (l.loop-i.i - 2) (l.loop-i.left / 100)) (digits 2 (l.loop-i.left % 100)) a.at
+          (l.loop-i.i - 2) (digits_pair _ _ p.before.before.loop-i-test.true) (digits_length _ _) v.2,
     )
 
 -- all of them were written
@@ -40,25 +40,25 @@ all-of-them : {o o' : List ℕ} (at width n : ℕ) → o' ≡ sets o at (digits 
 all-of-them at width n e = (refl, put_of width _ (digits_length width n) e refl)
 
 -- none is left, or one
-returns : tie.Need-returns invariant-loop decreases-loop
+returns : tie.Need-returns-then-i-eq0 invariant-loop decreases-loop
 unfolding digits
 returns c =
     let l = c.before.before in
     let a = l.before.before.args in
-    all-of-them a.at a.width a.n (rw c.if1.true at l.loop.invariant.2)
+    all-of-them a.at a.width a.n (rw c.if-i-eq0.true at l.loop-i.invariant.2)
 
-returns-2 : tie.Need-returns-2 invariant-loop decreases-loop
+returns-2 : tie.Need-returns invariant-loop decreases-loop
 unfolding digits
 returns-2 c =
     let l = c.before.before in
     let a = l.before.before.args in
-    let more = c.if1.false in
-    let few = c.before.loop-test.false in
-    let one : l.loop.i ≡ 1 = omega (arith, more, few) in
-    all-of-them a.at a.width a.n (rw one at l.loop.invariant.2)
+    let more = c.if-i-eq0.false in
+    let few = c.before.loop-i-test.false in
+    let one : l.loop-i.i ≡ 1 = omega (arith, more, few) in
+    all-of-them a.at a.width a.n (rw one at l.loop-i.invariant.2)
 
-pub put-digits-spec : {M : Type 1} → statement M
-put-digits-spec =
+pub put_digits_spec : {M : Type 1} → statement M
+put_digits_spec =
     tie.close (tie.spec invariant-loop decreases-loop (λ c. (omega arith, refl, refl)) (λ c. search rules) (λ c κs. search rules) (λ c. search rules)
     loop-again (λ c. search rules) (λ c. search rules) returns (λ c. search rules) (λ c. search rules) (λ c. search rules)
     (λ c. search rules) (λ c. search rules) returns-2)

@@ -7,10 +7,10 @@ use Rattle.text.proofs.put_pair.Tie as tie
 
 returns : tie.Need-returns
 returns c =
-    let w = c.before.before.put-little.ensures in
+    let w = c.before.before.put_little.ensures in
     let h = c.before.before.before.before.before.requires.0 in
     (w.0, put_as (pair_bytes _ h) w.1)
 
-pub put-pair-spec : {M : Type 1} → statement M
-put-pair-spec =
+pub put_pair_spec : {M : Type 1} → statement M
+put_pair_spec =
     tie.close (tie.spec (λ c. search rules) (λ c. search rules) (λ c. search rules) (λ c κs. search rules) (λ c. search rules) returns)

@@ -6,25 +6,25 @@ use Rattle.text.proofs.Puts.{Repeating, repeat_none, repeat_next, repeat_all}
 use Rattle.text.proofs.repeat.Statement.{statement}
 use Rattle.text.proofs.repeat.Tie as tie
 
-abbrev invariant-loop : tie.invariant-loop
+abbrev invariant-loop : tie.invariant-loop-i
 invariant-loop out₀ from at n₀ i₀ out i = Repeating out₀ from at out i
 
-abbrev decreases-loop : tie.decreases-loop
+abbrev decreases-loop : tie.decreases-loop-i
 decreases-loop out₀ from at n₀ i₀ out i = at - from - i
 
-loop-again : tie.Need-loop-preserved invariant-loop decreases-loop
+loop-again : tie.Need-loop-i-preserved invariant-loop decreases-loop
 loop-again c =
     let l = c.before.before in
     let p = l.before.requires in
-    repeat_next l.loop.invariant p.0 p.1 c.before.loop-test.true
+    repeat_next l.loop-i.invariant p.0 p.1 c.before.loop-i-test.true
 
 returns : tie.Need-returns invariant-loop decreases-loop
 returns c =
     let p = c.before.before.requires in
-    repeat_all c.before.loop.invariant p.0 p.1 c.loop-test.false
+    repeat_all c.before.loop-i.invariant p.0 p.1 c.loop-i-test.false
 
-pub repeat-spec : {M : Type 1} → statement M
-repeat-spec =
+pub repeat_spec : {M : Type 1} → statement M
+repeat_spec =
     tie.close
     (tie.spec
     invariant-loop
@@ -39,5 +39,5 @@ repeat-spec =
     (λ c. search rules)
     loop-again
     (λ c. search rules)
-    (λ c. c.before.loop.invariant.left.size)
+    (λ c. c.before.loop-i.invariant.left.size)
     returns)

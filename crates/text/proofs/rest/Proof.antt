@@ -8,13 +8,13 @@ use lib.Seq.{take_all}
 use Rattle.text.proofs.rest.Statement.{statement}
 use Rattle.text.proofs.rest.Tie as tie
 
-returns-2 : tie.Need-returns-2
+returns-2 : tie.Need-returns
 returns-2 c =
     let a = c.before.before.args in
     take_all (length a.s.now - a.from) (drop a.from a.s.now) (simp length-drop (omega arith))
 
-pub rest-spec : {M : Type 1} → statement M
-rest-spec =
+pub rest_spec : {M : Type 1} → statement M
+rest_spec =
     tie.close (tie.spec (λ c. search rules)
-    (λ c. let a = c.before.before.args in sym (drop_of_length-le a.s.now {i = a.from} (omega arith)))
+    (λ c. let a = c.before.args in sym (drop_of_length-le a.s.now {i = a.from} (omega arith)))
     (λ c. search rules) (λ c. search rules) (λ c. search rules) returns-2)
