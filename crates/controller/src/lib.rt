@@ -15,7 +15,7 @@ use record::RecordKind;
 use table::Told;
 
 // 01, "What the product holds": what each call answers.
-#[derive(Drop)]
+#[derive(Clone, Copy)]
 pub struct Answer {
     pub number: u64,
     pub consumed: u64,

@@ -42,7 +42,7 @@ use session::{Deed, Form, Session, Subscription, Take, Taken};
 
 // What is to be known of a kind: how many notices are held at most, how many bytes the slot of each takes, whether beside the open one the
 // newest alone waits, and whether a slot is the place where the notice stands.
-#[derive(Drop)]
+#[derive(Clone, Copy)]
 struct Row {
     most: u64,
     size: usize,

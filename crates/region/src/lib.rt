@@ -220,7 +220,7 @@ pub fn hang_up(region: &mut [u8])
 // ---- a tick
 
 // What a tick leaves to say: that the session is closed; or of which kinds a copy of the open notice.
-#[derive(Drop)]
+#[derive(Clone, Copy)]
 pub struct Ticked {
     pub closes: bool,
     pub due: [bool; KIND_COUNT],
@@ -401,7 +401,7 @@ fn carry_out(region: &mut [u8], d: Decision) -> bool
 
 // What the end of a run leaves to say: the reply, whose header, if it is one that was received, stands in the slice that is lent or in the
 // region; of that kind a copy of the open notice, where it is due; and the identifier that is made known, if one is, to all.
-#[derive(Drop)]
+#[derive(Clone, Copy)]
 pub struct Ended {
     pub whole: bool,
     pub reply: Reply,

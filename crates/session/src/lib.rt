@@ -49,7 +49,7 @@ use model::IDENTIFIERS;
 
 // ---- a session
 
-#[derive(Drop)]
+#[derive(Clone, Copy)]
 pub enum Phase {
     Closed,
     Opened,
@@ -57,7 +57,7 @@ pub enum Phase {
 }
 
 // How a session is subscribed to a kind of notice: not at all, with no acknowledge asked, with acknowledges.
-#[derive(Drop)]
+#[derive(Clone, Copy)]
 pub enum Form {
     Not,
     Plain,
@@ -65,7 +65,7 @@ pub enum Form {
 }
 
 // A session's subscription to one kind. Of the notices held the first is the open one, and the clock is its.
-#[derive(Drop)]
+#[derive(Clone, Copy)]
 pub struct Subscription {
     pub form: Form,
     pub revision: u64,
@@ -74,7 +74,7 @@ pub struct Subscription {
 }
 
 // What it is besides its subscriptions, which stand with the notices that they hold.
-#[derive(Drop)]
+#[derive(Clone, Copy)]
 pub struct Session {
     pub phase: Phase,
     pub idle: u64,
@@ -163,7 +163,7 @@ pub fn subscribed(x: Subscription, revision: u64, no_acknowledge: bool) -> Subsc
 // ---- the clock of an open notice
 
 // What a tick does to an open notice: its clock runs; it runs, and it is time for another copy; or the notice is given up.
-#[derive(Drop)]
+#[derive(Clone, Copy)]
 pub enum Beat {
     Runs(u64),
     Copy(u64),
@@ -185,13 +185,13 @@ pub fn beat_of(clock: u64) -> Beat
 }
 
 // The clock of an open notice as a record, which whoever holds it lends.
-#[derive(Drop)]
+#[derive(Clone, Copy)]
 pub struct Clock {
     pub ticks: u64,
 }
 
 // What it is time for, once a clock is advanced: nothing; another copy; to give the notice up.
-#[derive(Drop)]
+#[derive(Clone, Copy)]
 pub enum Due {
     Nothing,
     Copy,
@@ -232,7 +232,7 @@ pub fn advance(clock: &mut Clock) -> Due
 
 // The subscription after it; whether the held notices shift down, so that the first is gone; whether the one that is then the
 // first is sent.
-#[derive(Drop)]
+#[derive(Clone, Copy)]
 pub struct Step {
     pub next: Subscription,
     pub shift: bool,
@@ -336,7 +336,7 @@ pub fn acknowledged(x: Subscription) -> Step
 // ---- a deed, to a subscription
 
 // What is done to a subscription, an event aside: nothing; a tick; an acknowledge; it is subscribed to; it is unsubscribed from.
-#[derive(Drop)]
+#[derive(Clone, Copy)]
 pub enum Deed {
     Nothing,
     Beats,
@@ -364,7 +364,7 @@ pub fn dealt(x: Subscription, deed: Deed) -> Step
 
 // What becomes of its notice: it is not taken; sent once, and not held; held at place 0 as the open one, and sent; held at the
 // place that is named, and not sent yet.
-#[derive(Drop)]
+#[derive(Clone, Copy)]
 pub enum Take {
     Not,
     Once,
@@ -373,7 +373,7 @@ pub enum Take {
 }
 
 // That, and the subscription after it.
-#[derive(Drop)]
+#[derive(Clone, Copy)]
 pub struct Taken {
     pub take: Take,
     pub next: Subscription,
@@ -382,7 +382,7 @@ pub struct Taken {
 // ---- the idle count
 
 // What a tick does to a session's idle count: the session stays, or times out.
-#[derive(Drop)]
+#[derive(Clone, Copy)]
 pub enum Idling {
     Stays(Session),
     TimesOut,
@@ -417,7 +417,7 @@ pub fn idled(x: Session) -> Idling
 
 // What goes back to whom a message came from: nothing; 0002; 0005, with the message's number; 0004, with that and the error's; 0065, with
 // the number of a tightening that is kept; its own header.
-#[derive(Drop)]
+#[derive(Clone, Copy)]
 pub enum Reply {
     Nothing,
     Started,
@@ -428,7 +428,7 @@ pub enum Reply {
 }
 
 // What a run does.
-#[derive(Drop)]
+#[derive(Clone, Copy)]
 pub struct Decision {
     pub reply: Reply,
     // The session after it, but for its subscriptions.

@@ -268,7 +268,7 @@ pub fn tick(table: &mut [u8], out: &mut [u8], at: usize) -> usize
 // ---- an event
 
 // What an event did: the place behind what went out, and the sum of 2^s over the sessions s that took it.
-#[derive(Drop)]
+#[derive(Clone, Copy)]
 pub struct Told {
     pub at: usize,
     pub taken: u64,
@@ -276,7 +276,7 @@ pub struct Told {
 
 // The copy that was written last: where its record begins, which ends at the place where the next one goes, and how it was asked for.
 // Where none was written, it is empty.
-#[derive(Drop)]
+#[derive(Clone, Copy)]
 struct Copied {
     from: usize,
     revision: u64,
@@ -285,7 +285,7 @@ struct Copied {
 
 // Where the next one goes, the one that was written last, and the place where the event's notice stands: as many as there are, where it
 // stands in none.
-#[derive(Drop)]
+#[derive(Clone, Copy)]
 struct Next {
     to: To,
     copied: Copied,
@@ -347,7 +347,7 @@ fn stand(table: &mut [u8], res: &[u8], place: usize) -> usize
 }
 
 // What an event did to one session: whether it was taken, whether a copy is to be sent now, and the place where its notice stands then.
-#[derive(Drop)]
+#[derive(Clone, Copy)]
 struct Kept {
     taken: bool,
     tell: bool,
@@ -401,7 +401,7 @@ fn keep(table: &mut [u8], s: u64, kind: usize, notice: &[u8], place: usize) -> K
 }
 
 // What came of it: the place behind what went out, whether it was taken, the copy that was written last, and where its notice stands.
-#[derive(Drop)]
+#[derive(Clone, Copy)]
 struct Took {
     at: usize,
     taken: bool,
@@ -563,7 +563,7 @@ fn answer<'a>(table: &'a [u8], out: &mut [u8], to: To, bytes: &'a [u8], ended: E
 }
 
 // What came of the end of a run: the place behind what went out, and whether an identifier was made known.
-#[derive(Drop)]
+#[derive(Clone, Copy)]
 struct Heard {
     at: usize,
     identified: bool,
