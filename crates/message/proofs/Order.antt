@@ -1,14 +1,12 @@
 -- The tests of a message in the paper's order, over a row that says what the entry says.
-use mathlib.Core.Path.{◌≡◌, refl, subst}
+use mathlib.Core.Path.{◌≡◌, refl}
 use mathlib.Core.Bool.{Bool, true, not, cond, ◌&&◌}
-use mathlib.Core.List.{List, [], ◌∷◌}
+use mathlib.Core.List.{List}
 use mathlib.Core.Option.{Option, none, some}
 use Prim.Native.Nat.{ℕ, ◌≤◌, zero-le}
 use native.Mathlib.Omega.{arith}
 use lib.Dec.{eqb}
 use borrow.Author.Tests.{le-leb}
-use types.Run.{OneOf, miss}
-use denote.Enum.Declared.{tag_of}
 use Rattle.model.specs.Bytes.{within}
 use Rattle.model.specs.Messages.{Standing, Entry, Revisions, not_read, revisions, good_among, Error, unknown_message, already_started}
 use Rattle.model.specs.Messages.{wrong_length, wrong_revision, wrong_data, number_asked, own_test, tested, entry_of, error_of}
@@ -21,7 +19,6 @@ use Rattle.message.specs.declared.Effect.{Effect}
 use Rattle.message.specs.declared.Effect.TheVariants.{Unknown, Starts, Stops, Identifies, Subscribes, Unsubscribes, Acknowledges}
 use Rattle.message.specs.declared.Effect.TheVariants.{Fetches, Mirrors}
 use Rattle.message.specs.declared.Row.{Row}
-use Rattle.message.specs.contracts.Effect as effect
 
 -- the error, by whether it starts again, has a length and a revision of its row, and good data, and by its own error
 abbrev pub in_order : Bool → Bool → Bool → Bool → Option Error → Option Error
@@ -36,13 +33,6 @@ among (revisions least greatest) oldest newest n h s = rw (s.0, s.1)
 
 -- ==== the decision over message numbers
 
--- every effect but the one of its closing arm, by its number
-abbrev others : List ℕ
-others = 1 ∷ 2 ∷ 3 ∷ 4 ∷ 5 ∷ 6 ∷ 7 ∷ 8 ∷ []
-
-abbrev pub Other : Effect → Type 0
-Other e = OneOf others (tag_of effect.the_type e)
-
 closing : (e : Effect) → effect_in e ≡ none → e ≡ Unknown
 closing Unknown q = refl
 closing Starts q = cc
@@ -54,12 +44,12 @@ closing (Acknowledges kind) q = cc
 closing (Fetches error) q = cc
 closing Mirrors q = cc
 
--- a number with another effect is listed
-pub known : (mid : ℕ) (e : Effect) → Other e → effect_in e ≡ effect_listed (entry_of mid) → is_listed (entry_of mid) ≡ true
+-- a number whose effect is not that of the closing arm is listed
+pub known : (mid : ℕ) (e : Effect) → (e ≡ Unknown → ⊥) → effect_in e ≡ effect_listed (entry_of mid) → is_listed (entry_of mid) ≡ true
 known mid e k q = by_entry (entry_of mid) q
   where
     by_entry : (o : Option Entry) → effect_in e ≡ effect_listed o → is_listed o ≡ true
-    by_entry none q = absurd (miss others 0 tt (subst Other (closing e q) k))
+    by_entry none q = absurd (k (closing e q))
     by_entry (some n) q = refl
 
 -- ==== the tests

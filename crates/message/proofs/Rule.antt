@@ -1,6 +1,6 @@
 -- The rule of the table of messages, that a row says what the model's entry at its place says.
 use mathlib.Core.Path.{◌≡◌, refl, sym, ap, ◌∙◌}
-use mathlib.Core.Bool.{Bool, true, false, ◌&&◌, So, and-eq-true_iff, false≢true}
+use mathlib.Core.Bool.{Bool, true, ◌&&◌, So, and-eq-true_iff, false≢true}
 use mathlib.Core.List.{List, []}
 use mathlib.Core.Option.{Option, none, some}
 use Prim.Native.Nat.{ℕ, ◌<◌}

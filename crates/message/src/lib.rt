@@ -1,4 +1,6 @@
 // What a message does, and the error that it has (01, "What a message does"; 02, P2 and P5): decided by value, whatever the numbers are.
+#![tactic(auto)]
+
 ghost use Rattle.std.specs.Prelude.{◌≡◌, true, cond, ◌&&◌, eqb};
 ghost use Rattle.std.proofs.Math.Option.{none, some};
 ghost use Rattle.model.specs.Bytes.{within as is_within};
@@ -12,7 +14,7 @@ use model::{ALARMS, IDENTIFIERS, KIND_COUNT, NUMBER_DIGITS, TIGHTENINGS};
 // ---- what a message does
 
 // What a message does when it has no error; the number is that of its own error.
-#[derive(Drop)]
+#[derive(Clone, Copy)]
 pub enum Effect {
     Unknown,
     Starts,
@@ -66,7 +68,7 @@ const MESSAGES: [[u64; 5]; 14] = [
 ];
 
 // What the table has for a message number.
-#[derive(Drop)]
+#[derive(Clone, Copy)]
 struct Row {
     least: u64,
     greatest: u64,
@@ -86,7 +88,7 @@ fn read_row(row: [u64; 5]) -> Row
 }
 
 // What is listed for a message number: what the message does, and its row.
-#[derive(Drop)]
+#[derive(Clone, Copy)]
 struct Listed {
     effect: Effect,
     row: Row,
@@ -170,7 +172,7 @@ pub fn effect_of(mid: u64) -> Effect
 
 // What the tests look at of what all sessions share: whether identifiers are taken over the net; the number of the newest tightening, and
 // how many are kept, of which the others have the numbers before it.
-#[derive(Drop)]
+#[derive(Clone, Copy)]
 pub struct Common {
     pub granted: bool,
     pub newest: u64,
@@ -178,7 +180,7 @@ pub struct Common {
 }
 
 // What the tests look at besides the message; by kind of notice, whether the session is subscribed to it.
-#[derive(Drop)]
+#[derive(Clone, Copy)]
 pub struct Standing {
     pub started: bool,
     pub common: Common,
@@ -186,7 +188,7 @@ pub struct Standing {
 }
 
 // What the tests find; an own error has its number.
-#[derive(Drop)]
+#[derive(Clone, Copy)]
 pub enum Verdict {
     Fine,
     Unknown,
@@ -328,7 +330,7 @@ fn own_error(x: Standing, e: Effect, number: u64) -> Verdict
 }
 
 // A message by its number and its length.
-#[derive(Drop)]
+#[derive(Clone, Copy)]
 pub struct Outline {
     pub mid: u64,
     pub size: usize,

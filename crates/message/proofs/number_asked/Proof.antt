@@ -7,13 +7,13 @@ use Rattle.model.specs.Bytes.{decimal}
 use Rattle.message.proofs.number_asked.Statement.{statement}
 use Rattle.message.proofs.number_asked.Tie as tie
 
-returns-2 : tie.Need-returns-2
+returns-2 : tie.Need-returns
 returns-2 c =
-    let few = c.before.if1.false in
-    c.number2.ensures ∙ ap decimal (sym (take_all number_digits c.before.before.before.args.data_field.now few))
+    let few = c.before.if-data_field-gt-NUMBER_DIGITS.false in
+    c.number-2.ensures ∙ ap decimal (sym (take_all number_digits c.before.before.before.args.data_field.now few))
 
-pub number-asked-spec : {M : Type 1} → statement M
-number-asked-spec =
+pub number_asked_spec : {M : Type 1} → statement M
+number_asked_spec =
     tie.close
     (tie.spec
     (λ c. search rules)

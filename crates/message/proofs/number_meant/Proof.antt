@@ -8,5 +8,5 @@ use Rattle.message.proofs.number_meant.Tie as tie
 returns : tie.Need-returns
 returns c = c.meant.ensures ∙ ap (meant c.before.before.before.args.x.common) c.before.number_asked.ensures
 
-pub number-meant-spec : {M : Type 1} → statement M
-number-meant-spec = tie.close (tie.spec (λ c κs. search rules) (λ c κs. search rules) returns)
+pub number_meant_spec : {M : Type 1} → statement M
+number_meant_spec = tie.close (tie.spec (λ c κs. search rules) (λ c κs. search rules) returns)

@@ -3,5 +3,5 @@ use borrow.Author.Rules.{rules}
 use Rattle.message.proofs.own_if.Statement.{statement}
 use Rattle.message.proofs.own_if.Tie as tie
 
-pub own-if-spec : {M : Type 1} → statement M
-own-if-spec = tie.close (tie.spec (λ c. rw c.if1.true) (λ c. search rules))
+pub own_if_spec : {M : Type 1} → statement M
+own_if_spec = tie.close (tie.spec (λ c. rw c.if-applies.true) (λ c. search rules))
