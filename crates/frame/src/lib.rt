@@ -1,4 +1,6 @@
 // Frames: the header of a received one is read, and those that we send are written where they go.
+#![tactic(auto)]
+
 ghost use Rattle.std.specs.Prelude.{◌≡◌, true, ◌||◌, ◌++◌, ◌+◌, ◌≤◌, ◌<◌, length, take, drop, replicate};
 ghost use Rattle.model.specs.Limits.{header_length, identifier_length};
 ghost use Rattle.model.specs.Bytes.{space, digit_0, is_digit, is_space, all, digits, spaces};
