@@ -1,6 +1,5 @@
 pub mod Tests
 pub mod Headers
-pub mod Answers
 pub mod Fields
 pub mod Contents
 pub mod Built

@@ -1,4 +1,6 @@
 // Frames: the header of a received one is read, and those that we send are written where they go.
+#![tactic(auto)]
+
 ghost use Rattle.std.specs.Prelude.{◌≡◌, true, ◌||◌, ◌++◌, ◌+◌, ◌≤◌, ◌<◌, length, take, drop, replicate};
 ghost use Rattle.model.specs.Limits.{header_length, identifier_length};
 ghost use Rattle.model.specs.Bytes.{space, digit_0, is_digit, is_space, all, digits, spaces};
@@ -194,7 +196,7 @@ pub fn read_header<'a>(run: &'a [u8], count: usize) -> RunRead<'a>
 // ---- what frames say
 
 // How a session is subscribed to a kind of notice, as far as a copy shows it.
-#[derive(Drop)]
+#[derive(Clone, Copy)]
 pub struct Asked {
     pub kind: usize,
     pub revision: u64,
@@ -202,7 +204,7 @@ pub struct Asked {
 }
 
 // What a frame says.
-#[derive(Drop)]
+#[derive(Clone, Copy)]
 pub enum Content {
     // 0002
     Started,
@@ -700,7 +702,7 @@ fn put_header(out: &mut [u8], at: usize, content: Content, size: usize) -> usize
 // ---- output records
 
 // Where a record goes: to which session, and from which place of the output on.
-#[derive(Drop)]
+#[derive(Clone, Copy)]
 pub struct To {
     pub session: u64,
     pub at: usize,

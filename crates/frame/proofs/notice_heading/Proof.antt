@@ -8,5 +8,5 @@ returns c =
     let a = c.before.args in
     λ i. record { size = a.size; mid = a.mid; revision = a.asked.revision; byte_12 = c.byte_12.ensures i }
 
-pub notice-heading-spec : {M : Type 1} → statement M
-notice-heading-spec = tie.close (tie.spec (λ c. search rules) returns)
+pub notice_heading_spec : {M : Type 1} → statement M
+notice_heading_spec = tie.close (tie.spec (λ c. search rules) returns)

@@ -7,15 +7,15 @@ use Rattle.frame.proofs.Built.{is_0002}
 use Rattle.frame.proofs.put_0002.Statement.{statement}
 use Rattle.frame.proofs.put_0002.Tie as tie
 
-put-frame-requires : tie.Need-put-frame-requires
+put-frame-requires : tie.Need-put_frame-requires
 put-frame-requires c κs =
     let s = c.before.before.before.before in
     record { output = s.requires.0; real = tt; whole = s.requires.1 }
 
 returns : tie.Need-returns
 returns c =
-    let w = c.before.before.put-frame.ensures in
+    let w = c.before.before.put_frame.ensures in
     record { place = w.place; put = put_as (ap (frame_record _) (is_0002 _)) w.put }
 
-pub put-0002-spec : {M : Type 1} → statement M
-put-0002-spec = tie.close (tie.spec (λ c. search rules) put-frame-requires (λ c. search rules) returns)
+pub put_0002_spec : {M : Type 1} → statement M
+put_0002_spec = tie.close (tie.spec put-frame-requires (λ c. search rules) returns)

@@ -17,14 +17,14 @@ returns c =
     let s = i.before.before.before.before.before.before in
     let l = length-take-le _ s.args.run.now s.requires.1 in
     let e = h.put_record.ensures.ends in
-    let f = z.fill.ensures.0 in
-    let g = i.copy.ensures.place in
+    let f = z.fill-end.ensures.0 in
+    let g = i.copy-at.ensures.place in
     record {
       place = omega arith;
-      put = recorded s.args.to _ (put_then i.copy.ensures z.fill.ensures.1) h.put_record.ensures;
+      put = recorded s.args.to _ (put_then i.copy-at.ensures z.fill-end.ensures.1) h.put_record.ensures;
     }
 
-pub put-9999-spec : {M : Type 1} → statement M
-put-9999-spec =
+pub put_9999_spec : {M : Type 1} → statement M
+put_9999_spec =
     tie.close (tie.spec (λ c. search rules) (λ c. search rules) (λ c. search rules) (λ c. search rules) (λ c κs. search rules)
     (λ c κs. search rules) (λ c κs. search rules) (λ c. search rules) returns)

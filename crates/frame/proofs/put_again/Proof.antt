@@ -17,9 +17,9 @@ returns c =
     let room = s.requires.output.room in
     let whole = s.requires.whole in
     let n = length-take-le (a.to.at - a.from) (drop a.from a.out.now) (rw length-drop (omega arith)) in
-    let e = p.repeat.ensures.place in
-    record { place = omega arith; put = λ bs w. repeated a.to.session w p.repeat.ensures q.put-little.ensures.1 }
+    let e = p.repeat-end.ensures.place in
+    record { place = omega arith; put = λ bs w. repeated a.to.session w p.repeat-end.ensures q.put_little.ensures.1 }
 
-pub put-again-spec : {M : Type 1} → statement M
-put-again-spec =
+pub put_again_spec : {M : Type 1} → statement M
+put_again_spec =
     tie.close (tie.spec (λ c κs. search rules) (λ c. search rules) (λ c. search rules) (λ c κs. search rules) (λ c. search rules) returns)

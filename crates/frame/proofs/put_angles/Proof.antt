@@ -16,10 +16,10 @@ returns c =
     let a = b.before.before.before.before.before in
     let s = a.before.before.before.before.before in
     limits_then_value (told_values tightening_items s.args.told.now) 16 5 told 12
-    a.before.little.ensures.0 refl a.put-limit.ensures b.before.little2.ensures.0 refl b.put-limit2.ensures
-    d.before.little3.ensures.0 refl d.put-limit3.ensures e.before.little4.ensures.0 e.put-number.ensures
+    a.before.little.ensures.0 refl a.put_limit-at.ensures b.before.little-2.ensures.0 refl b.put_limit-at-2.ensures
+    d.before.little-3.ensures.0 refl d.put_limit-at-3.ensures e.before.little-4.ensures.0 e.put_number.ensures
 
-pub put-angles-spec : {M : Type 1} → statement M
-put-angles-spec =
+pub put_angles_spec : {M : Type 1} → statement M
+put_angles_spec =
     tie.close (tie.spec (λ c κs. search rules) (λ c κs. search rules) (λ c κs. search rules) (λ c κs. search rules) (λ c κs. search rules)
     (λ c κs. search rules) (λ c κs. search rules) (λ c κs. search rules) (λ c. search rules) returns)

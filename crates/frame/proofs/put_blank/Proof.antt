@@ -8,7 +8,7 @@ returns : tie.Need-returns
 returns c =
     let b = c.before.before in
     let a = b.before.before.before.before in
-    record { place = search rules; put = put_then a.put-digits.ensures.1 b.fill.ensures.1 }
+    record { place = search rules; put = put_then a.put_digits-at.ensures.1 b.fill.ensures.1 }
 
-pub put-blank-spec : {M : Type 1} → statement M
-put-blank-spec = tie.close (tie.spec (λ c κs. search rules) (λ c κs. search rules) (λ c. search rules) returns)
+pub put_blank_spec : {M : Type 1} → statement M
+put_blank_spec = tie.close (tie.spec (λ c κs. search rules) (λ c κs. search rules) (λ c. search rules) returns)

@@ -13,6 +13,6 @@ returns c =
     let s = p.before.before.before.before in
     record { place = p.put_record.ensures.ends; put = recorded s.args.to _ (put_nothing _ _) p.put_record.ensures }
 
-pub put-close-spec : {M : Type 1} → statement M
-put-close-spec =
+pub put_close_spec : {M : Type 1} → statement M
+put_close_spec =
     tie.close (tie.spec (λ c. search rules) (λ c κs. search rules) (λ c. search rules) returns)

@@ -8,7 +8,7 @@ use Rattle.frame.proofs.Built.{copy_short, is_copy}
 use Rattle.frame.proofs.put_copy.Statement.{statement}
 use Rattle.frame.proofs.put_copy.Tie as tie
 
-put-frame-requires : tie.Need-put-frame-requires
+put-frame-requires : tie.Need-put_frame-requires
 put-frame-requires c κs =
     let s = c.before.before.before.before in
     let asked = s.args.asked in
@@ -28,7 +28,7 @@ returns c =
     let a = s.args in
     let few = s.requires.kind in
     let short = copy_short a.asked few in
-    let w = p.put-frame.ensures in
+    let w = p.put_frame.ensures in
     let e = w.place in
     record {
       within = omega arith;
@@ -36,5 +36,5 @@ returns c =
           put_as (ap (frame_record a.to.session) (is_copy a.settings.now a.place.now a.asked few s.requires.place)) w.put;
     }
 
-pub put-copy-spec : {M : Type 1} → statement M
-put-copy-spec = tie.close (tie.spec put-frame-requires (λ c. search rules) returns)
+pub put_copy_spec : {M : Type 1} → statement M
+put_copy_spec = tie.close (tie.spec put-frame-requires (λ c. search rules) returns)

@@ -18,11 +18,11 @@ returns c =
       place = search rules;
       put =
           put_as (simp append_assoc) (put_then (put_then
-          (put_then (put_then p.put-digits.ensures.1 q.put-digits2.ensures.1) i.put-digits3.ensures.1) f.fill.ensures.1)
-          g.fill2.ensures.1);
+          (put_then (put_then p.put_digits-at.ensures.1 q.put_digits-at-2.ensures.1) i.put_digits-at-3.ensures.1) f.fill-at.ensures.1)
+          g.fill.ensures.1);
     }
 
-pub put-heading-spec : {M : Type 1} → statement M
-put-heading-spec =
+pub put_heading_spec : {M : Type 1} → statement M
+put_heading_spec =
     tie.close (tie.spec (λ c κs. search rules) (λ c κs. search rules) (λ c κs. search rules) (λ c κs. search rules) (λ c κs. search rules)
     (λ c. search rules) returns)

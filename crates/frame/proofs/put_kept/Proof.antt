@@ -15,9 +15,9 @@ returns c =
     let a = b.before.before.before.before in
     let s = a.before.before.before.before in
     let x = told_values tightening_items s.args.told.now in
-    fields_then x 1 (kept_first s.args.number) (drop 3 kept_rows) a.put-kept-batch.ensures
-    (fields_then x 5 (results 9 3) kept_last b.put-statuses.ensures d.put-kept-end.ensures)
+    fields_then x 1 (kept_first s.args.number) (drop 3 kept_rows) a.put_kept_batch-at.ensures
+    (fields_then x 5 (results 9 3) kept_last b.put_statuses-at.ensures d.put_kept_end.ensures)
 
-pub put-kept-spec : {M : Type 1} → statement M
-put-kept-spec =
+pub put_kept_spec : {M : Type 1} → statement M
+put_kept_spec =
     tie.close (tie.spec (λ c κs. search rules) (λ c κs. search rules) (λ c κs. search rules) (λ c. search rules) returns)

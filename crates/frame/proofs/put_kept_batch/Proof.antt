@@ -20,13 +20,13 @@ returns c =
     let s = a.before.before.before.before in
     let p = s.args.told.now in
     let x = told_values tightening_items p in
-    known_then x 1 10 _ (take 3 kept_rows) a.put-number.ensures
-    (text_then x 2 25 told 0 (take 2 (drop 1 kept_rows)) (part_length p 0 25 (omega arith)) refl b.put-text.ensures
-    (number_then x 3 3 told 2 (take 1 (drop 2 kept_rows)) d.before.little.ensures.0 d.put-number2.ensures
-    (number_then x 4 4 told 4 [] e.before.little2.ensures.0 e.put-number3.ensures
+    known_then x 1 10 _ (take 3 kept_rows) a.put_number-at.ensures
+    (text_then x 2 25 told 0 (take 2 (drop 1 kept_rows)) (part_length p 0 25 (omega arith)) refl b.put_text-at.ensures
+    (number_then x 3 3 told 2 (take 1 (drop 2 kept_rows)) d.before.little.ensures.0 d.put_number-at-2.ensures
+    (number_then x 4 4 told 4 [] e.before.little-2.ensures.0 e.put_number.ensures
     (fields_none x 5))))
 
-pub put-kept-batch-spec : {M : Type 1} → statement M
-put-kept-batch-spec =
+pub put_kept_batch_spec : {M : Type 1} → statement M
+put_kept_batch_spec =
     tie.close (tie.spec (λ c κs. search rules) (λ c. search rules) (λ c. search rules) (λ c. search rules) (λ c κs. search rules)
     (λ c κs. search rules) (λ c κs. search rules) (λ c κs. search rules) (λ c κs. search rules) (λ c. search rules) returns)

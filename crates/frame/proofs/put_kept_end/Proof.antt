@@ -20,14 +20,14 @@ returns c =
     let s = a.before.before.before.before.before in
     let p = s.args.told.now in
     let x = told_values tightening_items p in
-    number_then x 8 6 told 11 (drop 7 kept_rows) a.before.little.ensures.0 a.put-number.ensures
-    (number_then x 9 5 told 15 (drop 8 kept_rows) b.before.little2.ensures.0 b.put-number2.ensures
-    (text_then x 10 19 told 16 (drop 9 kept_rows) (part_length p 67 19 (omega arith)) refl d.put-text.ensures
-    (number_then x 11 1 told 18 [] e.before.little3.ensures.0 e.put-number3.ensures
+    number_then x 8 6 told 11 (drop 7 kept_rows) a.before.little.ensures.0 a.put_number-at.ensures
+    (number_then x 9 5 told 15 (drop 8 kept_rows) b.before.little-2.ensures.0 b.put_number-at-2.ensures
+    (text_then x 10 19 told 16 (drop 9 kept_rows) (part_length p 67 19 (omega arith)) refl d.put_text-at.ensures
+    (number_then x 11 1 told 18 [] e.before.little-3.ensures.0 e.put_number.ensures
     (fields_none x 12))))
 
-pub put-kept-end-spec : {M : Type 1} → statement M
-put-kept-end-spec =
+pub put_kept_end_spec : {M : Type 1} → statement M
+put_kept_end_spec =
     tie.close (tie.spec (λ c κs. search rules) (λ c κs. search rules) (λ c κs. search rules) (λ c κs. search rules) (λ c. search rules)
     (λ c. search rules) (λ c. search rules) (λ c κs. search rules) (λ c κs. search rules) (λ c κs. search rules) (λ c. search rules)
     returns)

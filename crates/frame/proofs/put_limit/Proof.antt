@@ -5,9 +5,9 @@ use Rattle.model.specs.Limits.{never_set}
 use Rattle.frame.proofs.put_limit.Statement.{statement}
 use Rattle.frame.proofs.put_limit.Tie as tie
 
-pub put-limit-spec : {M : Type 1} → statement M
-put-limit-spec =
+pub put_limit_spec : {M : Type 1} → statement M
+put_limit_spec =
     tie.close (tie.spec (λ c κs. search rules) (λ c. search rules)
-    (λ c. rw (eq-eqb _ never_set c.before.before.before.before.if1.true) c.before.before.put-blank.ensures)
+    (λ c. rw (eq-eqb _ never_set c.before.before.before.before.if-n-eq-NEVER_SET.true) c.before.before.put_blank.ensures)
     (λ c κs. search rules) (λ c. search rules)
-    (λ c. rw (ne_eqb _ never_set c.before.before.before.before.if1.false) c.before.before.put-number.ensures))
+    (λ c. rw (ne_eqb _ never_set c.before.before.before.before.if-n-eq-NEVER_SET.false) c.before.before.put_number.ensures))

@@ -8,7 +8,7 @@ returns : tie.Need-returns
 returns c =
     let b = c.before.before in
     let a = b.before.before.before.before in
-    record { place = search rules; put = put_then a.put-digits.ensures.1 b.put-digits2.ensures.1 }
+    record { place = search rules; put = put_then a.put_digits-at.ensures.1 b.put_digits.ensures.1 }
 
-pub put-number-spec : {M : Type 1} → statement M
-put-number-spec = tie.close (tie.spec (λ c κs. search rules) (λ c κs. search rules) (λ c. search rules) returns)
+pub put_number_spec : {M : Type 1} → statement M
+put_number_spec = tie.close (tie.spec (λ c κs. search rules) (λ c κs. search rules) (λ c. search rules) returns)

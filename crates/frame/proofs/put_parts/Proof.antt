@@ -23,13 +23,13 @@ returns c =
     let p = s.args.told.now in
     let x = told_values scanned_items p in
     text_then x 1 identifier_length told 0 (drop 1 identifier_rows) s.requires.0 (sym (take_all identifier_length p (omega arith)))
-    a.put-text.ensures
-    (blank_then x 2 identifier_length (drop 2 identifier_rows) b.put-blank.ensures
-    (blank_then x 3 identifier_length (drop 3 identifier_rows) d.put-blank2.ensures
-    (blank_then x 4 identifier_length [] e.put-blank3.ensures
+    a.put_text-at.ensures
+    (blank_then x 2 identifier_length (drop 2 identifier_rows) b.put_blank-at.ensures
+    (blank_then x 3 identifier_length (drop 3 identifier_rows) d.put_blank-at-2.ensures
+    (blank_then x 4 identifier_length [] e.put_blank.ensures
     (fields_none x 5))))
 
-pub put-parts-spec : {M : Type 1} → statement M
-put-parts-spec =
+pub put_parts_spec : {M : Type 1} → statement M
+put_parts_spec =
     tie.close (tie.spec (λ c κs. search rules) (λ c κs. search rules) (λ c κs. search rules) (λ c κs. search rules) (λ c. search rules)
     returns)

@@ -10,13 +10,13 @@ returns : tie.Need-returns
 returns c =
     let q = c.before.before in
     let p = q.before.before.before.before.before in
-    let e = p.put-little.ensures.0 in
-    let f = q.put-little2.ensures.0 in
-    let w = put_then p.put-little.ensures.1 q.put-little2.ensures.1 in
+    let e = p.put_little-at.ensures.0 in
+    let f = q.put_little.ensures.0 in
+    let w = put_then p.put_little-at.ensures.1 q.put_little.ensures.1 in
     let g = w.place in
     record { ends = refl; head = record { place = refl; put = record { output = w.output; place = omega arith } } }
 
-pub put-record-spec : {M : Type 1} → statement M
-put-record-spec =
+pub put_record_spec : {M : Type 1} → statement M
+put_record_spec =
     tie.close (tie.spec (λ c. search rules) (λ c. search rules) (λ c κs. search rules) (λ c. search rules) (λ c κs. search rules)
     (λ c. search rules) returns)

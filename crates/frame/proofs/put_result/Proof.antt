@@ -18,13 +18,13 @@ returns c =
     let a = b.before.before.before.before in
     let s = a.before.before.before.before.before in
     let x = held result_items (payloads s.args.settings.now s.args.told.now) in
-    fields_then x 1 controller_rows (results 4 20) a.put-controller.ensures
-    (fields_then x 4 (results 4 5) (results 9 15) b.put-batch.ensures
-    (fields_then x 9 (results 9 3) (results 12 12) d.put-statuses.ensures
-    (fields_then x 12 (results 12 4) (results 16 8) e.put-torques.ensures
-    (fields_then x 16 (results 16 4) (results 20 4) f.put-angles.ensures g.put-times.ensures))))
+    fields_then x 1 controller_rows (results 4 20) a.put_controller-at.ensures
+    (fields_then x 4 (results 4 5) (results 9 15) b.put_batch-at.ensures
+    (fields_then x 9 (results 9 3) (results 12 12) d.put_statuses-at.ensures
+    (fields_then x 12 (results 12 4) (results 16 8) e.put_torques-at.ensures
+    (fields_then x 16 (results 16 4) (results 20 4) f.put_angles-at.ensures g.put_times.ensures))))
 
-pub put-result-spec : {M : Type 1} → statement M
-put-result-spec =
+pub put_result_spec : {M : Type 1} → statement M
+put_result_spec =
     tie.close (tie.spec (λ c κs. search rules) (λ c κs. search rules) (λ c κs. search rules) (λ c κs. search rules)
     (λ c κs. search rules) (λ c κs. search rules) (λ c. search rules) returns)

@@ -19,14 +19,14 @@ returns c =
     let s = a.before.before.before.before.before in
     let p = s.args.told.now in
     let x = told_values result_items p in
-    text_then x 20 19 told 16 (results 21 3) (part_length p 67 19 (omega arith)) refl a.put-text.ensures
-    (text_then x 21 19 told 17 (results 22 2) (part_length p 86 19 (omega arith)) refl b.put-text2.ensures
-    (number_then x 22 1 told 18 (results 23 1) d.before.little.ensures.0 d.put-number.ensures
-    (number_then x 23 10 told 19 [] e.before.little2.ensures.0 e.put-number2.ensures
+    text_then x 20 19 told 16 (results 21 3) (part_length p 67 19 (omega arith)) refl a.put_text-at.ensures
+    (text_then x 21 19 told 17 (results 22 2) (part_length p 86 19 (omega arith)) refl b.put_text-at-2.ensures
+    (number_then x 22 1 told 18 (results 23 1) d.before.little.ensures.0 d.put_number-at.ensures
+    (number_then x 23 10 told 19 [] e.before.little-2.ensures.0 e.put_number.ensures
     (fields_none x 24))))
 
-pub put-times-spec : {M : Type 1} → statement M
-put-times-spec =
+pub put_times_spec : {M : Type 1} → statement M
+put_times_spec =
     tie.close (tie.spec (λ c. search rules) (λ c. search rules) (λ c. search rules) (λ c κs. search rules) (λ c. search rules)
     (λ c. search rules) (λ c. search rules) (λ c κs. search rules) (λ c κs. search rules) (λ c κs. search rules) (λ c κs. search rules)
     (λ c κs. search rules) (λ c. search rules) returns)

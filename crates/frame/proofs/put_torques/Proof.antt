@@ -16,10 +16,10 @@ returns c =
     let a = b.before.before.before.before.before in
     let s = a.before.before.before.before.before in
     limits_then_value (told_values tightening_items s.args.told.now) 12 6 told 8
-    a.before.little.ensures.0 refl a.put-limit.ensures b.before.little2.ensures.0 refl b.put-limit2.ensures
-    d.before.little3.ensures.0 refl d.put-limit3.ensures e.before.little4.ensures.0 e.put-number.ensures
+    a.before.little.ensures.0 refl a.put_limit-at.ensures b.before.little-2.ensures.0 refl b.put_limit-at-2.ensures
+    d.before.little-3.ensures.0 refl d.put_limit-at-3.ensures e.before.little-4.ensures.0 e.put_number.ensures
 
-pub put-torques-spec : {M : Type 1} → statement M
-put-torques-spec =
+pub put_torques_spec : {M : Type 1} → statement M
+put_torques_spec =
     tie.close (tie.spec (λ c κs. search rules) (λ c κs. search rules) (λ c κs. search rules) (λ c κs. search rules) (λ c κs. search rules)
     (λ c κs. search rules) (λ c κs. search rules) (λ c κs. search rules) (λ c. search rules) returns)

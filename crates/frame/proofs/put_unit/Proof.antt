@@ -11,9 +11,9 @@ returns c =
     let b = d.before.before.before.before in
     let a = b.before.before.before.before in
     of_each
-    (λ x. fields_then x 47 (later 47 1) (later 48 2) (fixed a.put-unreported.ensures x)
-    (known_then x 48 1 1 (later 49 1) b.put-number.ensures (fixed d.put-unreported2.ensures x)))
+    (λ x. fields_then x 47 (later 47 1) (later 48 2) (fixed a.put_unreported-at.ensures x)
+    (known_then x 48 1 1 (later 49 1) b.put_number-at.ensures (fixed d.put_unreported.ensures x)))
 
-pub put-unit-spec : {M : Type 1} → statement M
-put-unit-spec =
+pub put_unit_spec : {M : Type 1} → statement M
+put_unit_spec =
     tie.close (tie.spec (λ c κs. search rules) (λ c κs. search rules) (λ c κs. search rules) (λ c. search rules) returns)

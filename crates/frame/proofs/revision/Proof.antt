@@ -8,23 +8,23 @@ use Rattle.frame.proofs.Headers.{left_of}
 use Rattle.frame.proofs.revision.Statement.{statement}
 use Rattle.frame.proofs.revision.Tie as tie
 
-decimal-requires : tie.Need-decimal-requires
+decimal-requires : tie.Need-decimal-n-requires
 decimal-requires c κs =
     let s = c.before.before.before in
-    (s.requires.0, left_of _ _ s.requires.1 (sym c.before.is-spaces.ensures ∙ c.if1.false))
+    (s.requires.0, left_of _ _ s.requires.1 (sym c.before.is_spaces.ensures ∙ c.if-is_spaces.false))
 
-returns-2 : tie.Need-returns-2
+returns-2 : tie.Need-returns-then-n-eq0
 returns-2 c =
     let s = c.before.before.before.before.before.args.s.now in
-    let e : all is_space s ≡ false = sym c.before.before.before.is-spaces.ensures ∙ c.before.before.if1.false in
-    let d : decimal s ≡ 0 = sym c.before.decimal.ensures.0 ∙ c.if2.true in
+    let e : all is_space s ≡ false = sym c.before.before.before.is_spaces.ensures ∙ c.before.before.if-is_spaces.false in
+    let d : decimal s ≡ 0 = sym c.before.decimal-n.ensures.0 ∙ c.if-n-eq0.true in
     rw (e, d)
 
-returns-3 : tie.Need-returns-3
+returns-3 : tie.Need-returns
 returns-3 c =
     let s = c.before.before.before.before.before.args.s.now in
-    let e : all is_space s ≡ false = sym c.before.before.before.is-spaces.ensures ∙ c.before.before.if1.false in
-    rw (e, ← c.before.decimal.ensures.0, ne_eqb _ _ c.if2.false)
+    let e : all is_space s ≡ false = sym c.before.before.before.is_spaces.ensures ∙ c.before.before.if-is_spaces.false in
+    rw (e, ← c.before.decimal-n.ensures.0, ne_eqb _ _ c.if-n-eq0.false)
 
-pub revision-spec : {M : Type 1} → statement M
-revision-spec = tie.close (tie.spec (λ c κs. search rules) (λ c. search rules) decimal-requires returns-2 returns-3)
+pub revision_spec : {M : Type 1} → statement M
+revision_spec = tie.close (tie.spec (λ c κs. search rules) (λ c. search rules) decimal-requires returns-2 returns-3)
