@@ -1,4 +1,6 @@
 // The run of bytes that a session is receiving, as the table holds it.
+#![tactic(auto)]
+
 ghost use Rattle.std.specs.Prelude.{◌≡◌, false, ◌≤◌, ◌<◌, min, length};
 ghost use Rattle.model.specs.Limits.{run_counted};
 ghost use Rattle.model.specs.Runs.{empty_run, longer as longer_run, cut, consumed_by};

@@ -1,4 +1,6 @@
 // What all sessions share, in its bytes at the front of the table.
+#![tactic(auto)]
+
 ghost use Rattle.std.specs.Prelude.{◌≡◌, [], suc, min, ◌<◌, length};
 ghost use Rattle.model.specs.Limits.{identifier_length, number_greatest, results_kept};
 ghost use Rattle.model.specs.Bytes.{spaces};

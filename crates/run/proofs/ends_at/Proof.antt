@@ -8,14 +8,14 @@ use Rattle.run.proofs.Pieces.{passed_none, at_a_NUL, passed_next, at_the_end}
 use Rattle.run.proofs.ends_at.Statement.{statement}
 use Rattle.run.proofs.ends_at.Tie as tie
 
-abbrev invariant-loop : tie.invariant-loop
+abbrev invariant-loop : tie.invariant-loop-i
 invariant-loop bytes far i₀ i = Passed bytes i
 
-abbrev decreases-loop : tie.decreases-loop
+abbrev decreases-loop : tie.decreases-loop-i
 decreases-loop bytes far i₀ i = length bytes - i
 
-pub ends-at-spec : {M : Type 1} → statement M
-ends-at-spec =
+pub ends_at_spec : {M : Type 1} → statement M
+ends_at_spec =
     tie.close
     (tie.spec
     invariant-loop
@@ -24,8 +24,8 @@ ends-at-spec =
     (λ c κs. search rules)
     (λ c. search rules)
     (λ c. search rules)
-    (λ c. at_a_NUL _ _ c.before.before.before.loop.invariant c.before.before.loop-test.true c.if1.true)
+    (λ c. at_a_NUL _ _ c.before.before.before.loop-i.invariant c.before.before.loop-i-test.true c.if-bytes-i-eq0.true)
     (λ c. search rules)
     (λ c. search rules)
-    (λ c. passed_next _ _ c.before.before.before.loop.invariant c.before.before.loop-test.true c.if1.false)
-    (λ c. at_the_end _ _ c.before.loop.invariant c.loop-test.false))
+    (λ c. passed_next _ _ c.before.before.before.loop-i.invariant c.before.before.loop-i-test.true c.if-bytes-i-eq0.false)
+    (λ c. at_the_end _ _ c.before.loop-i.invariant c.loop-i-test.false))

@@ -11,5 +11,5 @@ returns : tie.Need-returns
 unfolding run_formed
 returns c = ap (λ (n : ℕ). leb n 10000) c.little.ensures.0
 
-pub is-formed-spec : {M : Type 1} → statement M
-is-formed-spec = tie.close (tie.spec (λ c κs. search rules) returns)
+pub is_formed_spec : {M : Type 1} → statement M
+is_formed_spec = tie.close (tie.spec (λ c κs. search rules) returns)

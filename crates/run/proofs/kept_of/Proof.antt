@@ -11,7 +11,7 @@ use Rattle.run.proofs.kept_of.Tie as tie
 returns : tie.Need-returns
 returns c =
     let bs = c.before.before.before.args.bytes.now in
-    ap (λ (n : ℕ). take n bs) (sub-zero _ ∙ c.before.least.ensures) ∙ take_least 45 bs
+    ap (λ (n : ℕ). take n bs) (sub-zero _ ∙ c.before.least-k.ensures) ∙ take_least 45 bs
 
-pub kept-of-spec : {M : Type 1} → statement M
-kept-of-spec = tie.close (tie.spec (λ c κs. search rules) (λ c. search rules) (λ c. search rules) (λ c. search rules) returns)
+pub kept_of_spec : {M : Type 1} → statement M
+kept_of_spec = tie.close (tie.spec (λ c κs. search rules) (λ c. search rules) (λ c. search rules) (λ c. search rules) returns)

@@ -13,13 +13,13 @@ returns c =
     let m = y.before.before.before in
     let k = m.before in
     let n = k.before in
-    let s = n.before.before.before.before in
-    rw (p.put-little.ensures.1.output, y.copy.ensures.output, sub-zero)
-    (lengthened s.args.area.now s.args.bytes.now n.count.result k.least.result m.least2.result v.least3.result
-    s.requires n.count.ensures.0 n.count.ensures.1 k.least.ensures m.least2.ensures v.least3.ensures)
+    let s = n.before.before.before in
+    rw (p.put_little.ensures.1.output, y.copy.ensures.output, sub-zero)
+    (lengthened s.args.area.now s.args.bytes.now n.count-n.result k.least-k.result m.least-m.result v.least-v.result
+    s.requires n.count-n.ensures.0 n.count-n.ensures.1 k.least-k.ensures m.least-m.ensures v.least-v.ensures)
 
-pub lengthen-spec : {M : Type 1} → statement M
-lengthen-spec =
+pub lengthen_spec : {M : Type 1} → statement M
+lengthen_spec =
     tie.close (tie.spec (λ c κs. search rules) (λ c κs. search rules) (λ c. search rules) (λ c κs. search rules) (λ c. search rules)
     (λ c. search rules) (λ c. search rules) (λ c. search rules) (λ c κs. search rules) (λ c. search rules) (λ c κs. search rules)
     (λ c. search rules) (λ c κs. search rules) (λ c. search rules) returns)

@@ -9,5 +9,5 @@ returns : tie.Need-returns
 unfolding in_force_of
 returns c = refl
 
-pub in-force-spec : {M : Type 1} → statement M
-in-force-spec = tie.close (tie.spec (λ c. search rules) (λ c. search rules) (λ c. search rules) (λ c. search rules) returns)
+pub in_force_spec : {M : Type 1} → statement M
+in_force_spec = tie.close (tie.spec (λ c. search rules) (λ c. search rules) (λ c. search rules) (λ c. search rules) returns)

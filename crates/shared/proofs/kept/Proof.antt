@@ -16,9 +16,9 @@ returns c =
     let p = c.before in
     let s = p.before.before in
     let a = s.args.area.now in
-    let e = ap₂ (λ (k at : ℕ). take k (drop at a)) (add-sub_cancel_left p.place_at.result tightening_length) p.place_at.ensures in
+    let e = ap₂ (λ (k at : ℕ). take k (drop at a)) (add-sub_cancel_left p.place_at-at.result tightening_length) p.place_at-at.ensures in
     (e, ap length e ∙ payload_long s.args.n a s.requires)
 
-pub kept-spec : {M : Type 1} → statement M
-kept-spec =
+pub kept_spec : {M : Type 1} → statement M
+kept_spec =
     tie.close (tie.spec (λ c κs. search rules) (λ c. search rules) (λ c. search rules) (λ c. search rules) (λ c. search rules) returns)

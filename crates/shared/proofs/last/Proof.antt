@@ -9,5 +9,5 @@ returns : tie.Need-returns
 unfolding last_of
 returns c = (c.little.ensures.0, omega (arith, c.little.ensures.1))
 
-pub last-spec : {M : Type 1} → statement M
-last-spec = tie.close (tie.spec (λ c κs. search rules) returns)
+pub last_spec : {M : Type 1} → statement M
+last_spec = tie.close (tie.spec (λ c κs. search rules) returns)

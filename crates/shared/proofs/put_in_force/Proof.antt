@@ -9,5 +9,5 @@ returns c =
     let s = c.before.before.before.before.before.before in
     rw c.before.before.copy.ensures.output (force_put s.args.area.now s.args.identifier.now s.requires.0 s.requires.1)
 
-pub put-in-force-spec : {M : Type 1} → statement M
-put-in-force-spec = tie.close (tie.spec (λ c κs. search rules) (λ c. search rules) returns)
+pub put_in_force_spec : {M : Type 1} → statement M
+put_in_force_spec = tie.close (tie.spec (λ c κs. search rules) (λ c. search rules) returns)

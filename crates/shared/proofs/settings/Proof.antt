@@ -9,5 +9,5 @@ returns : tie.Need-returns
 unfolding settings_part
 returns c = refl
 
-pub settings-spec : {M : Type 1} → statement M
-settings-spec = tie.close (tie.spec (λ c. search rules) (λ c. search rules) (λ c. search rules) (λ c. search rules) returns)
+pub settings_spec : {M : Type 1} → statement M
+settings_spec = tie.close (tie.spec (λ c. search rules) (λ c. search rules) (λ c. search rules) (λ c. search rules) returns)

@@ -14,10 +14,10 @@ returns c =
     let p = q.before.before.before.before in
     let n = p.before.before in
     let s = n.before.before.before in
-    rw (f.fill.ensures.1.output, y.copy.ensures.output, k.put-little3.ensures.1.output)
-    (rw (q.put-little2.ensures.1.output, p.put-little.ensures.1.output)
-    (started s.args.area.now s.args.payload.now n.little.result s.requires.0 s.requires.1 n.little.ensures.0
-    (omega (arith, n.little.ensures.1))))
+    rw (f.fill.ensures.1.output, y.copy.ensures.output, k.put_little-3.ensures.1.output)
+    (rw (q.put_little-2.ensures.1.output, p.put_little.ensures.1.output)
+    (started s.args.area.now s.args.payload.now n.little-last.result s.requires.0 s.requires.1 n.little-last.ensures.0
+    (omega (arith, n.little-last.ensures.1))))
 
 pub start_spec : {M : Type 1} → statement M
 start_spec =
