@@ -4,4 +4,3 @@ pub mod Idles
 pub mod Hearing
 pub mod Decided
 pub mod Replies
-pub mod Lent

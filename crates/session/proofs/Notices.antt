@@ -20,7 +20,6 @@ use Rattle.session.specs.Control.{taken_busy, taken}
 use Rattle.session.specs.declared.Form.{Form}
 use Rattle.session.specs.declared.Form.TheVariants.{Not, Plain, Acknowledged}
 use Rattle.session.specs.declared.Subscription.{Subscription}
-use Rattle.session.specs.declared.Take.TheVariants as take
 use Rattle.session.specs.declared.Taken.{Taken}
 use Rattle.session.specs.declared.Beat.{Beat}
 use Rattle.session.proofs.Tests.{chosen}

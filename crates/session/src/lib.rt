@@ -1,5 +1,7 @@
 // One session by value: what a tick and a message do to it, and what is done to a subscription of it. The bytes of its notices and of its
 // run are kept elsewhere: the answers here say which place is written, whether the places shift down, and whether the first one is sent.
+#![tactic(auto)]
+
 ghost use Rattle.std.specs.Prelude.{◌≡◌, cond, ◌+◌, ◌≤◌, length, drop};
 ghost use Rattle.model.specs.Limits.{header_length};
 ghost use Rattle.model.specs.Records.{settings_of, settings_length};
@@ -306,6 +308,7 @@ fn beaten(x: Subscription) -> Step
     done_at(x, clock.ticks, due)
 }
 
+#[tactic(auto, unfolding(crate::specs::Control::ticked))]
 pub fn ticked(x: Subscription) -> Step
     ensures { result ≡ ticked_to x }
 {
@@ -322,6 +325,7 @@ pub fn ticked(x: Subscription) -> Step
     }
 }
 
+#[tactic(auto, unfolding(crate::specs::Control::acknowledged))]
 pub fn acknowledged(x: Subscription) -> Step
     ensures { result ≡ acknowledged_to x }
 {
@@ -402,6 +406,7 @@ fn idled_open(x: Session) -> Idling
     })
 }
 
+#[tactic(auto, unfolding(crate::specs::Control::idled))]
 pub fn idled(x: Session) -> Idling
     ensures { result ≡ idled_to x }
 {
@@ -590,6 +595,7 @@ fn decide_opened(x: Session, mid: u64, v: Verdict) -> Decision
 }
 
 // What a run does whose header is h.
+#[tactic(auto, unfolding(crate::specs::Decisions::decision))]
 fn decide_read(x: Session, standing: Standing, h: Header, data_field: &[u8]) -> Decision
     ensures { result ≡ decision x standing h data_field.now }
 {

@@ -6,13 +6,13 @@ use borrow.Author.Tests.{eq-eqb, ne_eqb}
 use Rattle.session.proofs.beat_of.Statement.{statement}
 use Rattle.session.proofs.beat_of.Tie as tie
 
-pub beat-of-spec : {M : Type 1} → statement M
+pub beat_of_spec : {M : Type 1} → statement M
 unfolding beat_at
-beat-of-spec =
+beat_of_spec =
     tie.close
     (tie.spec
     (λ c. search rules)
-    (λ c. rw (at_limit 119 _ c.if1.true))
+    (λ c. rw (at_limit 119 _ c.if-clock.true))
     (λ c. search rules)
-    (λ c. rw (below_limit 119 _ c.before.if1.false, eq-eqb _ _ c.if2.true))
-    (λ c. rw (below_limit 119 _ c.before.if1.false, ne_eqb _ _ c.if2.false)))
+    (λ c. rw (below_limit 119 _ c.before.if-clock.false, eq-eqb _ _ c.if-next-eq0.true))
+    (λ c. rw (below_limit 119 _ c.before.if-clock.false, ne_eqb _ _ c.if-next-eq0.false)))

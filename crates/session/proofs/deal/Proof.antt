@@ -3,5 +3,5 @@ use borrow.Author.Rules.{rules}
 use Rattle.session.proofs.deal.Statement.{statement}
 use Rattle.session.proofs.deal.Tie as tie
 
-pub deal-spec : {M : Type 1} → statement M
-deal-spec = tie.close (tie.spec (λ c κs. search rules) (λ c. rw c.begun.ensures))
+pub deal_spec : {M : Type 1} → statement M
+deal_spec = tie.close (tie.spec (λ c κs. search rules) (λ c. rw c.begun.ensures))

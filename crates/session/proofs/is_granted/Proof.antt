@@ -7,6 +7,6 @@ use Rattle.model.specs.Records.{settings_of}
 use Rattle.session.proofs.is_granted.Statement.{statement}
 use Rattle.session.proofs.is_granted.Tie as tie
 
-pub is-granted-spec : {M : Type 1} → statement M
+pub is_granted_spec : {M : Type 1} → statement M
 unfolding settings_of
-is-granted-spec = tie.close (tie.spec (λ c κs. search rules) (λ c. ap (λ (n : ℕ). eqb n 1) c.little.ensures.0))
+is_granted_spec = tie.close (tie.spec (λ c κs. search rules) (λ c. ap (λ (n : ℕ). eqb n 1) c.little.ensures.0))

@@ -4,14 +4,14 @@ use mathlib.Core.Path.{sym, ◌∙◌}
 use Rattle.session.proofs.refused.Statement.{statement}
 use Rattle.session.proofs.refused.Tie as tie
 
-pub refused-spec : {M : Type 1} → statement M
-refused-spec =
+pub refused_spec : {M : Type 1} → statement M
+refused_spec =
     tie.close (tie.spec (λ c κs. search rules) (λ c κs. search rules) (λ c κs. search rules) (λ c κs. search rules)
     (λ c.
     let g = c.before.before.before in
     c.replied.ensures
-    ∙ rw (c.before.begun.ensures, c.before.before.error-code.ensures, sym g.before.gets_reply.ensures ∙ g.if1.true))
+    ∙ rw (c.before.begun.ensures, c.before.before.error_code-code.ensures, sym g.before.gets_reply.ensures ∙ g.if-gets_reply.true))
     (λ c κs. search rules) (λ c κs. search rules)
     (λ c.
     let g = c.before.before in
-    c.replied2.ensures ∙ rw (c.before.begun2.ensures, sym g.before.gets_reply.ensures ∙ g.if1.false)))
+    c.replied-2.ensures ∙ rw (c.before.begun-2.ensures, sym g.before.gets_reply.ensures ∙ g.if-gets_reply.false)))
