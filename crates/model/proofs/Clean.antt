@@ -21,7 +21,7 @@ use Rattle.model.specs.Records.{alarm_items, alarm_of, Tool, scanned, tightening
 use Rattle.model.specs.Runs.{Run, longer, cut, Message, is_message, message_of, read_run}
 use Rattle.model.specs.Messages.{Effect, starts, stops, identifies, subscribes, unsubscribes, acknowledges, fetches, mirrors}
 use Rattle.model.specs.Messages.{Entry, table, listed, entry_of, Error, already_started, wrong_length, wrong_revision, wrong_data}
-use Rattle.model.specs.Messages.{own, code, Standing, good_length, good_among, good_data, own_test, tested}
+use Rattle.model.specs.Messages.{code, Standing, good_length, good_among, good_data, own_test, tested}
 use Rattle.model.specs.Tests.{first}
 use Rattle.model.specs.Wire.{Every, NoNUL, Framed}
 use Rattle.model.specs.FieldsRead.{limit_within, is_within, all_within}

@@ -4,7 +4,7 @@ use Rattle.std.proofs.Math.Option.{Option, none, some, map as option_map}
 use Rattle.model.specs.Limits.{session_count, table_least, output_least, number_greatest, answer_least, answer_too_short}
 use Rattle.model.specs.Bytes.{in_bytes}
 use Rattle.model.specs.Tests.{Test, ◌gives◌, first}
-use Rattle.model.specs.Records.{Settings, read_settings, Tool, scanned, tightening, alarm, read_tool}
+use Rattle.model.specs.Records.{read_settings, Tool, scanned, tightening, alarm, read_tool}
 use Rattle.model.specs.Runs.{cut, consumed_by}
 use Rattle.model.specs.Events.{Event, identified, kind_of}
 use Rattle.model.specs.Sharing.{reported}

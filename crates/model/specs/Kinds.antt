@@ -1,6 +1,6 @@
 -- 01, "What a message does", "Notices and the clock" and "Frames we write", and 02, P5: the kinds of notice, a row each, with all that
 -- tells one kind from another.
-use Rattle.std.specs.Prelude.{ℕ, suc, ◌+◌, ◌*◌, List, [], ◌∷◌, length, get_or}
+use Rattle.std.specs.Prelude.{ℕ, suc, ◌+◌, ◌*◌, List, [], ◌∷◌, get_or}
 use Rattle.model.specs.Limits.{session_count, tightenings_held, alarms_held}
 use Rattle.model.specs.Records.{record_head}
 use Rattle.model.specs.Layouts.{Layouts, layouts_0052, layouts_0061, layouts_0071}
