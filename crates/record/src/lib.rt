@@ -1,4 +1,6 @@
 // House records: which slices are good settings and tool records, and which identifier is meant.
+#![tactic(auto)]
+
 ghost use Rattle.std.specs.Prelude.{◌≡◌, true, ◌||◌, ◌<◌, leb, eqb, length, drop};
 ghost use Rattle.model.specs.Limits.{never_set};
 ghost use Rattle.model.specs.Records.{
@@ -55,7 +57,7 @@ pub fn is_time(s: &[u8]) -> bool
 // ---- payloads: their items, counted from 0. They stand in the arms of one match: a table would be laid on the stack in each call, and a
 // match for each record would be chosen anew for each item
 
-#[derive(Drop)]
+#[derive(Clone, Copy)]
 enum Item {
     // in how many bytes, and the greatest that is good
     Number(usize, u64),
@@ -73,7 +75,7 @@ const LIMIT_LENGTH: usize = 4;
 const CODE_LENGTH: usize = 4;
 
 // Whose items.
-#[derive(Drop)]
+#[derive(Clone, Copy)]
 enum Items {
     Settings,
     Tightening,
@@ -255,7 +257,7 @@ pub fn is_settings(slice: &[u8]) -> bool
 }
 
 // What a slice is to the call that takes tool records.
-#[derive(Drop)]
+#[derive(Clone, Copy)]
 pub enum RecordKind {
     Bad,
     Tightening,

@@ -1,7 +1,6 @@
 -- `record::good_items` meets its contract. The invariant: the test of the items that are left is the test of all, and their bytes are
 -- there.
 use borrow.Author.Rules.{rules}
-use borrow.Author.Tests.{not-true, not-false}
 use mathlib.Core.Path.{◌≡◌, refl, sym, ap, subst, ◌∙◌}
 use mathlib.Core.Bool.{true}
 use mathlib.Core.List.{List}
@@ -22,121 +21,121 @@ record Left (es : List Item) (s : List ℕ) (at k : ℕ) : Type 0 where
   bytes : at + payload_length (drop k es) ≡ length s
   test : good_parts (drop k es) (parts_from at (drop k es) s) ≡ good_parts es (parts es s)
 
-abbrev invariant-loop : tie.invariant-loop
+abbrev invariant-loop : tie.invariant-loop-k
 invariant-loop s from n at₀ k₀ at k = Left (among from n) s at k
 
-abbrev decreases-loop : tie.decreases-loop
+abbrev decreases-loop : tie.decreases-loop-k
 decreases-loop s from n at₀ k₀ at k = n - k
 
 -- so many of all, from that one on, are the record's
-module _ (c : tie.After-count invariant-loop decreases-loop) where
-  own : among c.before.first.result c.count.result ≡ items_of c.before.before.before.args.items
-  own = rw (c.before.first.ensures, c.count.ensures) (own_among c.before.before.before.args.items)
+module _ (c : tie.After-count-n invariant-loop decreases-loop) where
+  own : among c.before.first-from.result c.count-n.result ≡ items_of c.before.before.before.args.items
+  own = rw (c.before.first-from.ensures, c.count-n.ensures) (own_among c.before.before.before.args.items)
 
   left-own : {at k : ℕ} → let s = c.before.before.before.args.s.now in
-      Left (among c.before.first.result c.count.result) s at k → Left (items_of c.before.before.before.args.items) s at k
+      Left (among c.before.first-from.result c.count-n.result) s at k → Left (items_of c.before.before.before.args.items) s at k
   left-own {at} {k} h = subst (λ (es : List Item). Left es c.before.before.before.args.s.now at k) own h
 
   left-among : {at k : ℕ} → let s = c.before.before.before.args.s.now in
-      Left (items_of c.before.before.before.args.items) s at k → Left (among c.before.first.result c.count.result) s at k
+      Left (items_of c.before.before.before.args.items) s at k → Left (among c.before.first-from.result c.count-n.result) s at k
   left-among {at} {k} h = subst (λ (es : List Item). Left es c.before.before.before.args.s.now at k) (sym own) h
 
 -- in a turn: the item is there, and so are its bytes
-module _ (c : tie.In-loop invariant-loop decreases-loop) where
+module _ (c : tie.In-loop-k invariant-loop decreases-loop) where
   abbrev es : List Item
   es = items_of c.before.before.before.before.before.args.items
 
-  within : c.before.loop.k < length es
-  within = subst (λ (n : ℕ). c.before.loop.k < n) c.before.before.count.ensures c.loop-test.true
+  within : c.before.loop-k.k < length es
+  within = subst (λ (n : ℕ). c.before.loop-k.k < n) c.before.before.count-n.ensures c.loop-k-test.true
 
   -- it is one of all
-  of-all : (c.before.before.before.first.result + c.before.loop.k < length all_items)
-      × (item_at all_items (c.before.before.before.first.result + c.before.loop.k) ≡ item_at es c.before.loop.k)
-  of-all = rw c.before.before.before.first.ensures (item_among c.before.before.before.before.before.args.items _ within)
+  of-all : (c.before.before.before.first-from.result + c.before.loop-k.k < length all_items)
+      × (item_at all_items (c.before.before.before.first-from.result + c.before.loop-k.k) ≡ item_at es c.before.loop-k.k)
+  of-all = rw c.before.before.before.first-from.ensures (item_among c.before.before.before.before.before.args.items _ within)
 
-  left : Left es c.before.before.before.before.before.args.s.now c.before.loop.at c.before.loop.k
-  left = left-own c.before.before c.before.loop.invariant
+  left : Left es c.before.before.before.before.before.args.s.now c.before.loop-k.at c.before.loop-k.k
+  left = left-own c.before.before c.before.loop-k.invariant
 
-module _ (c : tie.After-item-length invariant-loop decreases-loop) where
-  abbrev turn : tie.In-loop invariant-loop decreases-loop
+module _ (c : tie.After-item_length invariant-loop decreases-loop) where
+  abbrev turn : tie.In-loop-k invariant-loop decreases-loop
   turn = c.before.before
 
   -- what was found is the item
-  found : item_of c.before.item_at.result ≡ item_at (es turn) turn.before.loop.k
-  found = c.before.item_at.ensures ∙ (of-all turn).1
+  found : item_of c.before.item_at-item.result ≡ item_at (es turn) turn.before.loop-k.k
+  found = c.before.item_at-item.ensures ∙ (of-all turn).1
 
-  size : item_length (item_at (es turn) turn.before.loop.k) ≡ c.item_length.result
+  size : item_length (item_at (es turn) turn.before.loop-k.k) ≡ c.item_length.result
   size = sym (c.item_length.ensures ∙ ap item_length found)
 
-  there : turn.before.loop.at + c.item_length.result + payload_length (drop (turn.before.loop.k + 1) (es turn))
+  there : turn.before.loop-k.at + c.item_length.result + payload_length (drop (turn.before.loop-k.k + 1) (es turn))
       ≡ length turn.before.before.before.before.before.args.s.now
   there =
-      let n = length_next (es turn) turn.before.before.before.before.before.args.s.now turn.before.loop.k (within turn) in
+      let n = length_next (es turn) turn.before.before.before.before.before.args.s.now turn.before.loop-k.k (within turn) in
       let e = size in
       let i = (left turn).bytes in
       omega arith
 
-good-item-requires : tie.Need-good-item-requires invariant-loop decreases-loop
+good-item-requires : tie.Need-good_item-requires invariant-loop decreases-loop
 good-item-requires c κs =
     let z = c.before in
     let t = turn z in
     let a = t.before.before.before.before.before.args in
     let h = there z in
-    let n = length-take-le z.item_length.result (drop t.before.loop.at a.s.now) in
-    let r = all_at readable (es t) t.before.loop.k time (all_readable a.items) (within t) in (
+    let n = length-take-le z.item_length.result (drop t.before.loop-k.at a.s.now) in
+    let r = all_at readable (es t) t.before.loop-k.k time (all_readable a.items) (within t) in (
       subst (λ (e : Item). readable e ≡ true) (sym (found z)) r,
       rw add-sub_cancel_left (n (simp length-drop (omega arith)) ∙ z.item_length.ensures),
     )
 
 -- what was tested is the item with its bytes
-module _ (c : tie.After-good-item invariant-loop decreases-loop) where
-  abbrev sized : tie.After-item-length invariant-loop decreases-loop
+module _ (c : tie.After-good_item invariant-loop decreases-loop) where
+  abbrev sized : tie.After-item_length invariant-loop decreases-loop
   sized = c.before.before
 
   abbrev at : ℕ
-  at = (turn sized).before.loop.at
+  at = (turn sized).before.loop-k.at
 
   abbrev bytes : List ℕ
   bytes = (turn sized).before.before.before.before.before.args.s.now
 
-  tested : good_item (item_at (es (turn sized)) (turn sized).before.loop.k) (take sized.item_length.result (drop at bytes))
+  tested : good_item (item_at (es (turn sized)) (turn sized).before.loop-k.k) (take sized.item_length.result (drop at bytes))
       ≡ c.good_item.result
   tested =
       ap (λ (e : Item). good_item e (take sized.item_length.result (drop at bytes))) (sym (found sized))
-      ∙ ap (λ (n : ℕ). good_item (item_of sized.before.item_at.result) (take n (drop at bytes)))
+      ∙ ap (λ (n : ℕ). good_item (item_of sized.before.item_at-item.result) (take n (drop at bytes)))
       (sym (add-sub_cancel_left at sized.item_length.result))
       ∙ sym c.good_item.ensures
 
-returns : tie.Need-returns invariant-loop decreases-loop
+returns : tie.Need-returns-then-not-good_item invariant-loop decreases-loop
 returns c =
     let z = sized c.before in
     let t = turn z in
-    let l = t.before.loop in
+    let l = t.before.loop-k in
     items_stop (es t) (bytes c.before) l.k l.at z.item_length.result (within t) (size z)
-    (tested c.before ∙ not-true _ c.if1.true) (left t).test
+    (tested c.before ∙ c.if-not-good_item.true) (left t).test
 
-loop-again : tie.Need-loop-preserved invariant-loop decreases-loop
+loop-again : tie.Need-loop-k-preserved invariant-loop decreases-loop
 loop-again c =
     let z = sized c.before in
     let t = turn z in
-    let l = t.before.loop in
+    let l = t.before.loop-k in
     left-among t.before.before record {
       bytes = there z;
       test =
           items_go_on (es t) (bytes c.before) l.k l.at z.item_length.result (within t) (size z)
-          (tested c.before ∙ not-false _ c.if1.false) (left t).test;
+          (tested c.before ∙ c.if-not-good_item.false) (left t).test;
     }
 
-returns-2 : tie.Need-returns-2 invariant-loop decreases-loop
+returns-2 : tie.Need-returns invariant-loop decreases-loop
 returns-2 c =
     let a = c.before.before.before.before.before.args in
-    let l = c.before.loop in
-    let n = c.before.before.count.ensures in
-    let h = c.loop-test.false in
+    let l = c.before.loop-k in
+    let n = c.before.before.count-n.ensures in
+    let h = c.loop-k-test.false in
     items_end (items_of a.items) a.s.now l.k l.at (omega (arith, h)) (left-own c.before.before l.invariant).test
 
-pub good-items-spec : {M : Type 1} → statement M
-good-items-spec =
+pub good_items_spec : {M : Type 1} → statement M
+good_items_spec =
     tie.close
     (tie.spec
     invariant-loop

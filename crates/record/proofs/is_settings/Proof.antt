@@ -11,5 +11,5 @@ returns : tie.Need-returns
 unfolding read_settings
 returns c = ap (λ (b : Bool). settings_in b c.before.before.args.slice.now) c.good_record.ensures
 
-pub is-settings-spec : {M : Type 1} → statement M
-is-settings-spec = tie.close (tie.spec (λ c κs. search rules) returns)
+pub is_settings_spec : {M : Type 1} → statement M
+is_settings_spec = tie.close (tie.spec (λ c κs. search rules) returns)

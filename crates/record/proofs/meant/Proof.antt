@@ -4,10 +4,10 @@ use mathlib.Core.Path.{sym, ◌∙◌}
 use Rattle.record.proofs.meant.Statement.{statement}
 use Rattle.record.proofs.meant.Tie as tie
 
-pub meant-spec : {M : Type 1} → statement M
-meant-spec =
+pub meant_spec : {M : Type 1} → statement M
+meant_spec =
     tie.close
     (tie.spec
     (λ c κs. search rules)
-    (λ c. rw (sym c.before.is-spaces.ensures ∙ c.if1.true))
-    (λ c. rw (sym c.before.is-spaces.ensures ∙ c.if1.false)))
+    (λ c. rw (sym c.before.is_spaces.ensures ∙ c.if-is_spaces.true))
+    (λ c. rw (sym c.before.is_spaces.ensures ∙ c.if-is_spaces.false)))

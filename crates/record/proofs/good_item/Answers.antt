@@ -15,8 +15,7 @@ use Rattle.model.specs.Records.{item_length, good_item}
 use Rattle.record.specs.declared.Item.{Item}
 use Rattle.record.specs.declared.Item.TheVariants.{Number, Limit}
 use Rattle.record.specs.Items.{item_of, readable}
-use Rattle.record.proofs.good_item.Statement.{statement}
-use Rattle.record.proofs.good_item.Tie as tie
+use Rattle.record.proofs.good_item.Goals as goal
 
 -- the length, and the test, of what the item is
 length-of : {e f : Item} {n : ℕ} → e ≡ f → n ≡ item_length (item_of e) → n ≡ item_length (item_of f)
@@ -37,47 +36,22 @@ limit-test {greatest = greatest} bs p t h = test_of bs p (t ∙ ap (λ (n : ℕ)
 all_of : {e f : Item} (bs : List ℕ) → e ≡ f → length bs ≡ item_length (item_of e) → take (item_length (item_of f)) bs ≡ bs
 all_of bs p h = ap (λ (n : ℕ). take n bs) (sym (length-of p h)) ∙ take-length bs
 
-little-requires : tie.Need-little-requires
-little-requires c κs =
-    let s = c.before.before.before.before in
-    let e = c.before.item.given.1 in
-    let n = length-of e s.requires.1 in
-    (omega arith, leb-true _ 8 (subst (λ (x : Item). readable (item_of x) ≡ true) e s.requires.0))
+pub little-requires : goal.little-requires
+little-requires c =
+    let n = length-of c.in-Number.is c.requires.1 in
+    (omega arith, leb-true _ 8 (subst (λ (x : Item). readable (item_of x) ≡ true) c.in-Number.is c.requires.0))
 
-returns : tie.Need-returns
-returns c =
-    let s = c.before.before.before.before.before in
-    let e = c.before.before.item.given.1 in
-    let bs = s.args.s.now in
-    number-test bs e (c.little.ensures.0 ∙ ap little (all_of bs e s.requires.1))
+pub returns-in-Number : goal.returns-in-Number
+returns-in-Number c =
+    let e = c.in-Number.is in
+    let bs = c.args.s.now in
+    number-test bs e (c.little.ensures.0 ∙ ap little (all_of bs e c.requires.1))
 
-little-requires-2 : tie.Need-little-requires-2
-little-requires-2 c κs = let n = length-of c.before.item2.given.1 c.before.before.before.before.requires.1 in search rules
+pub little-requires-in-Limit : goal.little-requires-in-Limit
+little-requires-in-Limit c = let n = length-of c.in-Limit.is c.requires.1 in search rules
 
-returns-2 : tie.Need-returns-2
-returns-2 c =
-    let s = c.before.before.before.before.before.before in
-    let e = c.before.before.before.item2.given.1 in
-    let bs = s.args.s.now in
-    limit-test bs e c.good_limit.ensures (c.before.little2.ensures.0 ∙ ap little (all_of bs e s.requires.1))
-
-pub good-item-spec : {M : Type 1} → statement M
-good-item-spec =
-    tie.close
-    (tie.spec
-    (λ c. search rules)
-    little-requires
-    (λ c. search rules)
-    little-requires-2
-    (λ c κs. search rules)
-    (λ c. search rules)
-    (λ c κs. search rules)
-    (λ c. search rules)
-    (λ c κs. search rules)
-    (λ c. search rules)
-    (λ c κs. search rules)
-    returns
-    returns-2
-    (λ c. test_of _ c.before.before.item3.given.1 c.is_text.ensures)
-    (λ c. test_of _ c.before.enum_told.given.1 c.is-text2.ensures)
-    (λ c. test_of _ c.before.enum-told2.given.1 c.is_time.ensures))
+pub returns-in-Limit : goal.returns-in-Limit
+returns-in-Limit c =
+    let e = c.in-Limit.is in
+    let bs = c.args.s.now in
+    limit-test bs e c.good_limit.ensures (c.little-in-Limit.ensures.0 ∙ ap little (all_of bs e c.requires.1))
