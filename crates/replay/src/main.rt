@@ -13,8 +13,12 @@ ghost use Rattle.replay.specs.States.{Lends, LendsFrom, Holds, Fits, free_from, 
 
 use controller::Answer;
 use model::{OUTPUT_LEAST, RECORD_HEAD, SETTINGS_RECORD_KIND, TABLE_LEAST};
+use std::io::{Read, Stdin, Stdout};
 
 const PAYLOAD_LONGEST: u64 = 8192;
+
+// How many bytes of the input, and of the lines, wait at most.
+const BUFFER: usize = 65536;
 
 // The kinds of record that stand for the calls of a session, of session 0 and of the last one; and the kind of a tick.
 const SESSION_GREATEST: u64 = 15;
@@ -122,33 +126,33 @@ fn tell(answer: Answer, output: &[u8], lines: &mut [u8], at: usize) -> usize
     show(&output[..written], lines, at)
 }
 
-// Writes out the lines up to `at`.
-fn flush(lines: &[u8], at: usize)
+// Writes out the lines up to `at`. Lines that could not be written are lost, and the run goes on.
+fn flush(stdout: Stdout, lines: &[u8], at: usize)
     requires { at ≤ length lines.now }
 {
-    io::write_all(libc::STDOUT_FILENO, &lines[..at]);
+    let _ = stdout.write_all(&lines[..at]);
 }
 
 // Room for the lines of one more call: those that wait are written out where there is none.
-fn room(lines: &[u8], at: usize) -> usize
+fn room(stdout: Stdout, lines: &[u8], at: usize) -> usize
     requires { Holds lines.now at }
     ensures { (result ≡ free_from (length lines.now) at) × (result + output_least ≤ length lines.now) }
 {
     if lines.len() - at >= OUTPUT_LEAST {
         return at;
     }
-    flush(lines, at);
+    flush(stdout, lines, at);
     0
 }
 
 // The lines of a call, behind those that wait.
-fn print(answer: Answer, output: &[u8], lines: &mut [u8], at: usize) -> usize
+fn print(stdout: Stdout, answer: Answer, output: &[u8], lines: &mut [u8], at: usize) -> usize
     requires { Fits answer output.now × Holds lines.old at }
     ensures behind { Behind (length lines.old) (take at lines.old)
         (text_of answer output.now) (take result lines.new) }
     ensures within { result ≤ length lines.old }
 {
-    let free = room(lines, at);
+    let free = room(stdout, lines, at);
     tell(answer, output, lines, free)
 }
 
@@ -171,7 +175,14 @@ struct To {
 }
 
 // Received bytes: one call at least, and with what is left of them again until nothing is, or a call is refused.
-fn feed(table: &mut [u8], output: &mut [u8], lines: &mut [u8], to: To, bytes: &[u8]) -> usize
+fn feed(
+    stdout: Stdout,
+    table: &mut [u8],
+    output: &mut [u8],
+    lines: &mut [u8],
+    to: To,
+    bytes: &[u8],
+) -> usize
     requires { LendsFrom table.old output.old lines.old to.at }
     ensures follows { Follows (λ x. fed (suc (length bytes.now)) x to.session bytes.now)
         (length lines.old) table.old (take to.at lines.old)
@@ -184,7 +195,7 @@ fn feed(table: &mut [u8], output: &mut [u8], lines: &mut [u8], to: To, bytes: &[
     let mut going = true;
     while going {
         let answer = controller::bytes(table, output, session, left);
-        at = print(answer, output, lines, at);
+        at = print(stdout, answer, output, lines, at);
         let rest = controller::rest(left, answer);
         going = answer.number == 0 && rest.len() > 0;
         left = rest;
@@ -214,7 +225,14 @@ fn call(table: &mut [u8], output: &mut [u8], record_kind: u64, slice: &[u8]) -> 
 }
 
 // One record, as a slice.
-fn given(table: &mut [u8], output: &mut [u8], lines: &mut [u8], at: usize, slice: &[u8]) -> usize
+fn given(
+    stdout: Stdout,
+    table: &mut [u8],
+    output: &mut [u8],
+    lines: &mut [u8],
+    at: usize,
+    slice: &[u8],
+) -> usize
     requires { LendsFrom table.old output.old lines.old at × (record_head ≤ length slice.now) }
     ensures follows { Follows (λ x. given_state x slice.now) (length lines.old)
         table.old (take at lines.old) table.new (take result lines.new) }
@@ -224,6 +242,7 @@ fn given(table: &mut [u8], output: &mut [u8], lines: &mut [u8], at: usize, slice
     if is_within(BYTES_RECORD_KIND, BYTES_LAST, record_kind) {
         let session = record_kind - BYTES_RECORD_KIND;
         return feed(
+            stdout,
             table,
             output,
             lines,
@@ -232,7 +251,7 @@ fn given(table: &mut [u8], output: &mut [u8], lines: &mut [u8], at: usize, slice
         );
     }
     let answer = call(table, output, record_kind, slice);
-    print(answer, output, lines, at)
+    print(stdout, answer, output, lines, at)
 }
 
 // Whether an input begins with a record that ends the run.
@@ -254,7 +273,13 @@ struct Waiting {
 }
 
 // Serves the whole records that an input begins with; what waits behind them, and of the lines.
-fn serve(table: &mut [u8], output: &mut [u8], lines: &mut [u8], input: &[u8]) -> Waiting
+fn serve(
+    stdout: Stdout,
+    table: &mut [u8],
+    output: &mut [u8],
+    lines: &mut [u8],
+    input: &[u8],
+) -> Waiting
     requires { Lends table.old output.old lines.old }
     ensures follows { Follows (λ x. all_given x (records input.now)) (length lines.old)
         table.old [] table.new (take result.lines lines.new) }
@@ -264,7 +289,7 @@ fn serve(table: &mut [u8], output: &mut [u8], lines: &mut [u8], input: &[u8]) ->
     let mut left = input;
     let mut size = whole(left);
     while size > 0 {
-        to = given(table, output, lines, to, &left[..size]);
+        to = given(stdout, table, output, lines, to, &left[..size]);
         left = &left[size..];
         size = whole(left);
     }
@@ -277,6 +302,7 @@ fn serve(table: &mut [u8], output: &mut [u8], lines: &mut [u8], input: &[u8]) ->
 
 // Serves the first `have` bytes of the input, and moves what waits to its front.
 fn serve_and_move(
+    stdout: Stdout,
     table: &mut [u8],
     output: &mut [u8],
     lines: &mut [u8],
@@ -288,30 +314,35 @@ fn serve_and_move(
         table.old [] table.new (take result.lines lines.new) }
     ensures moves { Moves have input.old (length lines.old) result input.new }
 {
-    let waiting = serve(table, output, lines, &input[..have]);
+    let waiting = serve(stdout, table, output, lines, &input[..have]);
     let left = waiting.size;
     text::shift(input, 0, have - left, left);
     waiting
 }
 
-// One read; 0 at the end.
-fn read(space: &mut [u8]) -> usize
+// One read; 0 at the end, and where it fails.
+fn read(stdin: Stdin, space: &mut [u8]) -> usize
     ensures { result ≤ length space.old }
 {
-    let got = libc::read(libc::STDIN_FILENO, space);
-    io::count(got, space)
+    let mut from = stdin;
+    match from.read(space) {
+        Ok(got) => got,
+        Err(_) => 0,
+    }
 }
 
 // One read, behind the `size` bytes that wait in the input.
-fn fill(input: &mut [u8], size: usize) -> usize
+fn fill(stdin: Stdin, input: &mut [u8], size: usize) -> usize
     requires { size ≤ length input.old }
     ensures { Filled size input.old result input.new }
 {
-    read(&mut input[size..])
+    read(stdin, &mut input[size..])
 }
 
 // Reads once, behind the `size` bytes that wait in the input, serves that, and writes out the lines.
 fn turn(
+    stdin: Stdin,
+    stdout: Stdout,
     table: &mut [u8],
     output: &mut [u8],
     lines: &mut [u8],
@@ -323,7 +354,7 @@ fn turn(
         table.new (take result.size input.new) }
     ensures within { result.size ≤ length input.old }
 {
-    let got = fill(input, size);
+    let got = fill(stdin, input, size);
     if got == 0 {
         return Waiting {
             size,
@@ -331,9 +362,9 @@ fn turn(
             going: false,
         };
     }
-    let waiting = serve_and_move(table, output, lines, input, size + got);
+    let waiting = serve_and_move(stdout, table, output, lines, input, size + got);
     let at = waiting.lines;
-    flush(lines, at);
+    flush(stdout, lines, at);
     Waiting {
         size: waiting.size,
         lines: 0,
@@ -342,7 +373,14 @@ fn turn(
 }
 
 // A proved loop has to end, and nothing says that an input does: this one ends after more turns than any run has.
-fn run(table: &mut [u8], output: &mut [u8], lines: &mut [u8], input: &mut [u8])
+fn run(
+    stdin: Stdin,
+    stdout: Stdout,
+    table: &mut [u8],
+    output: &mut [u8],
+    lines: &mut [u8],
+    input: &mut [u8],
+)
     requires { Lends table.old output.old lines.old }
     ensures { Ran table.old table.new }
 {
@@ -350,7 +388,7 @@ fn run(table: &mut [u8], output: &mut [u8], lines: &mut [u8], input: &mut [u8])
     let mut size = 0;
     let mut going = true;
     while turns > 0 && going {
-        let waiting = turn(table, output, lines, input, size);
+        let waiting = turn(stdin, stdout, table, output, lines, input, size);
         size = waiting.size;
         going = waiting.going;
         turns -= 1;
@@ -358,10 +396,17 @@ fn run(table: &mut [u8], output: &mut [u8], lines: &mut [u8], input: &mut [u8])
 }
 
 // The table begins as zeros, which are not well formed.
-fn main() {
+fn main(rt: HostRuntime) {
     let mut table = [0u8; TABLE_LEAST];
     let mut output = [0u8; OUTPUT_LEAST];
-    let mut lines = io::large_buffer();
-    let mut input = io::large_buffer();
-    run(&mut table, &mut output, &mut lines, &mut input);
+    let mut lines = [0u8; BUFFER];
+    let mut input = [0u8; BUFFER];
+    run(
+        rt.stdin(),
+        rt.stdout(),
+        &mut table,
+        &mut output,
+        &mut lines,
+        &mut input,
+    );
 }
