@@ -1,4 +1,6 @@
 // A session's phase and idle count, loaded from their bytes in the table and stored there.
+#![tactic(auto)]
+
 ghost use Rattle.std.specs.Prelude.{◌≡◌, ◌≤◌, length};
 ghost use Rattle.head.specs.Head.{phase_of, phase_last, head_size, head_of, head_formed, Storable, Area};
 

@@ -77,7 +77,7 @@ gone n (call {m = m} {ms = ms} e r f c) g =
     omega (arith, copies_append n m.sent (all_sent ms))
 
 -- n is open and its clock is d: what is still to come of it
-pub opened : (n d : ℕ) {room : Room} {k : ℕ} {q : PendingSeen} {ms : List Mark} → Course room k q ms → OpenAt n d q k
+pub opened : (n : ℕ) {room : Room} (d : ℕ) {k : ℕ} {q : PendingSeen} {ms : List Mark} → Course room k q ms → OpenAt n d q k
     → copies n ms + d / copy_every ≡ min most_repeats ((d + ticks_open ms) / copy_every)
 opened n d {k = k} {q = q} end g = let h = open_lt n d q k g in omega arith
 opened n d {k = k} {q = q} (call {k' = k'} {q' = q'} {m = m} {ms = ms} e r f c) g =
@@ -185,7 +185,7 @@ module _ (n : ℕ) where
   late d empty g l = g
   late d (busy x c q) g l = omega arith
 
-  pub in_time : (d : ℕ) {most k : ℕ} {q : PendingSeen} {ms : List Mark} → Course (up_to most) k q ms → Due n d q → Stays ms
+  pub in_time : {most : ℕ} (d : ℕ) {k : ℕ} {q : PendingSeen} {ms : List Mark} → Course (up_to most) k q ms → Due n d q → Stays ms
       → d ≤ tick_count ms → 0 < copies n ms
   in_time d {q = q} end g u l = absurd (late d q g l)
   in_time d (call {k = k} {k' = k'} {q = q} {q' = q'} {m = m} {ms = ms} e r f c) g u l =

@@ -1,5 +1,7 @@
 // What demand 3 says of the calls of a history is defined in specs/ and proved in proofs/ of any machine that keeps notices so. A
 // crate needs a function: this one answers how many copies a notice has that stood open so many ticks.
+#![tactic(auto)]
+
 ghost use Rattle.std.specs.Prelude.{◌≡◌};
 ghost use Rattle.watch.specs.Marks.{copies_due};
 

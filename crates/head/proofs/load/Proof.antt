@@ -8,4 +8,4 @@ pub load_spec : {M : Type 1} → statement M
 unfolding head_of
 load_spec =
     tie.close (tie.spec (λ c. search rules) (λ c κs. search rules) (λ c. search rules) (λ c κs. search rules)
-    (λ c. rw (c.wide.ensures, c.before.before.phase-from.ensures)))
+    (λ c. rw (c.wide.ensures, c.before.before.phase_from.ensures)))

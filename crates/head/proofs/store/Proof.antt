@@ -7,7 +7,7 @@ use Rattle.head.proofs.store.Tie as tie
 returns : tie.Need-returns
 returns c =
     let s = c.before.before.before in
-    let b = c.before.phase-byte in
+    let b = c.before.phase_byte in
     stores s.args.x b.result s.requires.1 b.ensures.0 b.ensures.1 s.args.head.now s.requires.0
 
 pub store_spec : {M : Type 1} → statement M
