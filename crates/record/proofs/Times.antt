@@ -13,7 +13,8 @@ module _ (l : List ℕ) (i : ℕ) where
       → is_time_from (i + 1) (drop i l) ≡ good_in_time (i + 1) (get_or l i 0) && is_time_from (i + 1 + 1) (drop (i + 1) l)
   time_next h =
       let e : suc (i + 1) ≡ i + 1 + 1 = omega arith in
-      ap (is_time_from (i + 1)) (drop_next l i 0 h) ∙ ap (λ (n : ℕ). good_in_time (i + 1) (get_or l i 0) && is_time_from n (drop (i + 1) l)) e
+      ap (is_time_from (i + 1)) (drop_next l i 0 h)
+      ∙ ap (λ (n : ℕ). good_in_time (i + 1) (get_or l i 0) && is_time_from n (drop (i + 1) l)) e
 
   -- a loop that tests a byte a turn: what is left of the test is all of it
   pub time_goes_on : {b : Bool} → i < length l → good_in_time (i + 1) (get_or l i 0) ≡ true → is_time_from (i + 1) (drop i l) ≡ b

@@ -27,7 +27,8 @@ returns-3 c =
     let s = i.before.before.before in
     let a = s.args in
     by_items a.record_kind (items_of a.items) a.slice.now (sym i.before.is_record.ensures ∙ i.if-not-is_record.false)
-    (sym (ap length p.payload-bytes.ensures) ∙ c.before.if-bytes-size.false ∙ s.requires) (rw p.payload-bytes.ensures at c.good_items.ensures)
+    (sym (ap length p.payload-bytes.ensures) ∙ c.before.if-bytes-size.false ∙ s.requires)
+    (rw p.payload-bytes.ensures at c.good_items.ensures)
 
 pub good_record_spec : {M : Type 1} → statement M
 good_record_spec = tie.close (tie.spec (λ c κs. search rules) returns (λ c κs. search rules) returns-2 (λ c κs. search rules) returns-3)
