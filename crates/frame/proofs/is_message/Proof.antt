@@ -30,7 +30,8 @@ returns-5 c =
     let d = o.before.before in
     let t = d.before.before.before in
     let a = t.before.before.before.args in
-    no_mid a.run.now a.count t.before.if-run-lt-HEADER_LENGTH.false t.if-count-gt-MESSAGE_LONGEST.false (sym d.before.is_digits.ensures ∙ d.if-not-is_digits.false)
+    no_mid a.run.now a.count t.before.if-run-lt-HEADER_LENGTH.false t.if-count-gt-MESSAGE_LONGEST.false
+    (sym d.before.is_digits.ensures ∙ d.if-not-is_digits.false)
     (sym o.before.decimal.ensures.0 ∙ o.if-decimal-count.false)
     (sym c.before.is_digits-2.ensures ∙ c.if-not-is_digits-2.true)
 
@@ -65,7 +66,8 @@ returns-7 c =
 
 pub is_message_spec : {M : Type 1} → statement M
 is_message_spec =
-    tie.close (tie.spec (λ c. rw (lt-leb _ _ c.if-run-lt-HEADER_LENGTH.true)) (λ c. rw (le-leb _ _ c.before.if-run-lt-HEADER_LENGTH.false, lt-leb _ _ c.if-count-gt-MESSAGE_LONGEST.true))
+    tie.close (tie.spec (λ c. rw (lt-leb _ _ c.if-run-lt-HEADER_LENGTH.true))
+    (λ c. rw (le-leb _ _ c.before.if-run-lt-HEADER_LENGTH.false, lt-leb _ _ c.if-count-gt-MESSAGE_LONGEST.true))
     (λ c. search rules) (λ c. search rules) (λ c. search rules) (λ c κs. search rules) returns-3
     (λ c κs. (simp length-take (omega arith), sym c.before.is_digits.ensures ∙ c.if-not-is_digits.false))
     returns-4 (λ c. search rules) (λ c. search rules) (λ c. search rules) (λ c κs. search rules) returns-5 (λ c. search rules)
