@@ -109,7 +109,8 @@ drop_after l ys a k b e h g =
     let p : a + k + (b - (a + k)) ≡ b = omega arith in
     let q : a + k - a ≡ k = add-sub_cancel_left a k in
     ap (λ (n : ℕ). drop n (put_mid a k l ys)) (sym p) ∙ sym (drop-drop _ (a + k) _)
-    ∙ ap (drop (b - (a + k))) (ap (λ (n : ℕ). drop (a + k) (put_mid a n l ys)) (sym q) ∙ drop_put a (a + k) l ys (omega arith) h (e ∙ sym q))
+    ∙ ap (drop (b - (a + k))) (ap (λ (n : ℕ). drop (a + k) (put_mid a n l ys)) (sym q)
+    ∙ drop_put a (a + k) l ys (omega arith) h (e ∙ sym q))
     ∙ drop-drop _ (a + k) l ∙ ap (λ (n : ℕ). drop n l) p
 
 -- ==== a run of stores, seen from before it, from its start and from past it
@@ -177,7 +178,8 @@ pub moved : (q₀ q : List ℕ) (to from n i : ℕ) → Moving q₀ q to from n 
 moved q₀ q to from n i m h le k =
     let far : to + i + (from - to) ≡ from + i = omega arith in
     let b : get_or q (from + i) 0 ≡ get_or q₀ (from + i) 0 =
-    ap (λ (j : ℕ). get_or q j 0) (sym far) ∙ sym (get_or-drop (to + i) q (from - to) 0) ∙ ap (λ (l : List ℕ). get_or l (from - to) 0) m.ahead
+    ap (λ (j : ℕ). get_or q j 0) (sym far) ∙ sym (get_or-drop (to + i) q (from - to) 0)
+    ∙ ap (λ (l : List ℕ). get_or l (from - to) 0) m.ahead
     ∙ get_or-drop (to + i) q₀ (from - to) 0 ∙ ap (λ (j : ℕ). get_or q₀ j 0) far in
     let up : to + (i + 1) ≡ to + i + 1 = omega arith in
     record {

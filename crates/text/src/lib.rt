@@ -1,4 +1,6 @@
 // Bytes, and the numbers and texts in them.
+#![tactic(auto)]
+
 ghost use Rattle.std.specs.Prelude.{◌≡◌, true, ◌+◌, ◌-◌, ◌^◌, ◌≤◌, ◌<◌, length, take, drop, replicate};
 ghost use Rattle.std.proofs.lemmas.List.Edits.{sets};
 ghost use Rattle.model.specs.Bytes.{within, is_digit, is_text, is_space, all, decimal as decimal_of, digits, little as little_of, in_bytes};

@@ -17,7 +17,8 @@ decreases-loop s out₀ at i₀ out i = length s - i
 
 pub copy_spec : {M : Type 1} → statement M
 copy_spec =
-    tie.close (tie.spec invariant-loop decreases-loop (λ c. (omega arith, rw add-zero (left_all _ _ _))) (λ c. search rules) (λ c. search rules)
+    tie.close (tie.spec invariant-loop decreases-loop (λ c. (omega arith, rw add-zero (left_all _ _ _))) (λ c. search rules)
+    (λ c. search rules)
     (λ c. search rules) (λ c. search rules) (λ c. search rules)
     (λ c. (omega arith, left_set _ _ (drop_next _ _ 0 c.before.loop-i-test.true) c.before.before.loop-i.invariant.1))
     (λ c. search rules) (λ c. search rules)

@@ -1,9 +1,7 @@
 -- `text::little_2` meets its contract.
 use borrow.Author.Rules.{rules}
-use mathlib.Core.Path.{◌≡◌, sym, ◌∙◌}
 use Prim.Native.Nat.{◌+◌, ◌<◌}
 use native.Mathlib.Omega.{arith}
-use lib.ListN.{get_or}
 use Rattle.text.proofs.Numbers.{little_2}
 use Rattle.text.proofs.little_2.Statement.{statement}
 use Rattle.text.proofs.little_2.Tie as tie

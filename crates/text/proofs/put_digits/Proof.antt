@@ -39,17 +39,10 @@ all-of-them : {o o' : List ℕ} (at width n : ℕ) → o' ≡ sets o at (digits 
     → (at + width ≡ at + width) × Put o at (digits width n) (at + width) o'
 all-of-them at width n e = (refl, put_of width _ (digits_length width n) e refl)
 
--- none is left, or one
-returns : tie.Need-returns-then-i-eq0 invariant-loop decreases-loop
+-- one is left
+returns : tie.Need-returns invariant-loop decreases-loop
 unfolding digits
 returns c =
-    let l = c.before.before in
-    let a = l.before.before.args in
-    all-of-them a.at a.width a.n (rw c.if-i-eq0.true at l.loop-i.invariant.2)
-
-returns-2 : tie.Need-returns invariant-loop decreases-loop
-unfolding digits
-returns-2 c =
     let l = c.before.before in
     let a = l.before.before.args in
     let more = c.if-i-eq0.false in
@@ -57,8 +50,13 @@ returns-2 c =
     let one : l.loop-i.i ≡ 1 = omega (arith, more, few) in
     all-of-them a.at a.width a.n (rw one at l.loop-i.invariant.2)
 
+-- or none
 pub put_digits_spec : {M : Type 1} → statement M
+unfolding digits
 put_digits_spec =
-    tie.close (tie.spec invariant-loop decreases-loop (λ c. (omega arith, refl, refl)) (λ c. search rules) (λ c κs. search rules) (λ c. search rules)
-    loop-again (λ c. search rules) (λ c. search rules) returns (λ c. search rules) (λ c. search rules) (λ c. search rules)
-    (λ c. search rules) (λ c. search rules) returns-2)
+    tie.close (tie.spec invariant-loop decreases-loop (λ c. (omega arith, refl, refl)) (λ c. search rules) (λ c κs. search rules)
+    (λ c. search rules) loop-again (λ c. search rules) (λ c. search rules)
+    (λ c. let l = c.before.before in
+    let a = l.before.before.args in
+    all-of-them a.at a.width a.n (rw c.if-i-eq0.true at l.loop-i.invariant.2))
+    (λ c. search rules) (λ c. search rules) (λ c. search rules) (λ c. search rules) (λ c. search rules) returns)
