@@ -1,5 +1,7 @@
 // The results that sessions have open or waiting: one copy of each, in places that all sessions share. A session keeps the numbers of its
 // places.
+#![tactic(auto)]
+
 ghost use Rattle.std.specs.Prelude.{◌≡◌, true, ◌<◌, length};
 ghost use Rattle.model.specs.Bytes.{all};
 ghost use Rattle.places.specs.Places.{place_count, places_size, is_place, place_in, Putting, Puts};

@@ -16,6 +16,6 @@ returns c =
     ap (λ (k : ℕ). take k (drop (s.args.p * place_size tightenings) s.args.area.now))
     (add-sub_cancel_left (s.args.p * place_size tightenings) (place_size tightenings))
 
-pub at-spec : {M : Type 1} → statement M
-at-spec = tie.close (tie.spec (λ c. let f = place_fits _ c.requires.1 in search rules) (λ c. search rules) (λ c. search rules)
+pub at_spec : {M : Type 1} → statement M
+at_spec = tie.close (tie.spec (λ c. let f = place_fits _ c.requires.1 in search rules) (λ c. search rules) (λ c. search rules)
     (λ c. search rules) (λ c. let f = place_fits _ c.requires.1 in search rules) returns)

@@ -9,14 +9,14 @@ use Rattle.places.proofs.Marks.{looked_next, looked_found, looked_end}
 use Rattle.places.proofs.first_free.Statement.{statement}
 use Rattle.places.proofs.first_free.Tie as tie
 
-abbrev invariant-loop : tie.invariant-loop
+abbrev invariant-loop : tie.invariant-loop-p
 invariant-loop used p₀ p = p + first_free (drop p used) ≡ first_free used
 
-abbrev decreases-loop : tie.decreases-loop
+abbrev decreases-loop : tie.decreases-loop-p
 decreases-loop used p₀ p = length used - p
 
-pub first-free-spec : {M : Type 1} → statement M
-first-free-spec =
+pub first_free_spec : {M : Type 1} → statement M
+first_free_spec =
     tie.close
     (tie.spec
     invariant-loop
@@ -24,9 +24,9 @@ first-free-spec =
     (λ c. omega arith)
     (λ c. search rules)
     (λ c. let l = c.before.before.before in let u = l.before.args.used.now in
-    omega (arith, l.loop.invariant, looked_found u l.loop.p c.before.before.loop-test.true c.if1.true))
+    omega (arith, l.loop-p.invariant, looked_found u l.loop-p.p c.before.before.loop-p-test.true c.if-used-p-eq0.true))
     (λ c. search rules)
     (λ c. search rules)
     (λ c. let l = c.before.before.before in let u = l.before.args.used.now in
-    omega (arith, l.loop.invariant, looked_next u l.loop.p c.before.before.loop-test.true c.if1.false))
-    (λ c. omega (arith, c.before.loop.invariant, looked_end c.before.before.args.used.now c.before.loop.p c.loop-test.false)))
+    omega (arith, l.loop-p.invariant, looked_next u l.loop-p.p c.before.before.loop-p-test.true c.if-used-p-eq0.false))
+    (λ c. omega (arith, c.before.loop-p.invariant, looked_end c.before.before.args.used.now c.before.loop-p.p c.loop-p-test.false)))
