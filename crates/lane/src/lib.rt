@@ -1,5 +1,7 @@
 // A lane: a session's subscription to one kind of notice and the notices that it holds, in one part of the lent table. Its functions
 // change it and say whether a copy is to be sent; what is sent is written elsewhere.
+#![tactic(auto)]
+
 ghost use Rattle.std.specs.Prelude.{◌≡◌, true, List, ℕ, ◌≤◌, ◌<◌, length};
 ghost use Rattle.model.specs.Kinds.{kinds, room_of, tightenings};
 ghost use Rattle.model.specs.Bytes.{all};
@@ -294,6 +296,7 @@ fn busy(x: Subscription, kind: usize) -> Taken
 }
 
 // What becomes of its notice, and the subscription after it.
+#[tactic(auto, unfolding(session::specs::Control::taken))]
 fn taken_by(x: Subscription, kind: usize) -> Taken
     requires { kind < length kinds }
     ensures { result ≡ taken (room_of kind) x }

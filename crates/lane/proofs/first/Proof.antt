@@ -10,20 +10,20 @@ use Rattle.lane.proofs.Lanes.{first_fits}
 use Rattle.lane.proofs.first.Statement.{statement}
 use Rattle.lane.proofs.first.Tie as tie
 
-module _ (c : tie.After-slot-size) where
-  fit : control_size + c.slot_size.result ≤ length c.before.before.args.lane.now
+module _ (c : tie.After-slot_size-end) where
+  fit : control_size + c.slot_size-end.result ≤ length c.before.before.args.lane.now
   fit =
       let s = c.before.before in
       let e = s.requires.1 in
       let h = first_fits s.args.kind (kind_fits s.args.kind s.requires.0).some in
-      rw (c.slot_size.ensures, e) h
+      rw (c.slot_size-end.ensures, e) h
 
 returns : tie.Need-returns
 returns c =
     let z = c.before in
     let s = z.before.before in
     ap (λ (n : ℕ). take n (drop control_size s.args.lane.now))
-    (add-sub_cancel_left control_size z.slot_size.result ∙ z.slot_size.ensures)
+    (add-sub_cancel_left control_size z.slot_size-end.result ∙ z.slot_size-end.ensures)
 
 pub first_spec : {M : Type 1} → statement M
 first_spec =

@@ -10,21 +10,21 @@ use Rattle.lane.proofs.is_formed.Statement.{statement}
 use Rattle.lane.proofs.is_formed.Tie as tie
 
 -- what the row tells
-module _ (c : tie.Else3) where
-  placed : c.before.before.before.before.row_of.result.placed ≡ is_placed
+module _ (c : tie.Else-held-row) where
+  placed : c.before.before.before.before.row_of-row.result.placed ≡ is_placed
       c.before.before.before.before.before.before.before.before.before.before.before.args.kind
-  placed = ap (λ (r : Row). r.placed) c.before.before.before.before.row_of.ensures
+  placed = ap (λ (r : Row). r.placed) c.before.before.before.before.row_of-row.ensures
 
-  few : c.before.before.wide2.result ≤ most
+  few : c.before.before.wide-held.result ≤ most
       c.before.before.before.before.before.before.before.before.before.before.before.args.kind
-  few = subst (λ (r : Row). c.before.before.wide2.result ≤ r.most) c.before.before.before.before.row_of.ensures c.if3.false
+  few = subst (λ (r : Row). c.before.before.wide-held.result ≤ r.most) c.before.before.before.before.row_of-row.ensures c.if-held-row.false
 
-slots-formed-requires : tie.Need-slots-formed-requires
+slots-formed-requires : tie.Need-slots_formed-requires
 slots-formed-requires c κs =
     let s = c.before.before.before.before.before.before.before.before.before.before.before in
     record { size = s.requires.1; few = few c; row = placed c }
 
-returns-3 : tie.Need-returns-3
+returns-3 : tie.Need-returns-then-held-row
 unfolding lane_formed
 returns-3 c =
     let w = c.before.before in
@@ -32,12 +32,12 @@ returns-3 c =
     let i = r.before in
     let v = i.before in
     rw (
-      le-leb _ _ v.before.before.if1.false,
-      lt-ltb _ _ (rw v.wide.ensures at i.if2.false),
-      lt-leb _ _ (rw (w.wide2.ensures, r.row_of.ensures) at c.if3.true),
+      le-leb _ _ v.before.before.if-lane-gt-FORM_GREATEST.false,
+      lt-ltb _ _ (rw v.wide.ensures at i.if-wide-ge-GIVEN_UP_AT.false),
+      lt-leb _ _ (rw (w.wide-held.ensures, r.row_of-row.ensures) at c.if-held-row.true),
     )
 
-returns-4 : tie.Need-returns-4
+returns-4 : tie.Need-returns
 unfolding lane_formed
 returns-4 c =
     let e = c.before in
@@ -46,24 +46,24 @@ returns-4 c =
     let i = r.before in
     let v = i.before in
     rw (
-      le-leb _ _ v.before.before.if1.false,
-      lt-ltb _ _ (rw v.wide.ensures at i.if2.false),
-      le-leb _ _ (rw w.wide2.ensures at (few e)),
+      le-leb _ _ v.before.before.if-lane-gt-FORM_GREATEST.false,
+      lt-ltb _ _ (rw v.wide.ensures at i.if-wide-ge-GIVEN_UP_AT.false),
+      le-leb _ _ (rw w.wide-held.ensures at (few e)),
       c.slots_formed.ensures,
-      w.wide2.ensures,
+      w.wide-held.ensures,
     )
 
-pub is-formed-spec : {M : Type 1} → statement M
+pub is_formed_spec : {M : Type 1} → statement M
 unfolding lane_formed
-is-formed-spec =
+is_formed_spec =
     tie.close
     (tie.spec
     (λ c. search rules)
-    (λ c. rw (lt-leb _ _ c.if1.true))
+    (λ c. rw (lt-leb _ _ c.if-lane-gt-FORM_GREATEST.true))
     (λ c. search rules)
     (λ c κs. search rules)
     (λ c.
-    rw (le-leb _ _ c.before.before.before.if1.false, le-ltb _ _ (rw c.before.wide.ensures at c.if2.true)))
+    rw (le-leb _ _ c.before.before.before.if-lane-gt-FORM_GREATEST.false, le-ltb _ _ (rw c.before.wide.ensures at c.if-wide-ge-GIVEN_UP_AT.true)))
     (λ c κs. search rules)
     (λ c. search rules)
     (λ c κs. search rules)

@@ -36,8 +36,8 @@ returns c =
     let e = ap (λ (n : ℕ). take n (drop control_size l)) (add-sub_cancel_left control_size w.wide.result ∙ held w) in
     (e, ap (all is_place) e ∙ places_there l s.requires.size (storable tightenings l s.requires).held (held_formed tightenings l s.requires))
 
-pub places-spec : {M : Type 1} → statement M
-places-spec =
+pub places_spec : {M : Type 1} → statement M
+places_spec =
     tie.close
     (tie.spec
     (λ c. search rules)

@@ -1,6 +1,5 @@
 -- `lane::slots_formed` meets its contract, by whether the slots are places.
 use borrow.Author.Rules.{rules}
-use borrow.Author.Tests.{not-true, not-false}
 use mathlib.Core.Path.{ap, ◌∙◌}
 use Prim.Native.Nat.{ℕ}
 use native.Mathlib.Nat.{add-sub_cancel_left}
@@ -11,21 +10,21 @@ use Rattle.lane.proofs.Slots.{not_tested, in_lane, is_tested}
 use Rattle.lane.proofs.slots_formed.Statement.{statement}
 use Rattle.lane.proofs.slots_formed.Tie as tie
 
-returns-2 : tie.Need-returns-2
+returns-2 : tie.Need-returns
 returns-2 c =
     let s = c.before.before.before.before in
     c.all_within.ensures
     ∙ ap (λ (n : ℕ). all (within 0 31) (take n (drop control_size s.args.lane.now))) (add-sub_cancel_left control_size s.args.held)
-    ∙ is_tested s.requires (not-false _ c.before.before.if1.false)
+    ∙ is_tested s.requires c.before.before.if-not-placed.false
 
-pub slots-formed-spec : {M : Type 1} → statement M
-slots-formed-spec =
+pub slots_formed_spec : {M : Type 1} → statement M
+slots_formed_spec =
     tie.close
     (tie.spec
-    (λ c. not_tested c.before.before.requires (not-true _ c.if1.true))
-    (λ c. let h = in_lane c.before.before.requires (not-false _ c.if1.false) in search rules)
+    (λ c. not_tested c.before.before.requires c.if-not-placed.true)
+    (λ c. let h = in_lane c.before.before.requires c.if-not-placed.false in search rules)
     (λ c. search rules)
     (λ c. search rules)
-    (λ c. let h = in_lane c.before.before.requires (not-false _ c.if1.false) in search rules)
+    (λ c. let h = in_lane c.before.before.requires c.if-not-placed.false in search rules)
     (λ c κs. search rules)
     returns-2)

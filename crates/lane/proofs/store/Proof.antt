@@ -13,9 +13,9 @@ returns c =
     let k = y.before.before.before in
     let f = k.before.before in
     let s = f.before.before in
-    rw (p.put-little.ensures.1.output, y.copy.ensures.output)
-    (stores s.args.kind s.args.lane.now s.args.x f.form-byte.result s.requires.size s.requires.control s.requires.formed
-    f.form-byte.ensures.0 f.form-byte.ensures.1 (omega (arith, k.struct-known2.given.1)))
+    rw (p.put_little.ensures.1.output, y.copy.ensures.output)
+    (stores s.args.kind s.args.lane.now s.args.x f.form_byte.result s.requires.size s.requires.control s.requires.formed
+    f.form_byte.ensures.0 f.form_byte.ensures.1 (omega (arith, k.struct_known-2-1.given.1)))
 
 pub store_spec : {M : Type 1} → statement M
 store_spec =
