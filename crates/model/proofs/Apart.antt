@@ -21,7 +21,7 @@ use Rattle.model.specs.Calls.{happening, moments, taken_by, in_sum, Answer, answ
 use Rattle.model.specs.Sights.{sight}
 use Rattle.model.specs.Own.{Glance, its_call, made_known, glance, Learned, told_to, if_seen, view_of, told_in, world_after}
 use Rattle.model.specs.Own.{seen_of, lived, Ample, AllAmple, ample, glanced, folded, world_folded, SameFor}
-use Rattle.model.proofs.Lived.{length_after, lives}
+use Rattle.model.proofs.Lived.{length_after, lives, not_seen}
 use Rattle.model.proofs.Takers.{in_none, in_takers}
 
 module _ (s : ℕ) where
@@ -62,9 +62,9 @@ module _ (s : ℕ) where
     unseen_first : (t : ℕ) (l : Local) (o : Option Event) → eqb s t ≡ false
         → SameFor s (after w (to t l ∷ happening o)) (after v (happening o))
         × (pick s (emitted w (to t l ∷ happening o)) ≡ pick s (emitted v (happening o)))
-    unseen_first t l none e = same_lived (to t l ∷ []) [] r.shared (rw e)
+    unseen_first t l none e = same_lived (to t l ∷ []) [] r.shared (rw (not_seen s t l e))
     unseen_first t l (some x) e =
-        same_lived (to t l ∷ happens x ∷ []) (happens x ∷ []) (ap (λ (g : Shared). changed g (by_event x)) r.shared) (rw e)
+        same_lived (to t l ∷ happens x ∷ []) (happens x ∷ []) (ap (λ (g : Shared). changed g (by_event x)) r.shared) (rw (not_seen s t l e))
 
     -- ==== a call that is for it
 

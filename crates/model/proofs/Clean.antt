@@ -11,7 +11,7 @@ use lib.ListN.{length, take, drop, length-take, length-drop}
 use lib.Seq.{take_all, take-take, length-take-le}
 use borrow.Author.Tests.{leb-true, eqb-true, eqb-false, eq-eqb, not-false}
 use Rattle.model.specs.Limits.{header_length, identifier_length, number_greatest, never_set, run_kept}
-use Rattle.model.specs.Bytes.{NUL, dash, colon, is_digit, all, places, decimal, little}
+use Rattle.model.specs.Bytes.{NUL, is_digit, all, places, decimal, little}
 use Rattle.model.specs.Records.{is_record, payload, Item, number, limit, text, time, item_length, payload_length, parts_from}
 use Rattle.model.specs.Records.{good_in_time, is_time_from, good_item, good_parts, good_payload, good_record, limit_of, value_of}
 use Rattle.model.specs.Records.{values_of, values}
@@ -25,20 +25,11 @@ use Rattle.model.specs.Messages.{code, Standing, good_length, good_among, good_d
 use Rattle.model.specs.Tests.{first}
 use Rattle.model.specs.Wire.{Every, NoNUL, Framed}
 use Rattle.model.specs.FieldsRead.{limit_within, is_within, all_within}
-use Rattle.model.proofs.Framed.{both, left, right, either, every_take, every_of, IfAny, Shown, nul_append, nul_text, Fit, Text}
-use Rattle.model.proofs.Framed.{Identifier, CleanSettings}
+use Rattle.model.proofs.Framed.{both, left, right, either, every_take, every_of, IfAny, Shown, nul_append, nul_text}
+use Rattle.model.proofs.Framed.{nul_in_time, Fit, Text, Identifier, CleanSettings}
 use Rattle.model.proofs.Legible.{reported_items, number_within}
 
 -- ==== records: the texts of a good one
-
-nul_in_time : (place b : ℕ) → good_in_time place b ≡ true → Shown b
-nul_in_time place b h =
-    go (eqb place 5 || eqb place 8) (eqb place 11 || eqb place 14 || eqb place 17) h
-  where
-    go : (x y : Bool) → cond x (eqb b dash) (cond y (eqb b colon) (is_digit b)) ≡ true → Shown b
-    go true y k e = omega (arith, eqb-true b dash k)
-    go false true k e = omega (arith, eqb-true b colon k)
-    go false false k e = omega (arith, leb-true 0x30 b (both (leb 0x30 b) (leb b 0x39) k).0)
 
 nul_time : (place : ℕ) (bs : List ℕ) → is_time_from place bs ≡ true → NoNUL bs
 nul_time place [] h = tt

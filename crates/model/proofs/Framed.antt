@@ -2,17 +2,17 @@
 -- every frame whose fields are numbers in so many digits, whatever the number, and texts without NUL.
 use Prim.Native.Nat.{ℕ, zero, suc, ◌+◌, ◌*◌, ◌-◌, ◌/◌, ◌%◌, ◌≤◌, ◌<◌}
 use mathlib.Core.Path.{◌≡◌, refl, ◌∙◌}
-use mathlib.Core.Bool.{Bool, true, false, cond, ◌&&◌, and-eq-true_iff}
+use mathlib.Core.Bool.{Bool, true, false, cond, ◌&&◌, ◌||◌, and-eq-true_iff}
 use mathlib.Core.List.{List, [], ◌∷◌, ◌++◌}
 use mathlib.Core.Option.{Option, none, some}
 use native.Mathlib.Omega.{arith}
 use lib.Dec.{leb, eqb}
 use lib.ListN.{length, get_or, take, replicate, length-append, length-replicate}
-use borrow.Author.Tests.{le-leb, leb-true}
+use borrow.Author.Tests.{le-leb, leb-true, eqb-true}
 use Rattle.model.specs.Limits.{identifier_length, number_greatest}
-use Rattle.model.specs.Bytes.{NUL, space, digit_0, digit_1, is_digit, is_text, all, spaces, decimal, digits}
+use Rattle.model.specs.Bytes.{NUL, space, dash, colon, digit_0, digit_1, is_digit, is_text, all, spaces, decimal, digits}
 use Rattle.model.specs.Records.{Value, counted, limited, said, text_in, value_at, number_at, limit_at, text_at, Settings}
-use Rattle.model.specs.Records.{tightening_items}
+use Rattle.model.specs.Records.{tightening_items, good_in_time}
 use Rattle.model.specs.Layouts.{Sources, settings, source, Row, number, limit, text, blank, unreported, known, width_of}
 use Rattle.model.specs.Layouts.{limit_characters, characters}
 use Rattle.model.specs.Layouts.{label_length, Layout, data_from, data_of, layout_0002, layout_0004, layout_0005, layout_0065}
@@ -111,6 +111,16 @@ nul_text (b ∷ bs) h =
     let k = (and-eq-true_iff (is_text b) (all is_text bs)).0 h in
     let least = leb-true 0x20 b ((and-eq-true_iff (leb 0x20 b) (leb b 0x7E)).0 k.0).0 in
     (λ e. omega arith, nul_text bs k.1)
+
+-- (an edit in must-fail/ turns it, so nothing in this file rests on it)
+pub nul_in_time : (place b : ℕ) → good_in_time place b ≡ true → Shown b
+nul_in_time place b h =
+    go (eqb place 5 || eqb place 8) (eqb place 11 || eqb place 14 || eqb place 17) h
+  where
+    go : (x y : Bool) → cond x (eqb b dash) (cond y (eqb b colon) (is_digit b)) ≡ true → Shown b
+    go true y k e = omega (arith, eqb-true b dash k)
+    go false true k e = omega (arith, eqb-true b colon k)
+    go false false k e = omega (arith, leb-true 0x30 b (both (leb 0x30 b) (leb b 0x39) k).0)
 
 pub length_digits : (width n : ℕ) → length (digits width n) ≡ width
 unfolding digits

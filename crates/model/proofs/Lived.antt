@@ -3,10 +3,13 @@
 use Prim.Native.Nat.{ℕ, zero, suc, ◌<◌}
 use mathlib.Core.Path.{◌≡◌, refl, ap, ap₂, sym, ◌∙◌}
 use mathlib.Core.List.{List, [], ◌∷◌, ◌++◌, append_assoc}
+use mathlib.Core.Bool.{false}
+use lib.Dec.{eqb}
 use lib.ListN.{length}
 use Rattle.model.specs.Session.{Session, Emission}
+use Rattle.model.specs.Local.{Local, elsewhere}
 use Rattle.model.specs.Row.{pick}
-use Rattle.model.specs.World.{World, session_at, Moment, changed, each, next, emits, after, emitted}
+use Rattle.model.specs.World.{World, session_at, Moment, to, changed, each, next, emits, after, emitted}
 use Rattle.model.specs.Calls.{Call, Lent, refusal, answered, step}
 use Rattle.model.specs.Own.{moments_done, moments_in, sent_in, seen_of, lived, world_after}
 use Rattle.model.proofs.RowLaws.{pick_append, length_row}
@@ -64,3 +67,7 @@ module _ (s : ℕ) where
   pub own_fold : (w : World) → s < length w.sessions → (cs : List (Lent × Call))
       → (session_at (world_after w cs) s, pick s (sent_in w cs)) ≡ lived w.shared (session_at w s) (seen_of s (moments_in w cs))
   own_fold w h cs = rw ((run_is w cs).0, (run_is w cs).1) (lives w h (moments_in w cs))
+
+-- what is meant for another it does not see (an edit in must-fail/ turns it, so nothing in this file rests on it)
+pub not_seen : (s t : ℕ) (l : Local) → eqb s t ≡ false → (to t l).sees s ≡ elsewhere
+not_seen s t l e = rw e refl
