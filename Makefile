@@ -2,14 +2,12 @@
 SHELL := /bin/bash
 .SHELLFLAGS := -euo pipefail -c
 .DEFAULT_GOAL := help
-.PHONY: help run watch test install uninstall host proved soak bench built wrong twins must-fail-list figures format tools clean
+.NOTPARALLEL:
+.PHONY: help run watch test install uninstall host archive program proved soak bench built wrong twins must-fail-list figures format tools \
+        clean
 
 # How many histories make soak compares.
 COUNT := 2000
-
-# How many crates or edits rt proves at a time: one more than there are processors, and four at most. It takes them in batches, and some of
-# a batch take ten times as long as others.
-export RT_JOBS ?= $(shell echo $$(( $$(nproc) < 4 ? $$(nproc) + 1 : 4 )))
 
 # Which old results make watch asks for, or in which revision it subscribes to results.
 FETCH :=
@@ -35,10 +33,11 @@ help:
 	@echo "make clean   removes what was built"
 
 # What the commands need besides the toolchain, from Debian's packages. What rt builds is for x86-64: on another processor C code that
-# links it takes a cross compiler.
+# links it takes a cross compiler, and an emulator runs it.
 FOREIGN := $(filter-out x86_64,$(shell uname -m))
-COMMANDS := git gcc g++ pkg-config python3 $(if $(FOREIGN),x86_64-linux-gnu-gcc x86_64-linux-gnu-g++)
-PACKAGES := git gcc g++ libc6-dev pkg-config python3 $(if $(FOREIGN),gcc-x86-64-linux-gnu g++-x86-64-linux-gnu libc6-dev-amd64-cross)
+COMMANDS := git gcc g++ pkg-config python3 $(if $(FOREIGN),x86_64-linux-gnu-gcc x86_64-linux-gnu-g++ qemu-x86_64)
+PACKAGES := git gcc g++ libc6-dev pkg-config python3 $(if $(FOREIGN),gcc-x86-64-linux-gnu g++-x86-64-linux-gnu libc6-dev-amd64-cross \
+  qemu-user)
 tools:
 	@missing=; for tool in $(COMMANDS); do command -v $$tool > /dev/null || missing="$$missing $$tool"; done; \
 	if [ -n "$$missing" ]; then \
@@ -46,7 +45,10 @@ tools:
 	fi
 	@command -v rt > /dev/null || { echo "the Rattle toolchain's command rt is not on the PATH" >&2; exit 1; }
 
+# The archive under the name by which C links it, and the program that replays the host's journal, where rt leaves it.
 ARCHIVE := target/staticlib/libserifladder.a
+PROGRAM := crates/replay/out/replay
+PROVED_FROM := crates.txt $(shell find crates -type f -not -path '*/must-fail/*' -not -path '*/out/*')
 
 # The host with a simulated tool. Its state and its journal stay in target/demo, so that the numbers go on the next time.
 DEMO := target/demo
@@ -62,14 +64,27 @@ run: host
 watch:
 	@exec tools/watch $(FETCH:%=--fetch %) $(REVISION:%=--revision %)
 
-host: tools $(ARCHIVE)
+host: tools $(ARCHIVE) $(PROGRAM)
 	@$(MAKE) --silent --no-print-directory -C host
 
-# The archive that the host links, and the program that replays its journal: proved anew when a source has changed.
-$(ARCHIVE): crates.txt $(shell find crates -type f -not -path '*/must-fail/*') | tools
-	@echo "Proving the library and its test program: this takes some minutes where nothing is proved yet."
-	@rt check serifladder replay | grep --line-buffered '^rt:'
-	@said=$$(rt staticlib serifladder 2>&1) || { echo "$$said" >&2; exit 1; }; echo "$$said" | tail -n 1
+# Both are proved anew when a source has changed.
+$(ARCHIVE): $(PROVED_FROM) | tools
+	@echo "Proving the library: this takes some minutes where nothing is proved yet."
+	@$(MAKE) --silent --no-print-directory archive
+
+$(PROGRAM): $(PROVED_FROM) | tools
+	@echo "Proving the test program: this takes some minutes where nothing is proved yet."
+	@$(MAKE) --silent --no-print-directory program
+
+# rt lib leaves the archive under the name of its crate, until the next rt ci.
+archive: tools
+	@said=$$(cd crates/serifladder_c && rt lib 2>&1) || { echo "$$said" >&2; exit 1; }; echo "$$said" | tail -n 1
+	@install -D -m 644 crates/serifladder_c/out/libserifladder_c.a $(ARCHIVE)
+
+# rt builds a program where it runs it: here on an empty input.
+program: tools
+	@said=$$(cd crates/replay && rt run 2>&1 < /dev/null) || { echo "$$said" >&2; exit 1; }; echo "$$said" | grep '^logic=' | tail -n 1
+	@touch $(PROGRAM)
 
 install: host
 	@$(MAKE) --silent --no-print-directory -C host install PREFIX=$(PREFIX)
@@ -79,16 +94,16 @@ uninstall:
 	@$(MAKE) --silent --no-print-directory -C host uninstall PREFIX=$(PREFIX)
 
 proved: tools
-	@rt check | grep --line-buffered '^rt:'
+	@rt all check | grep --line-buffered -E '^(==|rt:) '
 	@echo "each of these public functions is proved to answer what its ensures says:"
-	@grep -oE '^ *pub (extern "C" )?fn [a-z0-9_]+' crates/*/src/*.rt | sed -E 's#crates/([a-z]+)/.*fn (.*)#  \1::\2#'
+	@grep -oE '^ *pub (extern "C" )?fn [a-z0-9_]+' crates/*/src/*.rt | sed -E 's#crates/([a-z_]+)/.*fn (.*)#  \1::\2#'
 
-# The layout, that nothing is assumed, that the must-fail edits fit and are listed, that the documents name what is there and count it
-# right, that files have their form; then the gate itself, then the comparison over what the gate built and left, three parts at a time,
-# since the host's tests mostly wait. The gate's own last line is said again at the end: it is the last line of a run in which nothing
-# failed. What fails behind the gate says so in the last line.
+# That nothing is assumed, that the must-fail edits fit and are listed, that the documents name what is there and count it right, that
+# files have their form; then the gate itself, which sees to the layout too, and lets edits pass that it could not apply or read: here
+# they fail. Then the archive, and the comparison over it and the program that the gate left, three parts at a time, since the host's
+# tests mostly wait. The gate's own last line is said again at the end: it is the last line of a run in which nothing failed. What fails
+# behind the gate says so in the last line.
 test: tools
-	@rt fmt --check
 	@python3 tests/wrong/assumptions.py
 	@python3 tests/wrong/check.py
 	@python3 tests/docs/names.py
@@ -96,14 +111,13 @@ test: tools
 	@python3 tests/docs/form.py
 	@said=$$(mktemp); trap 'rm -f "$$said"' EXIT; \
 	rt ci | tee "$$said"; \
-	rt staticlib serifladder | tail -n 1 || { echo "test: failed, rt staticlib serifladder"; exit 1; }; \
+	{ grep -q '^rt: ok' "$$said" && ! grep -qE '^rt: ok.*, [0-9]+ bad' "$$said"; } || { echo "test: failed, rt ci has bad edits"; exit 1; }; \
+	$(MAKE) --silent --no-print-directory archive || { echo "test: failed, make archive"; exit 1; }; \
 	$(MAKE) --silent --no-print-directory -j 3 -C tests product || { echo "test: failed, make -C tests product"; exit 1; }; \
 	tail -n 1 "$$said"
 
 # The program and the archive for C, proved.
-built: tools
-	@rt check | tail -n 1
-	@rt staticlib serifladder | tail -n 1
+built: program archive
 
 soak: built
 	@$(MAKE) --silent --no-print-directory -C tests soak COUNT=$(COUNT) LEAST_CALLS=1000000 \
@@ -112,20 +126,17 @@ soak: built
 bench: built
 	@$(MAKE) --silent --no-print-directory -C tests bench
 
-# The further must-fail edits of tests/wrong, each in its crate, in a copy of the tree; before them, that all edits fit and are listed.
+# The further must-fail edits of tests/wrong, each in its crate, in a copy of the tree outside of it, since rt ci lets no source lie in
+# another folder; before them, that all edits fit and are listed.
 wrong: tools
 	@python3 tests/wrong/check.py
-	@rm -rf target/wrong && mkdir -p target/wrong
-	@cp -r crates crates.txt target/wrong/
-	@for crate in tests/wrong/*/; do \
+	@copy=$$(mktemp -d); trap 'rm -rf "$$copy"' EXIT; \
+	tar --exclude='crates/*/out' --exclude='crates/*/must-fail' -cf - crates crates.txt | tar -xf - -C "$$copy"; \
+	for crate in crates/*/; do \
 	  name=$$(basename $$crate); \
-	  rm -rf target/wrong/crates/$$name/must-fail; \
-	  cp -r $$crate target/wrong/crates/$$name/must-fail; \
-	done
-	@for crate in target/wrong/crates/*/; do \
-	  test -d tests/wrong/$$(basename $$crate) || rm -rf $$crate/must-fail; \
-	done
-	@cd target/wrong && rt must-fail
+	  ! test -d tests/wrong/$$name || cp -r tests/wrong/$$name "$$copy"/crates/$$name/must-fail; \
+	done; \
+	cd "$$copy" && rt must-fail
 
 # The harmless twins of the gate's must-fail edits, each in its crate, in a copy of the tree.
 twins: tools
@@ -140,7 +151,7 @@ figures:
 	@python3 tests/docs/figures.py
 
 format: tools
-	@rt fmt
+	@for crate in crates/*/; do (cd $$crate && rt fmt); done
 
 clean:
-	@rm -rf target
+	@rm -rf target crates/*/out

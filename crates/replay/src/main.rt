@@ -167,22 +167,23 @@ fn is_within(least: u64, greatest: u64, n: u64) -> bool
     n <= greatest
 }
 
-// Where received bytes go: to which session, and from which place of the lines on what that prints.
+// Where received bytes go: to which session, from which place of the lines on what that prints, and where lines are written out to.
 #[derive(Drop)]
 struct To {
     session: u64,
     at: usize,
+    stdout: Stdout,
+}
+
+// A place of the lines or of the input, and where lines are written out to.
+#[derive(Clone, Copy)]
+struct Place {
+    at: usize,
+    stdout: Stdout,
 }
 
 // Received bytes: one call at least, and with what is left of them again until nothing is, or a call is refused.
-fn feed(
-    stdout: Stdout,
-    table: &mut [u8],
-    output: &mut [u8],
-    lines: &mut [u8],
-    to: To,
-    bytes: &[u8],
-) -> usize
+fn feed(table: &mut [u8], output: &mut [u8], lines: &mut [u8], to: To, bytes: &[u8]) -> usize
     requires { LendsFrom table.old output.old lines.old to.at }
     ensures follows { Follows (λ x. fed (suc (length bytes.now)) x to.session bytes.now)
         (length lines.old) table.old (take to.at lines.old)
@@ -190,6 +191,7 @@ fn feed(
     ensures within { result ≤ length lines.old }
 {
     let session = to.session;
+    let stdout = to.stdout;
     let mut at = to.at;
     let mut left = bytes;
     let mut going = true;
@@ -225,28 +227,26 @@ fn call(table: &mut [u8], output: &mut [u8], record_kind: u64, slice: &[u8]) -> 
 }
 
 // One record, as a slice.
-fn given(
-    stdout: Stdout,
-    table: &mut [u8],
-    output: &mut [u8],
-    lines: &mut [u8],
-    at: usize,
-    slice: &[u8],
-) -> usize
-    requires { LendsFrom table.old output.old lines.old at × (record_head ≤ length slice.now) }
+fn given(table: &mut [u8], output: &mut [u8], lines: &mut [u8], to: Place, slice: &[u8]) -> usize
+    requires { LendsFrom table.old output.old lines.old to.at × (record_head ≤ length slice.now) }
     ensures follows { Follows (λ x. given_state x slice.now) (length lines.old)
-        table.old (take at lines.old) table.new (take result lines.new) }
+        table.old (take to.at lines.old) table.new (take result lines.new) }
     ensures within { result ≤ length lines.old }
 {
+    let at = to.at;
+    let stdout = to.stdout;
     let record_kind = text::little(slice, 2, 2);
     if is_within(BYTES_RECORD_KIND, BYTES_LAST, record_kind) {
         let session = record_kind - BYTES_RECORD_KIND;
         return feed(
-            stdout,
             table,
             output,
             lines,
-            To { session, at },
+            To {
+                session,
+                at,
+                stdout,
+            },
             &slice[RECORD_HEAD..],
         );
     }
@@ -289,7 +289,13 @@ fn serve(
     let mut left = input;
     let mut size = whole(left);
     while size > 0 {
-        to = given(stdout, table, output, lines, to, &left[..size]);
+        to = given(
+            table,
+            output,
+            lines,
+            Place { at: to, stdout },
+            &left[..size],
+        );
         left = &left[size..];
         size = whole(left);
     }
@@ -300,21 +306,21 @@ fn serve(
     }
 }
 
-// Serves the first `have` bytes of the input, and moves what waits to its front.
+// Serves the bytes of the input before the place `end`, and moves what waits to its front.
 fn serve_and_move(
-    stdout: Stdout,
     table: &mut [u8],
     output: &mut [u8],
     lines: &mut [u8],
     input: &mut [u8],
-    have: usize,
+    end: Place,
 ) -> Waiting
-    requires { Lends table.old output.old lines.old × (have ≤ length input.old) }
-    ensures follows { Follows (λ x. all_given x (records (take have input.old))) (length lines.old)
+    requires { Lends table.old output.old lines.old × (end.at ≤ length input.old) }
+    ensures follows { Follows (λ x. all_given x (records (take end.at input.old))) (length lines.old)
         table.old [] table.new (take result.lines lines.new) }
-    ensures moves { Moves have input.old (length lines.old) result input.new }
+    ensures moves { Moves end.at input.old (length lines.old) result input.new }
 {
-    let waiting = serve(stdout, table, output, lines, &input[..have]);
+    let have = end.at;
+    let waiting = serve(end.stdout, table, output, lines, &input[..have]);
     let left = waiting.size;
     text::shift(input, 0, have - left, left);
     waiting
@@ -339,22 +345,30 @@ fn fill(stdin: Stdin, input: &mut [u8], size: usize) -> usize
     read(stdin, &mut input[size..])
 }
 
-// Reads once, behind the `size` bytes that wait in the input, serves that, and writes out the lines.
-fn turn(
+// How many bytes of the input wait before a turn, where more are read from, and where lines are written out to.
+#[derive(Clone, Copy)]
+struct Before {
+    size: usize,
     stdin: Stdin,
     stdout: Stdout,
+}
+
+// Reads once, behind the bytes that wait in the input, serves that, and writes out the lines.
+fn turn(
     table: &mut [u8],
     output: &mut [u8],
     lines: &mut [u8],
     input: &mut [u8],
-    size: usize,
+    before: Before,
 ) -> Waiting
-    requires { Lends table.old output.old lines.old × CutOff input.old size }
-    ensures turned { Turned table.old (take size input.old)
+    requires { Lends table.old output.old lines.old × CutOff input.old before.size }
+    ensures turned { Turned table.old (take before.size input.old)
         table.new (take result.size input.new) }
     ensures within { result.size ≤ length input.old }
 {
-    let got = fill(stdin, input, size);
+    let size = before.size;
+    let stdout = before.stdout;
+    let got = fill(before.stdin, input, size);
     if got == 0 {
         return Waiting {
             size,
@@ -362,7 +376,11 @@ fn turn(
             going: false,
         };
     }
-    let waiting = serve_and_move(stdout, table, output, lines, input, size + got);
+    let end = Place {
+        at: size + got,
+        stdout,
+    };
+    let waiting = serve_and_move(table, output, lines, input, end);
     let at = waiting.lines;
     flush(stdout, lines, at);
     Waiting {
@@ -373,22 +391,22 @@ fn turn(
 }
 
 // A proved loop has to end, and nothing says that an input does: this one ends after more turns than any run has.
-fn run(
-    stdin: Stdin,
-    stdout: Stdout,
-    table: &mut [u8],
-    output: &mut [u8],
-    lines: &mut [u8],
-    input: &mut [u8],
-)
+fn run(rt: HostRuntime, table: &mut [u8], output: &mut [u8], lines: &mut [u8], input: &mut [u8])
     requires { Lends table.old output.old lines.old }
     ensures { Ran table.old table.new }
 {
+    let stdin = rt.stdin();
+    let stdout = rt.stdout();
     let mut turns = u64::MAX;
     let mut size = 0;
     let mut going = true;
     while turns > 0 && going {
-        let waiting = turn(stdin, stdout, table, output, lines, input, size);
+        let before = Before {
+            size,
+            stdin,
+            stdout,
+        };
+        let waiting = turn(table, output, lines, input, before);
         size = waiting.size;
         going = waiting.going;
         turns -= 1;
@@ -401,12 +419,5 @@ fn main(rt: HostRuntime) {
     let mut output = [0u8; OUTPUT_LEAST];
     let mut lines = [0u8; BUFFER];
     let mut input = [0u8; BUFFER];
-    run(
-        rt.stdin(),
-        rt.stdout(),
-        &mut table,
-        &mut output,
-        &mut lines,
-        &mut input,
-    );
+    run(rt, &mut table, &mut output, &mut lines, &mut input);
 }
