@@ -32,8 +32,8 @@ use Rattle.history.specs.Past.{run, message, started as is_started, Wish, wish, 
 use Rattle.history.specs.Past.{event, frame_for, takes}
 use Rattle.history.specs.Demand.{copies_in, seen, seen_in}
 use Rattle.history.proofs.Subscriptions.{wish_in, is_some_wish, view}
-use Rattle.history.proofs.Signals.{Signals, signals, silent_after}
-use Rattle.history.proofs.Sessions.{SessionRead, next, closing, Like, sub_at, StepOfKind, StepAsRead, frame_none, then_steps}
+use Rattle.history.proofs.Signals.{Signals, signals, closing, silent_after}
+use Rattle.history.proofs.Sessions.{SessionRead, next, Like, sub_at, StepOfKind, StepAsRead, frame_none, then_steps}
 
 -- ==== what is read of a session
 

@@ -52,7 +52,7 @@ use Rattle.history.specs.Demand.{copies_in, seen, seen_in}
 use Rattle.history.proofs.Subscriptions.{wish_in, as_seen, view, Done, unchanged, wiped, beats_does, news_does, asks_does}
 use Rattle.history.proofs.Subscriptions.{drops_does, acks_does, asks_wish}
 use Rattle.history.proofs.Signals.{Signals, signals, silence, copies_silent, reply_first, silent_0004, welcome_0002, silent_other}
-use Rattle.history.proofs.Signals.{silent_0065, accepting, accepting_0005}
+use Rattle.history.proofs.Signals.{silent_0065, accepting, accepting_0005, closing}
 use Rattle.history.proofs.Sendings.{Sent, sent_dealt, own_0002, own_0004, own_0005, own_0065}
 
 -- ==== what is read of a session
@@ -71,10 +71,6 @@ next bs o hung sg r = record {
       cond ((hung || sg.closes) || sg.accepts (λ m. m.stops) || sg.accepts (λ m. m.unsubscribes kind)) none
       (cond (sg.accepts (λ m. m.subscribes kind)) (wish_of o) (r.wish kind));
 }
-
-abbrev pub closing : ℕ → Option Message → Bool → Signals → Bool
-closing kind o hung sg =
-    (hung || sg.closes) || sg.accepts (λ m. m.stops) || sg.accepts (λ m. m.unsubscribes kind) || acknowledges kind o
 
 -- the session is as it is read
 abbrev pub Like : SessionRead → Session → Type 0

@@ -1,11 +1,13 @@
 -- What a reader of the output makes of what goes out to a session: a close, a 0002, a 0005. Notices are none of these, nor is a 0004.
 use Prim.Native.Nat.{ℕ, suc, ◌<◌}
 use mathlib.Core.Path.{◌≡◌, refl, ◌∙◌, ap, fun_ext}
-use mathlib.Core.Bool.{Bool, true, false, cond, ◌&&◌}
+use mathlib.Core.Bool.{Bool, true, false, cond, ◌&&◌, ◌||◌}
 use mathlib.Core.List.{List, [], ◌∷◌, ◌++◌, map}
 use native.Mathlib.Omega.{arith}
 use lib.Dec.{eqb}
 use borrow.Author.Tests.{ne_eqb}
+use mathlib.Core.Option.{Option}
+use Rattle.model.specs.Runs.{Message}
 use Rattle.model.specs.Bytes.{places, decimal, digits}
 use Rattle.model.specs.Records.{Settings}
 use Rattle.model.specs.Messages.{Bearing, entry_bearing, entry_of}
@@ -19,6 +21,7 @@ use Rattle.model.specs.Session.{Copy, Emission, reply, copy, close, frame_to, co
 use Rattle.model.proofs.Framed.{every_append}
 use Rattle.watch.specs.Marks.{Every}
 use Rattle.history.specs.Turns.{frames_in, orders_close, any, mid_of, is_0002, is_0005}
+use Rattle.history.specs.Past.{acknowledges}
 
 pub record Signals : Type 0 where
   pub closes : Bool
@@ -38,6 +41,12 @@ signals_of c w a = record { closes = c; welcomes = w; accepts = a }
 
 abbrev pub silence : Signals
 silence = record { closes = false; welcomes = false; accepts = λ so. false }
+
+-- whether the notices of a kind are closed by a call that ends that message, is a hang-up, and shows that in the output (an edit in
+-- must-fail/ turns it, so nothing in this file rests on it)
+abbrev pub closing : ℕ → Option Message → Bool → Signals → Bool
+closing kind o hung sg =
+    (hung || sg.closes) || sg.accepts (λ m. m.stops) || sg.accepts (λ m. m.unsubscribes kind) || acknowledges kind o
 
 -- ==== notices
 

@@ -33,9 +33,9 @@ use Rattle.history.specs.Turns.{Turn, turn, turns, is_start}
 use Rattle.history.specs.Past.{run_with, run, ended, message, wish, is_some, spoken, event, shared}
 use Rattle.history.specs.Demand.{seen_in, marks, NoStart}
 use Rattle.history.proofs.Subscriptions.{wish_in, view}
-use Rattle.history.proofs.Signals.{Signals, signals, silent_after}
+use Rattle.history.proofs.Signals.{Signals, signals, closing, silent_after}
 use Rattle.history.proofs.Sendings.{Sent, sent_append}
-use Rattle.history.proofs.Sessions.{closing, Like, sub_at, StepAsRead, elsewhere_steps, tells_of, sees_steps, told_steps}
+use Rattle.history.proofs.Sessions.{Like, sub_at, StepAsRead, elsewhere_steps, tells_of, sees_steps, told_steps}
 use Rattle.history.proofs.Sessions.{then_steps}
 use Rattle.history.proofs.Calls.{session_read, sub_of, like_wish, by_refusal, Moves, Beside, moves_by}
 
