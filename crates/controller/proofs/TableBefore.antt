@@ -31,13 +31,13 @@ use Rattle.controller.specs.Before.{before}
 -- the tool's own identifier is spaces: the one in force is meant
 abbrev first_tightening : List ℕ
 first_tightening =
-    tightening "" (7 ∷ 3 ∷ 0 ∷ 0 ∷ 0 ∷ 0 ∷ 1 ∷ 840 ∷ 1_400 ∷ 1_200 ∷ 739 ∷ 0 ∷ 9_999 ∷ 0 ∷ 0 ∷ []) "2001_06_02:09:54:09"
-    "2001_05_29:12:34:33" 1
+    tightening "" (7 ∷ 3 ∷ 0 ∷ 0 ∷ 0 ∷ 0 ∷ 1 ∷ 840 ∷ 1_400 ∷ 1_200 ∷ 739 ∷ 0 ∷ 9_999 ∷ 0 ∷ 0 ∷ []) "2001-06-02:09:54:09"
+    "2001-05-29:12:34:33" 1
 
 abbrev second_tightening : List ℕ
 second_tightening =
     tightening "AB12" (8 ∷ 4 ∷ 5 ∷ 2 ∷ 1 ∷ 1 ∷ 1 ∷ never_set ∷ never_set ∷ never_set ∷ 1_201 ∷ 90 ∷ 270 ∷ 180 ∷ 181 ∷ [])
-    "2001_06_02:09:55:10" "2001_05_29:12:34:33" 2
+    "2001-06-02:09:55:10" "2001-05-29:12:34:33" 2
 
 -- after a start with the settings of the worked example
 abbrev calls : List Call
@@ -83,7 +83,7 @@ first_result =
     ++ 0x07 ∷ 0x03 ∷ 0x00 ∷ 0x00 ∷ 0x00 ∷ 0x00 ∷ 0x00 ∷ 0x00 ∷ 0x00 ∷ 0x01
     ∷ 0x48 ∷ 0x03 ∷ 0x00 ∷ 0x00 ∷ 0x78 ∷ 0x05 ∷ 0x00 ∷ 0x00 ∷ 0xB0 ∷ 0x04 ∷ 0x00 ∷ 0x00 ∷ 0xE3 ∷ 0x02 ∷ 0x00 ∷ 0x00
     ∷ 0x00 ∷ 0x00 ∷ 0x00 ∷ 0x00 ∷ 0x0F ∷ 0x27 ∷ 0x00 ∷ 0x00 ∷ replicate 8 0x00
-    ++ ascii "2001_06_02:09:54:092001_05_29:12:34:33"
+    ++ ascii "2001-06-02:09:54:092001-05-29:12:34:33"
     ++ 0x01 ∷ []
 
 abbrev second_result : List ℕ
@@ -93,7 +93,7 @@ second_result =
     ∷ replicate 12 0xFF
     ++ 0xB1 ∷ 0x04 ∷ 0x00 ∷ 0x00
     ∷ 0x5A ∷ 0x00 ∷ 0x00 ∷ 0x00 ∷ 0x0E ∷ 0x01 ∷ 0x00 ∷ 0x00 ∷ 0xB4 ∷ 0x00 ∷ 0x00 ∷ 0x00 ∷ 0xB5 ∷ 0x00 ∷ 0x00 ∷ 0x00
-    ∷ ascii "2001_06_02:09:55:102001_05_29:12:34:33"
+    ∷ ascii "2001-06-02:09:55:102001-05-29:12:34:33"
     ++ 0x02 ∷ []
 
 -- the first one with that number behind it
@@ -102,7 +102,7 @@ numbered n = first_result ++ n ∷ replicate 3 0x00
 
 -- an alarm with a code that ends so
 abbrev warned : ℕ → List ℕ
-warned digit = 0x45 ∷ 0x34 ∷ 0x30 ∷ digit ∷ 0x01 ∷ 0x01 ∷ ascii "2008_06_02:10:14:26"
+warned digit = 0x45 ∷ 0x34 ∷ 0x30 ∷ digit ∷ 0x01 ∷ 0x01 ∷ ascii "2008-06-02:10:14:26"
 
 -- the control of a lane: clock, how many are held, revision
 abbrev control : ℕ → ℕ → ℕ → List ℕ
