@@ -1,5 +1,7 @@
 // A session in its region of the table: its phase and idle count, the run that it is receiving, and a lane for each kind of notice. What is
 // done here changes the region and nothing else, and tells by value what is then to be said.
+#![tactic(auto)]
+
 ghost use Rattle.std.specs.Prelude.{◌≡◌, Bool, false, cond, map, ◌≤◌, ◌<◌, length};
 ghost use Rattle.model.specs.Limits.{run_kept, identifier_length, idle_limit};
 ghost use Rattle.model.specs.Bytes.{all, padded};

@@ -4,5 +4,5 @@ use Rattle.region.proofs.Rulings.{padded_there}
 use Rattle.region.proofs.announce.Statement.{statement}
 use Rattle.region.proofs.announce.Tie as tie
 
-pub announce-spec : {M : Type 1} → statement M
-announce-spec = tie.close (tie.spec (λ c κs. search rules) (λ c κs. search rules) (λ c. search rules) (λ c. search (rules, padded_there)))
+pub announce_spec : {M : Type 1} → statement M
+announce_spec = tie.close (tie.spec (λ c κs. search rules) (λ c κs. search rules) (λ c. search rules) (λ c. search (rules, padded_there)))

@@ -14,14 +14,14 @@ returns c =
     let s = k.before.before.before in
     λ read.
     carries_out read s.args.d s.requires.known
-    (changed_so read s.args.d (k.clear-run.ensures read) (g.let_go.ensures read) (p.store.ensures read)) (e.deal.ensures read)
+    (changed_so read s.args.d (k.clear_run.ensures read) (g.let_go.ensures read) (p.store.ensures read)) (e.deal.ensures read)
 
-pub carry-out-spec : {M : Type 1} → statement M
-carry-out-spec =
+pub carry_out_spec : {M : Type 1} → statement M
+carry_out_spec =
     tie.close
     (tie.spec
     (λ c κs. search rules)
-    (λ c κs. (c.before.before.before.clear-run.ensures notice_in).becomes.good)
+    (λ c κs. (c.before.before.before.clear_run.ensures notice_in).becomes.good)
     (λ c κs. let g = c.before.before.before.before in
     ((g.let_go.ensures notice_in).becomes.good, g.before.before.before.before.before.before.before.requires.idle))
     (λ c κs. let p = c.before.before.before in (

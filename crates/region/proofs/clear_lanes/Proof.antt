@@ -8,14 +8,14 @@ use Rattle.region.proofs.Walks.{Clearing, clearing_none, clearing_next, all_clea
 use Rattle.region.proofs.clear_lanes.Statement.{statement}
 use Rattle.region.proofs.clear_lanes.Tie as tie
 
-abbrev invariant-loop : tie.invariant-loop
+abbrev invariant-loop : tie.invariant-loop-kind
 invariant-loop region₀ kind₀ region kind = Clearing region₀ region kind
 
-abbrev decreases-loop : tie.decreases-loop
+abbrev decreases-loop : tie.decreases-loop-kind
 decreases-loop region₀ kind₀ region kind = length kinds - kind
 
-pub clear-lanes-spec : {M : Type 1} → statement M
-clear-lanes-spec =
+pub clear_lanes_spec : {M : Type 1} → statement M
+clear_lanes_spec =
     tie.close
     (tie.spec
     invariant-loop
@@ -23,13 +23,13 @@ clear-lanes-spec =
     (λ c. clearing_none _)
     (λ c κs. search rules)
     (λ c κs. search rules)
-    (λ c. let e = lane_ends _ c.before.before.loop-test.true in search rules)
+    (λ c. let e = lane_ends _ c.before.before.loop-kind-test.true in search rules)
     (λ c. search rules)
     (λ c. search rules)
-    (λ c. let e = lane_ends _ c.before.before.loop-test.true in search rules)
+    (λ c. let e = lane_ends _ c.before.before.loop-kind-test.true in search rules)
     (λ c κs. search (rules, lane_part, lane_length))
     (λ c. search rules)
     (λ c. search rules)
     (λ c. search (rules, clearing_next))
-    (λ c. c.before.loop.invariant.size)
-    (λ c. all_cleared c.before.loop.invariant c.loop-test.false))
+    (λ c. c.before.loop-kind.invariant.size)
+    (λ c. all_cleared c.before.loop-kind.invariant c.loop-kind-test.false))

@@ -10,24 +10,24 @@ use Rattle.region.proofs.Ends.{nothing_dealt}
 use Rattle.region.proofs.deal.Statement.{statement}
 use Rattle.region.proofs.deal.Tie as tie
 
-returns : tie.Need-returns
+returns : tie.Need-returns-in-Nothing
 returns c =
-    let s = c.before.before.before in
+    let s = c.before.before in
     let r = s.args.region.now in
     λ read.
-    subst (λ (d : Deed). DealtTo read s.args.kind (deed_of d) r _ r) (sym c.enum_told.given.1)
+    subst (λ (d : Deed). DealtTo read s.args.kind (deed_of d) r _ r) (sym c.in-Nothing.is)
     (nothing_dealt read r s.args.kind s.requires.1 s.requires.0)
 
-returns-2 : tie.Need-returns-2
+returns-2 : tie.Need-returns
 returns-2 c =
     let d = c.before.before in
     let z = d.before.before in
     let s = z.before.before.before.before in
     λ read.
-    dealt_to read s.requires.1 s.requires.0 z.before.lane_at.ensures z.size.ensures (d.deal.ensures (read s.args.kind))
+    dealt_to read s.requires.1 s.requires.0 z.before.lane_at-a.ensures z.size.ensures (d.deal.ensures (read s.args.kind))
 
-pub deal-spec : {M : Type 1} → statement M
-deal-spec =
+pub deal_spec : {M : Type 1} → statement M
+deal_spec =
     tie.close
     (tie.spec
     (λ c. search rules)

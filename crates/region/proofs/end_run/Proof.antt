@@ -7,22 +7,22 @@ use Rattle.region.proofs.Ends.{run_empty, ends_longer}
 use Rattle.region.proofs.end_run.Statement.{statement}
 use Rattle.region.proofs.end_run.Tie as tie
 
-end-whole-requires : tie.Need-end-whole-requires
+end-whole-requires : tie.Need-end_whole-requires
 end-whole-requires c κs =
     let n = c.before.before.before in
-    let s = n.before.before.before.before.before.before in
-    let empty = run_empty _ (sym n.count.ensures.0 ∙ c.before.before.if1.true) in
+    let s = n.before.before.before.before.before in
+    let empty = run_empty _ (sym n.count.ensures.0 ∙ c.before.before.if-count-eq0.true) in
     record { good = s.requires.0; place = s.requires.1; empty = empty }
 
-end-kept-requires : tie.Need-end-kept-requires
+end-kept-requires : tie.Need-end_kept-requires
 end-kept-requires c κs =
     let l = c.before.before.before.before in
-    ((l.lengthen.ensures notice_in).good, l.before.before.before.before.before.before.before.before.before.requires.1)
+    ((l.lengthen.ensures notice_in).good, l.before.before.before.before.before.before.before.before.requires.1)
 
-pub end-run-spec : {M : Type 1} → statement M
-end-run-spec =
+pub end_run_spec : {M : Type 1} → statement M
+end_run_spec =
     tie.close (tie.spec (λ c. search rules) (λ c. search rules) (λ c. search rules)
-    (λ c κs. let s = c.before.before.before.before.before in (parts s.args.region.now s.requires.0).run)
+    (λ c κs. let s = c.before.before.before.before in (parts s.args.region.now s.requires.0).run)
     end-whole-requires (λ c. search rules) (λ c. search rules) (λ c. search rules) (λ c κs. search rules) end-kept-requires
     (λ c. search rules) (λ c. search rules) (λ c. let k = c.before.before.before.before in
     let l = k.before.before.before.before.before in λ read.

@@ -19,8 +19,8 @@ returns c =
           ∙ ap (λ (x : Session). meaning x (run_of (run_area r)) (subscriptions_in read r)) p.before.cleared.ensures,
     )
 
-pub hang-up-spec : {M : Type 1} → statement M
-hang-up-spec =
+pub hang_up_spec : {M : Type 1} → statement M
+hang_up_spec =
     tie.close
     (tie.spec
     (λ c κs. search rules)

@@ -13,35 +13,35 @@ use Rattle.region.proofs.Areas.{lane_length}
 use Rattle.region.proofs.lanes_formed.Statement.{statement}
 use Rattle.region.proofs.lanes_formed.Tie as tie
 
-abbrev invariant-loop : tie.invariant-loop
+abbrev invariant-loop : tie.invariant-loop-kind
 invariant-loop region kind₀ kind = Passing lane_formed lane_at lane_size (length kinds) region kind
 
-abbrev decreases-loop : tie.decreases-loop
+abbrev decreases-loop : tie.decreases-loop-kind
 decreases-loop region kind₀ kind = length kinds - kind
 
-is-formed-requires : tie.Need-is-formed-requires invariant-loop decreases-loop
+is-formed-requires : tie.Need-is_formed-requires invariant-loop decreases-loop
 is-formed-requires c κs =
-    let l = c.before.before.loop in
+    let l = c.before.before.loop-kind in
     let s = c.before.before.before.before in
-    let few = c.before.loop-test.true in
+    let few = c.before.loop-kind-test.true in
     (few, ap length c.lane.ensures ∙ lane_length s.args.region.now l.kind few s.requires)
 
-returns : tie.Need-returns invariant-loop decreases-loop
+returns : tie.Need-returns-then-not-is_formed invariant-loop decreases-loop
 returns c =
     let f = c.before in
-    let l = f.before.before.before.loop in
-    pass_stops l.invariant f.before.before.loop-test.true
-    (sym (f.is_formed.ensures ∙ ap (lane_formed l.kind) f.before.lane.ensures) ∙ not-true _ c.if1.true)
+    let l = f.before.before.before.loop-kind in
+    pass_stops l.invariant f.before.before.loop-kind-test.true
+    (sym (f.is_formed.ensures ∙ ap (lane_formed l.kind) f.before.lane.ensures) ∙ c.if-not-is_formed.true)
 
-loop-again : tie.Need-loop-preserved invariant-loop decreases-loop
+loop-again : tie.Need-loop-kind-preserved invariant-loop decreases-loop
 loop-again c =
     let f = c.before in
-    let l = f.before.before.before.loop in
-    pass_on l.invariant f.before.before.loop-test.true
-    (sym (f.is_formed.ensures ∙ ap (lane_formed l.kind) f.before.lane.ensures) ∙ not-false _ c.if1.false)
+    let l = f.before.before.before.loop-kind in
+    pass_on l.invariant f.before.before.loop-kind-test.true
+    (sym (f.is_formed.ensures ∙ ap (lane_formed l.kind) f.before.lane.ensures) ∙ c.if-not-is_formed.false)
 
-pub lanes-formed-spec : {M : Type 1} → statement M
-lanes-formed-spec =
+pub lanes_formed_spec : {M : Type 1} → statement M
+lanes_formed_spec =
     tie.close
     (tie.spec
     invariant-loop
@@ -53,4 +53,4 @@ lanes-formed-spec =
     (λ c. search rules)
     (λ c. search rules)
     loop-again
-    (λ c. pass_ends c.before.loop.invariant c.loop-test.false))
+    (λ c. pass_ends c.before.loop-kind.invariant c.loop-kind-test.false))

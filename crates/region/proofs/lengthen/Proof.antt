@@ -4,8 +4,8 @@ use Rattle.region.proofs.Areas.{parts, run_replaced}
 use Rattle.region.proofs.lengthen.Statement.{statement}
 use Rattle.region.proofs.lengthen.Tie as tie
 
-pub lengthen-spec : {M : Type 1} → statement M
-lengthen-spec =
+pub lengthen_spec : {M : Type 1} → statement M
+lengthen_spec =
     tie.close
     (tie.spec
     (λ c. search rules)

@@ -16,7 +16,7 @@ places-requires c κs =
     let s = c.before.before.before.before.before.before.before in
     subst (Lane tightenings) (sym c.lane.ensures) (lane_good _ tightenings (omega arith) s.requires.0)
 
-returns : tie.Need-returns
+returns : tie.Need-returns-then-is_started
 unfolding places_held
 returns c =
     let m = c.before.before in
@@ -24,14 +24,14 @@ returns c =
     let n = p.before in
     let i = n.before.before in
     let b = i.before in
-    rw (← b.before.load.ensures.0, ← b.is_started.ensures, i.if1.true, ← n.lane.ensures, ← p.places.ensures.0)
+    rw (← b.before.load-x.ensures.0, ← b.is_started.ensures, i.if-is_started.true, ← n.lane.ensures, ← p.places.ensures.0)
     m.mark.ensures
 
-returns-2 : tie.Need-returns-2
+returns-2 : tie.Need-returns-else-is_started
 unfolding places_held marked
 returns-2 c =
     let b = c.before in
-    rw (← b.before.load.ensures.0, ← b.is_started.ensures, c.if1.false)
+    rw (← b.before.load-x.ensures.0, ← b.is_started.ensures, c.if-is_started.false)
 
 pub mark_spec : {M : Type 1} → statement M
 mark_spec =

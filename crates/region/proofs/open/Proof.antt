@@ -14,9 +14,9 @@ returns : tie.Need-returns
 returns c =
     let n = c.before.before in
     let p = n.before.before.before.before in (
-      (n.clear-run.ensures notice_in).becomes.good,
-      λ read. means read (n.clear-run.ensures read).becomes
-          ∙ ap (λ (x : Session). meaning x empty_run (subscriptions_in read p.store.new.0))
+      (n.clear_run.ensures notice_in).becomes.good,
+      λ read. means read (n.clear_run.ensures read).becomes
+          ∙ ap (λ (x : Session). meaning x empty_run (subscriptions_in read p.store.new.region))
           ((p.store.ensures read).becomes.head ∙ p.before.fresh.ensures),
     )
 

@@ -4,8 +4,8 @@ use Rattle.region.proofs.Rulings.{data_few, ruled_silent, ruled_known}
 use Rattle.region.proofs.rule.Statement.{statement}
 use Rattle.region.proofs.rule.Tie as tie
 
-pub rule-spec : {M : Type 1} → statement M
-rule-spec =
+pub rule_spec : {M : Type 1} → statement M
+rule_spec =
     tie.close (tie.spec (λ c κs. search rules) (λ c κs. search rules) (λ c κs. search (rules, data_few)) (λ c. search rules)
     (λ c. search (rules, ruled_known))
-    (λ c. ruled_silent c.before.decide.ensures c.if1.false))
+    (λ c. ruled_silent c.before.decide-d.ensures c.if-d.false))

@@ -17,8 +17,8 @@ rule-requires c κs =
     let s = k.before.before.before.before in
     (subst (λ (z : List ℕ). length z ≤ run_kept) (sym k.kept.ensures) (kept_few _), s.requires.1)
 
-pub rule-kept-spec : {M : Type 1} → statement M
-rule-kept-spec =
+pub rule_kept_spec : {M : Type 1} → statement M
+rule_kept_spec =
     tie.close
     (tie.spec
     (λ c. search rules)

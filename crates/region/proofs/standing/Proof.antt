@@ -5,8 +5,8 @@ use Rattle.region.proofs.Walks.{stands_so}
 use Rattle.region.proofs.standing.Statement.{statement}
 use Rattle.region.proofs.standing.Tie as tie
 
-pub standing-spec : {M : Type 1} → statement M
-standing-spec =
+pub standing_spec : {M : Type 1} → statement M
+standing_spec =
     tie.close
     (tie.spec
     (λ c. search rules)

@@ -20,7 +20,7 @@ returns c =
     let x = h.before in
     let s = x.before.before.before in
     started_there s.args.region.now s.requires (h.store.ensures.0 ∙ x.cleared.ensures) h.store.ensures.1
-    k.clear.ensures.area n.clear-lanes.ensures
+    k.clear.ensures.area n.clear_lanes.ensures
 
 pub start_spec : {M : Type 1} → statement M
 start_spec =

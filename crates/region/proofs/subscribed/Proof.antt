@@ -13,29 +13,29 @@ use Rattle.region.proofs.Walks.{Telling, telling_none, telling_next, all_told}
 use Rattle.region.proofs.subscribed.Statement.{statement}
 use Rattle.region.proofs.subscribed.Tie as tie
 
-abbrev invariant-loop : tie.invariant-loop
+abbrev invariant-loop : tie.invariant-loop-kind
 invariant-loop region known₀ kind₀ known kind = (read : Reading) → Telling read region known kind
 
-abbrev decreases-loop : tie.decreases-loop
+abbrev decreases-loop : tie.decreases-loop-kind
 decreases-loop region known₀ kind₀ known kind = length kinds - kind
 
-is-subscribed-requires : tie.Need-is-subscribed-requires invariant-loop decreases-loop
+is-subscribed-requires : tie.Need-is_subscribed-requires invariant-loop decreases-loop
 is-subscribed-requires c κs =
-    let l = c.before.before.loop in
+    let l = c.before.before.loop-kind in
     let s = c.before.before.before.before in
-    let e = ap length c.lane.ensures ∙ lane_length s.args.region.now l.kind c.before.loop-test.true s.requires.size in
+    let e = ap length c.lane.ensures ∙ lane_length s.args.region.now l.kind c.before.loop-kind-test.true s.requires.size in
     omega arith
 
-loop-again : tie.Need-loop-preserved invariant-loop decreases-loop
+loop-again : tie.Need-loop-kind-preserved invariant-loop decreases-loop
 loop-again c =
     let n = c.before in
-    let l = n.before.before.loop in
+    let l = n.before.before.loop-kind in
     λ read.
-    telling_next read _ (l.invariant read) n.before.loop-test.true
+    telling_next read _ (l.invariant read) n.before.loop-kind-test.true
     (c.is_subscribed.ensures (read l.kind) l.kind ∙ ap is_subscribed (ap (lane_of read l.kind) n.lane.ensures))
 
-pub subscribed-spec : {M : Type 1} → statement M
-subscribed-spec =
+pub subscribed_spec : {M : Type 1} → statement M
+subscribed_spec =
     tie.close
     (tie.spec
     invariant-loop
@@ -43,8 +43,8 @@ subscribed-spec =
     (λ c. λ read. telling_none read _ _ refl)
     (λ c κs. let g = c.before.before.before.requires.size in search rules)
     is-subscribed-requires
-    (λ c. let n = (c.before.before.before.loop.invariant notice_in).count in search rules)
+    (λ c. let n = (c.before.before.before.loop-kind.invariant notice_in).count in search rules)
     (λ c. search rules)
     (λ c. search rules)
     loop-again
-    (λ c. λ read. all_told read _ (c.before.loop.invariant read) c.loop-test.false))
+    (λ c. λ read. all_told read _ (c.before.loop-kind.invariant read) c.loop-kind-test.false))

@@ -19,10 +19,10 @@ take-requires c κs =
     let p = s.requires in
     record {
       known = p.known;
-      lane = lane_lent _ p.known a.lane_at.ensures z.size.ensures p.good;
+      lane = lane_lent _ p.known a.lane_at-a.ensures z.size.ensures p.good;
       taken = p.answers.held p.holds
           ∙ ap (λ (l : List ℕ). taken (room_of s.args.kind) (control_of l))
-          (sym (lane_part _ p.known a.lane_at.ensures z.size.ensures));
+          (sym (lane_part _ p.known a.lane_at-a.ensures z.size.ensures));
       slot = p.size;
       formed = p.formed;
     }
@@ -40,4 +40,4 @@ take_spec =
     take-requires
     (λ c. search rules)
     (λ c. let t = c.before.before in let z = t.before.before in let a = z.before in
-    takes_held a.before.before.before.requires a.lane_at.ensures z.size.ensures t.take.ensures))
+    takes_held a.before.before.before.requires a.lane_at-a.ensures z.size.ensures t.take.ensures))
