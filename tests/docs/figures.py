@@ -6,7 +6,7 @@
 
 A document, be it the README, tests/README or one of docs/*.md, has a count in front of its name, 36<!-- gate-edits -->, and a table between
 the lines <!-- begin NAME --> and <!-- end NAME -->. The name of a count is one of counts() below, a number of document 01 as the model's
-definitions name it (120<!-- given-up-at -->, 840<!-- longest-wait tightenings-held -->), or a file whose lines are counted
+definitions name it (120<!-- given_up_at -->, 840<!-- longest_wait tightenings_held -->), or a file whose lines are counted
 (56<!-- crates/frame/proofs/Answers.antt -->).
 
 Besides it is told which table is derived and stands nowhere, and what is left out: a crate or a document by README, a file of the tests by
@@ -57,7 +57,7 @@ VECTORS = module("tests/vectors/run.py")
 # ---- what the tree has
 
 def crates():
-    return re.findall(r"^(\w+):", read("crates.txt"), re.M)
+    return re.findall(r"^(\w+)(?: staticlib)?:", read("crates.txt"), re.M)
 
 
 def entries(path, name):
@@ -77,9 +77,9 @@ def fields(path, begin, pattern):
 
 def limits():
     """The numbers of document 01 by the names of the definitions: those that are given, and those that are reckoned from them."""
-    given = re.findall(r"^([a-z-]+) = ([\d_]+)$", read("crates/model/specs/Limits.antt"), re.M)
+    given = re.findall(r"^([a-z_]+) = ([\d_]+)$", read("crates/model/specs/Limits.antt"), re.M)
     clauses = read("crates/model/proofs/Clauses.antt").replace("\n    ", " ")
-    reckoned = re.search(r"^pub the-reckoned : (.*?) ∷ \[\] ≡ (.*?) ∷ \[\]$", clauses, re.M)
+    reckoned = re.search(r"^pub the_reckoned : (.*?) ∷ \[\] ≡ (.*?) ∷ \[\]$", clauses, re.M)
     return {name: int(number) for name, number in [*given, *zip(*(side.split(" ∷ ") for side in reckoned.groups()))]}
 
 
@@ -97,9 +97,9 @@ def counts():
         ("examples", "examples of the guide and of 004, computed on the model", entries("crates/model/proofs/Examples.antt", "examples")),
         ("clauses", "clauses of document 01, computed on the model", entries("crates/model/proofs/Clauses.antt", "clauses")),
         ("effects", "things that a call may do to pending notices (`watch/specs/Course`: `Eff`)",
-         fields("crates/watch/specs/Course.antt", "pub data Eff ", r"^  [a-z-]+ :")),
+         fields("crates/watch/specs/Course.antt", "pub data Eff ", r"^  [a-z_]+ :")),
         ("demand-fields", "fields of demand 3 (`watch/specs/Marks`: `Demand3`)",
-         fields("crates/watch/specs/Marks.antt", "pub record Demand3 ", r"^  pub [a-z-]+ :")),
+         fields("crates/watch/specs/Marks.antt", "pub record Demand3 ", r"^  pub [a-z_]+ :")),
         ("vectors", "vectors and stories in files", len(VECTORS.all_files())),
         ("by-rule", "vectors by rule (`tests/vectors/every.py`)", len(VECTORS.every.BY_RULE)),
         *(("fullest-" + what.replace(" ", "-"), f"bytes of the fullest output of a call, {what}", size) for what, size in FULLEST.items()),

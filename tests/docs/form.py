@@ -19,8 +19,7 @@ sys.path.insert(0, os.path.join(names.ROOT, "tests", "wrong"))
 from edits import COLUMNS  # noqa: E402
 
 PARTS, PARTED_COLUMNS, PARAMETERS = 2, 120, 5
-NOT_KEPT = (".git", "target", "__pycache__")  # not in the repository: git's own, and what .gitignore names
-CONTRACT = re.compile(r"(?:requires|ensures)(?: \w+)? \{ (.*?) \}\n", re.S)
+CONTRACT = re.compile(r"(?:requires|ensures)\*?(?: \w+)? \{ (.*?) \}\n", re.S)
 FUNCTION = re.compile(r"\bfn (\w+)(?:<[^>]*>)?\(([^)]*)\)")
 
 
@@ -31,8 +30,8 @@ def read(path):
 
 def all_files():
     for folder, inner, files in os.walk("."):
-        inner[:] = sorted(name for name in inner if name not in NOT_KEPT)
-        yield from (os.path.join(folder, name)[2:] for name in sorted(files) if name not in NOT_KEPT)
+        inner[:] = sorted(name for name in inner if name not in names.NOT_KEPT)
+        yield from (os.path.join(folder, name)[2:] for name in sorted(files) if name not in names.NOT_KEPT)
 
 
 def lines(path):

@@ -5,10 +5,10 @@
 
 A document names in backquotes: a file (`tests/README.md`; tests/README names those beside it without the folder), a crate's file without
 its ending (`model/specs/Frames`, `table/proofs/Says`), a function (`frame::put_copy`), a constant, a type, a definition or a law
-(`OUTPUT_LEAST`, `event-frame`, `Demand3.equal`), a must-fail edit (`NUL_counted`), a function or an array of C (`put_record()`, `RULES[]`),
+(`OUTPUT_LEAST`, `event_frame`, `Demand3.equal`), a must-fail edit (`NUL_counted`), a function or an array of C (`put_record()`, `RULES[]`),
 a test of the host (`a-slow-disk`, whose function is a_slow_disk), a command (`make test`; also where it stands indented). The pages of
-docs/past and docs/landings, which tell of what was, and MUST-FAIL, which is derived, may name what is gone: of them the links alone are
-looked at. Of links those count that lead to files here, with their #anchors.
+docs/past and docs/landings, and PORT, which tell of what was, and MUST-FAIL, which is derived, may name what is gone: of them the links
+alone are looked at. Of links those count that lead to files here, with their #anchors.
 
 Exit status 0: every name is there, and every link leads somewhere."""
 
@@ -18,16 +18,21 @@ import re
 import sys
 
 ROOT = os.path.dirname(os.path.dirname(os.path.dirname(os.path.abspath(__file__))))
+NOT_KEPT = (".git", "target", "out", "__pycache__")  # not in the repository: git's own, and what .gitignore names
 DERIVED = "MUST-FAIL.md"
+OF_A_MOVE = "PORT.md"  # names as they were beside names as they are
 
 # What stands in backquotes and is a name: not an option, a text or a byte.
-CRATE_FILE = re.compile(r"([a-z]+)/(specs|proofs)(?:/(\w+))?")
+CRATE_FILE = re.compile(r"([a-z_]+)/(specs|proofs)(?:/(\w+))?")
 PATH = re.compile(r"([\w.]+)/[\w./*-]*")
 FOLDERS = ("crates", "docs", "host", "include", "tests", "tools")
-FUNCTION = re.compile(r"([a-z]+)::(\w+)")
+FUNCTION = re.compile(r"([a-z_]+)::(\w+)")
 OF_C = re.compile(r"(\w+)(?:\(\)|\[\])")
 COMMAND = re.compile(r"make (?:-C tests )?([a-z][a-z-]*).*")
-DEFINITION = re.compile(r"[a-z][a-z0-9]*(?:-[a-z0-9′]+)+(?:\.[a-z-]+)*|[A-Z]\w*[a-z]\w*(?:\.[a-z][a-z-]*)*|\w+(?:_\w+)+")
+DEFINITION = re.compile(r"[a-z][a-z0-9]*(?:-[a-z0-9]+)+|[A-Z]\w*[a-z]\w*'*(?:\.[a-z]\w*'*)*|\w+(?:_\w+)+'*(?:\.[a-z]\w*'*)*")
+
+# A name as it is written in a file of definitions, and in any other.
+NAME_OF_ANTT, NAME = r"[\w'-]+", r"[\w-]+"
 
 LINK = re.compile(r"\]\(([^)\s#]*)(?:#([^)\s]*))?\)")
 
@@ -51,11 +56,12 @@ def words():
     """Every word of the crates, the header, the host, the tools and the tests: names as they are written there, and not in a document."""
     found = set()
     for folder in ("crates", "include", "host", "tools", "tests", ".ci"):
-        for path, _, files in os.walk(os.path.join(ROOT, folder)):
+        for path, inner, files in os.walk(os.path.join(ROOT, folder)):
+            inner[:] = [name for name in inner if name not in NOT_KEPT]
             for name in [name for name in files if not name.endswith((".md", ".pyc"))]:
                 text = read(os.path.join(path, name))
                 found.add(os.path.splitext(name)[0])
-                found.update(re.findall(r"[\w′-]+", text))
+                found.update(re.findall(NAME_OF_ANTT if name.endswith(".antt") else NAME, text))
                 found.update(test.replace("_", "-") for test in re.findall(r"^def (\w+)\(place\):$", text, re.M))
     for name in ("Makefile", "crates.txt"):
         found.update(re.findall(r"[\w-]+", read(os.path.join(ROOT, name))))
@@ -112,7 +118,7 @@ def main():
     known, commands, wrong, names, links = words(), targets(), [], 0, 0
     paths = [os.path.abspath(path) for path in sys.argv[1:]] or documents() + past()
     for path in paths:
-        of_the_past = os.path.basename(path) == DERIVED or path in past()
+        of_the_past = os.path.basename(path) in (DERIVED, OF_A_MOVE) or path in past()
         for number, line in enumerate(read(path).split("\n"), 1):
             place = "%s:%d" % (os.path.relpath(path, ROOT), number)
             for name in [] if of_the_past else re.findall(r"`([^`]+)`", line) + re.findall(r"^    (make .*)", line):
