@@ -48,7 +48,7 @@ use Rattle.region.specs.Region.{Becomes, Changes, LanesCleared}
 use Rattle.region.specs.Said.{DealtTo, ending, is_known, stood, Shows, Ruled, CarriesOut, ended_by, ended_in}
 use Rattle.region.specs.Said.{RunEnds}
 use Rattle.region.specs.declared.Ended.{Ended}
-use Rattle.region.proofs.Areas.{good_of, replaced_size, subscription_at, there, means, unchanged, changes_then}
+use Rattle.region.proofs.Areas.{good_of, replaced_size, subscription_at, means, unchanged, changes_then}
 use Rattle.region.proofs.Says.{sent, now_is, row_one, said_one}
 use Rattle.region.proofs.Ticks.{means_so}
 

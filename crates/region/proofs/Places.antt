@@ -5,11 +5,10 @@ use native.Mathlib.Omega.{arith}
 use mathlib.Core.Bool.{Bool, true, false, cond}
 use mathlib.Core.List.{List, [], ◌∷◌}
 use lib.Dec.{eqb}
-use lib.ListN.{length, get_or, take, drop, length-take}
+use lib.ListN.{length, get_or, drop, length-take}
 use borrow.Author.Tests.{eqb-true, eqb-false}
 use borrow.Rule.Slice.PartMut.{mid_of}
 use Rattle.model.specs.Kinds.{kinds, tightenings}
-use Rattle.model.specs.Session as model
 use Rattle.text.specs.Areas.{areas}
 use Rattle.session.specs.Meaning.{session_as}
 use Rattle.session.specs.Decisions.{is_started}

@@ -44,7 +44,7 @@ use Rattle.region.specs.Region.{places_held, Good, Changes}
 use Rattle.region.specs.Said.{DealtTo, DealtToAll, TickStays, Ticks}
 use Rattle.region.specs.Said.{Answers, Taking, Holds, Takes}
 use Rattle.region.proofs.Areas.{lane_good, lane_part, lane_now, head_kept, length_subscriptions}
-use Rattle.region.proofs.Areas.{subscription_at, there, means, unchanged}
+use Rattle.region.proofs.Areas.{subscription_at, means, unchanged}
 use Rattle.region.proofs.Walks.{dealt_to}
 use Rattle.region.proofs.Says.{sent_itself, row_acting, said_due, all_ready, now_is, row_one, said_one, none_due}
 use Rattle.region.proofs.Says.{none_ready}

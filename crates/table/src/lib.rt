@@ -1,4 +1,6 @@
 // The lent table: what all sessions share, and the region of each.
+#![tactic(auto)]
+
 ghost use Rattle.std.specs.Prelude.{◌≡◌, true, cond, [], ◌∷◌, suc, ◌+◌, ◌≤◌, ◌<◌, length};
 ghost use Rattle.model.specs.Limits.{session_count, table_least, identifier_length, number_greatest};
 ghost use Rattle.model.specs.Records.{settings_of, settings_length};

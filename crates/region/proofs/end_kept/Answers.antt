@@ -2,7 +2,6 @@
 use mathlib.Core.Path.{refl}
 use mathlib.Core.List.{[]}
 use Rattle.frame.specs.Places.{notice_in}
-use Rattle.lane.specs.Lane.{Reading}
 use Rattle.region.specs.Region.{run_area}
 use Rattle.region.proofs.Areas.{parts}
 use Rattle.region.proofs.Ends.{longer_none, fair, ends_kept, Judged}

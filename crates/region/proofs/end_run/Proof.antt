@@ -26,4 +26,4 @@ end_run_spec =
     end-whole-requires (λ c. search rules) (λ c. search rules) (λ c. search rules) (λ c κs. search rules) end-kept-requires
     (λ c. search rules) (λ c. search rules) (λ c. let k = c.before.before.before.before in
     let l = k.before.before.before.before.before in λ read.
-    ends_longer read _ refl (l.lengthen.ensures read) (k.End-kept.ensures read).whole (k.End-kept.ensures read).ends))
+    ends_longer read _ refl (l.lengthen.ensures read) (k.end_kept.ensures read).whole (k.end_kept.ensures read).ends))

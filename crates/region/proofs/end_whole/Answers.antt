@@ -1,13 +1,12 @@
 -- `region::end_whole`: the decision is on the run that the bytes are.
-use mathlib.Core.Path.{◌≡◌, sym, ap, subst, ◌∙◌}
+use mathlib.Core.Path.{sym, ap, subst, ◌∙◌}
 use mathlib.Core.List.{List}
 use Prim.Native.Nat.{ℕ, ◌≤◌}
 use lib.ListN.{length}
 use Rattle.model.specs.Limits.{run_kept}
-use Rattle.model.specs.Runs.{Run, longer, empty_run}
+use Rattle.model.specs.Runs.{Run, longer}
 use Rattle.run.specs.Area.{run_of}
 use Rattle.frame.specs.Places.{notice_in}
-use Rattle.lane.specs.Lane.{Reading}
 use Rattle.region.specs.Region.{run_area}
 use Rattle.region.proofs.Rulings.{ruled_as}
 use Rattle.region.proofs.Ends.{taken_few, fair, ends_whole, Judged}

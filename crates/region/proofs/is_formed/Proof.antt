@@ -1,6 +1,5 @@
 -- `region::is_formed` meets its contract.
 use borrow.Author.Rules.{rules}
-use borrow.Author.Tests.{not-true, not-false}
 use mathlib.Core.Path.{sym, ◌∙◌}
 use Rattle.region.specs.Region.{region_formed}
 use Rattle.region.proofs.is_formed.Statement.{statement}

@@ -1,6 +1,5 @@
 -- `region::lanes_formed` meets its contract. The invariant: the test of the lanes that are left is the test of all.
 use borrow.Author.Rules.{rules}
-use borrow.Author.Tests.{not-true, not-false}
 use mathlib.Core.Path.{refl, sym, ap, ◌∙◌}
 use Prim.Native.Nat.{◌-◌}
 use lib.ListN.{length}

@@ -1,6 +1,5 @@
 -- `region::let_go` meets its contract, by whether it begins.
 use borrow.Author.Rules.{rules}
-use borrow.Author.Tests.{not-true, not-false}
 use Rattle.region.proofs.Areas.{unchanged, lanes_cleared}
 use Rattle.region.proofs.let_go.Statement.{statement}
 use Rattle.region.proofs.let_go.Tie as tie

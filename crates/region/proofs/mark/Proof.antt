@@ -3,7 +3,6 @@ use borrow.Author.Rules.{rules}
 use mathlib.Core.Path.{sym, subst}
 use native.Mathlib.Omega.{arith}
 use Rattle.model.specs.Kinds.{tightenings}
-use Rattle.session.specs.Decisions.{is_started}
 use Rattle.places.specs.Free.{marked}
 use Rattle.lane.specs.Lane.{Lane}
 use Rattle.region.specs.Region.{places_held}

@@ -1,5 +1,5 @@
 -- `region::tick`, by what becomes of the idle count.
-use mathlib.Core.Path.{sym, subst, ◌∙◌}
+use mathlib.Core.Path.{sym, subst}
 use Rattle.session.specs.declared.Session.{Session}
 use Rattle.session.proofs.Idles.{idled_few}
 use Rattle.run.specs.Area.{run_of}
@@ -20,5 +20,5 @@ returns-in-TimesOut c = λ read.
     tick_closes read c.args.region.now c.load.result c.load.ensures.0 c.load.ensures.1 c.idled-idling.result _ c.idled-idling.ensures
     c.in-TimesOut.is
     (subst (λ (x : Session). Changes read c.args.region.now x (run_of (run_area c.args.region.now))
-        (subscriptions_in read c.args.region.now) c.store.new.region)
+    (subscriptions_in read c.args.region.now) c.store.new.region)
     c.cleared.ensures (c.store.ensures read))
