@@ -17,7 +17,7 @@ use Rattle.model.specs.Kinds.{kinds, kind_at, copy_most, copies_most, reply_most
 use Rattle.model.specs.Events.{identified}
 use Rattle.model.specs.Local.{receives, announces, step}
 use Rattle.model.specs.World.{session_at, hears, happens, uncounted, next}
-use Rattle.model.specs.Calls.{output, happening}
+use Rattle.model.specs.Calls.{happening}
 use Rattle.model.proofs.InTurn.{emits_to}
 use Rattle.text.specs.Put.{Put}
 use Rattle.text.proofs.Puts.{put_nothing, put_as, put_then, put_length}

@@ -18,11 +18,11 @@ returns c =
     let s = g.before.before.before in
     let t = s.args.table.now in
     record {
-      granted = g.is-granted.ensures ∙ ap (λ (p : List ℕ). (settings_of p).granted) g.before.settings.ensures.0;
+      granted = g.is_granted-granted.ensures ∙ ap (λ (p : List ℕ). (settings_of p).granted) g.before.settings.ensures.0;
       remembers = remembers (shared_area t) (shared_good t s.requires) _ l.last.ensures.0 c.count.ensures.0;
     }
 
-pub common-spec : {M : Type 1} → statement M
-common-spec =
+pub common_spec : {M : Type 1} → statement M
+common_spec =
     tie.close (tie.spec (λ c κs. search rules) (λ c κs. search rules) (λ c. search rules) (λ c. search rules) (λ c. search rules)
     (λ c κs. search rules) (λ c. search rules) (λ c. search rules) (λ c. search rules) (λ c κs. search rules) returns)

@@ -6,8 +6,8 @@ use Rattle.table.proofs.Alone.{became_alone}
 use Rattle.table.proofs.hang_up.Statement.{statement}
 use Rattle.table.proofs.hang_up.Tie as tie
 
-pub hang-up-spec : {M : Type 1} → statement M
-hang-up-spec =
+pub hang_up_spec : {M : Type 1} → statement M
+hang_up_spec =
     tie.close (tie.spec (λ c. search rules) (λ c. search rules) (λ c. search rules) (λ c. search rules) (λ c. search rules)
     (λ c. search rules) (λ c κs. let p = c.before.before.requires in part_good _ _ p.0 p.1) (λ c. search rules)
     (λ c. let k = c.before.before in let s = k.before.before.before in

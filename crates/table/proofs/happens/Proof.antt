@@ -14,7 +14,7 @@ returns c =
     let n = c.before.before in
     let k = n.before.before.before.before.before.before in
     let a = k.before.before.before.before.before.before.args in
-    let e = k.tell.ensures in
+    let e = k.tell-told.ensures in
     record {
       within = e.within;
       went = went_one
@@ -24,6 +24,6 @@ returns c =
       one_copy = copied_then _ _ e.one_copy n.note.ensures;
     }
 
-pub happens-spec : {M : Type 1} → statement M
-happens-spec =
+pub happens_spec : {M : Type 1} → statement M
+happens_spec =
     tie.close (tie.spec (λ c κs. search rules) (λ c κs. search (rules, still_to)) (λ c. search rules) (λ c. search rules) returns)

@@ -14,5 +14,5 @@ returns c =
     let t = s.args.table.now in
     (c.in_force.ensures, ap length c.in_force.ensures ∙ length_in_force (shared_area t) (length_shared t s.requires.size))
 
-pub in-force-spec : {M : Type 1} → statement M
-in-force-spec = tie.close (tie.spec (λ c. search rules) (λ c. search rules) (λ c. search rules) (λ c κs. search rules) returns)
+pub in_force_spec : {M : Type 1} → statement M
+in_force_spec = tie.close (tie.spec (λ c. search rules) (λ c. search rules) (λ c. search rules) (λ c κs. search rules) returns)

@@ -18,7 +18,7 @@ use Rattle.table.proofs.Passes.{kept_so}
 use Rattle.table.proofs.keep_placed.Statement.{statement}
 use Rattle.table.proofs.keep_placed.Tie as tie
 
-stand-requires : tie.Need-stand-requires
+stand-requires : tie.Need-stand-stands-requires
 stand-requires c κs =
     let s = c.before.before.before in
     let p = s.requires in
@@ -34,8 +34,8 @@ take-requires c κs =
     let w = c.before.before.before.before in
     let s = w.before.before.before.before in
     let p = s.requires in
-    let o = w.stand.ensures in
-    let t₁ = w.stand.new.0 in
+    let o = w.stand-stands.ensures in
+    let t₁ = w.stand-stands.new.table in
     record {
       good = part_good t₁ s.args.s o.becomes.table p.session;
       known = omega arith;
@@ -43,7 +43,7 @@ take-requires c κs =
           (sym (part_in t₁ s.args.s ∙ o.regions s.args.s p.session)) p.answers;
       holds = p.holds;
       size = refl;
-      formed = lt-ltb w.stand.result place_count o.there;
+      formed = lt-ltb w.stand-stands.result place_count o.there;
     }
 
 returns : tie.Need-returns
@@ -52,26 +52,26 @@ returns c =
     let w = k.before.before.before.before.before in
     let s = w.before.before.before.before in
     let p = s.requires in
-    let o = w.stand.ensures in
-    let t₁ = w.stand.new.0 in
+    let o = w.stand-stands.ensures in
+    let t₁ = w.stand-stands.new.table in
     let g = k.take.ensures in
     kept_so p.session o.becomes o.shared o.regions
     (g.takes (reading_in t₁) s.args.res.now (ap (notice_in tightenings) o.stands)) (λ e h. o.stands) o.same
-    (λ e. subst (Adds (places_held (part t₁ s.args.s)) w.stand.result) (sym (g.adds refl)) (one_more o.there))
+    (λ e. subst (Adds (places_held (part t₁ s.args.s)) w.stand-stands.result) (sym (g.adds refl)) (one_more o.there))
 
-pub keep-placed-spec : {M : Type 1} → statement M
-keep-placed-spec =
+pub keep_placed_spec : {M : Type 1} → statement M
+keep_placed_spec =
     tie.close
     (tie.spec
     stand-requires
-    (λ c. let f = c.before.before.stand.ensures.there in search rules)
+    (λ c. let f = c.before.before.stand-stands.ensures.there in search rules)
     (λ c. let f = c.before.before.before.before.before.before.requires.session in search rules)
     (λ c. let f = c.before.before.before.before.before.before.requires.session in search rules)
     (λ c. let f = c.before.before.before.before.before.before.requires.session in search rules)
     (λ c. search rules)
     (λ c. search rules)
     (λ c. let f = c.before.before.before.before.before.before.requires.session in
-    let h = c.before.before.stand.ensures.becomes.table.size in search rules)
+    let h = c.before.before.stand-stands.ensures.becomes.table.size in search rules)
     (λ c. search rules)
     take-requires
     (λ c. search rules)

@@ -8,5 +8,5 @@ returns : tie.Need-returns
 unfolding decode
 returns c = c.last.ensures
 
-pub last-spec : {M : Type 1} → statement M
-last-spec = tie.close (tie.spec (λ c. search rules) (λ c. search rules) (λ c. search rules) (λ c κs. search rules) returns)
+pub last_spec : {M : Type 1} → statement M
+last_spec = tie.close (tie.spec (λ c. search rules) (λ c. search rules) (λ c. search rules) (λ c κs. search rules) returns)

@@ -6,8 +6,8 @@ use Rattle.table.proofs.Receives.{lengthened}
 use Rattle.table.proofs.lengthen.Statement.{statement}
 use Rattle.table.proofs.lengthen.Tie as tie
 
-pub lengthen-spec : {M : Type 1} → statement M
-lengthen-spec =
+pub lengthen_spec : {M : Type 1} → statement M
+lengthen_spec =
     tie.close (tie.spec (λ c. search rules) (λ c. search rules) (λ c. search rules) (λ c. search rules) (λ c. search rules)
     (λ c. search rules) (λ c κs. let p = c.before.before.before.requires in part_good _ _ p.0 p.1) (λ c. search rules)
     (λ c. let l = c.before.before in let s = l.before.before.before.before in

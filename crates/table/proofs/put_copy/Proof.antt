@@ -7,11 +7,11 @@ use Rattle.table.proofs.Says.{copy_said}
 use Rattle.table.proofs.put_copy.Statement.{statement}
 use Rattle.table.proofs.put_copy.Tie as tie
 
-put-copy-requires : tie.Need-put-copy-requires
+put-copy-requires : tie.Need-put_copy-requires
 put-copy-requires c κs =
     let a = c.before.before in
     let p = a.before.before.before.before.requires in
-    rw a.asked_by.ensures (record {
+    rw a.asked_by-asked.ensures (record {
       output = record { room = p.lent.room; numbered = omega arith };
       kind = p.known;
       settings = c.settings.ensures.1;
@@ -25,15 +25,15 @@ returns c =
     let a = z.before.before in
     let s = a.before.before.before.before in
     let t = s.args.table.now in
-    let w = rw (a.asked_by.ensures, z.settings.ensures.0) at y.put_copy.ensures in
+    let w = rw (a.asked_by-asked.ensures, z.settings.ensures.0) at y.put_copy.ensures in
     record {
       within = w.within;
       bytes = put_as (copy_said (reading_in t) (settings_in t) s.args.to.session s.args.kind (region_in s.args.to.session t)
           s.args.notice.now s.requires.subscribed) w.put;
     }
 
-pub put-copy-spec : {M : Type 1} → statement M
-put-copy-spec =
+pub put_copy_spec : {M : Type 1} → statement M
+put_copy_spec =
     tie.close
     (tie.spec
     (λ c κs. let p = c.before.before.before.requires in

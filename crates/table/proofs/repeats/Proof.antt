@@ -11,9 +11,9 @@ same true false e = absurd (true≢false (sym e))
 same false true e = absurd (true≢false (sym e))
 same false false e = refl
 
-returns-3 : tie.Need-returns-3
+returns-3 : tie.Need-returns
 returns-3 c = λ e. record { some = omega arith; revision = omega arith; flag = same _ _ e }
 
-pub repeats-spec : {M : Type 1} → statement M
-repeats-spec =
+pub repeats_spec : {M : Type 1} → statement M
+repeats_spec =
     tie.close (tie.spec (λ c. λ e. absurd (true≢false (sym e))) (λ c. λ e. absurd (true≢false (sym e))) returns-3)

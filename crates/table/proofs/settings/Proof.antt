@@ -13,5 +13,5 @@ returns c =
     let t = s.args.table.now in
     (c.settings.ensures, ap length c.settings.ensures ∙ length_settings (shared_area t) (length_shared t s.requires.size))
 
-pub settings-spec : {M : Type 1} → statement M
-settings-spec = tie.close (tie.spec (λ c. search rules) (λ c. search rules) (λ c. search rules) (λ c κs. search rules) returns)
+pub settings_spec : {M : Type 1} → statement M
+settings_spec = tie.close (tie.spec (λ c. search rules) (λ c. search rules) (λ c. search rules) (λ c κs. search rules) returns)

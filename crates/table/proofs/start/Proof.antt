@@ -6,10 +6,10 @@ use Rattle.table.proofs.Starts.{Closed, closed_none, closed_next, closed_all}
 use Rattle.table.proofs.start.Statement.{statement}
 use Rattle.table.proofs.start.Tie as tie
 
-abbrev invariant-loop : tie.invariant-loop
+abbrev invariant-loop : tie.invariant-loop-s
 invariant-loop table₀ payload s₀ table s = Closed table₀ table s
 
-abbrev decreases-loop : tie.decreases-loop
+abbrev decreases-loop : tie.decreases-loop-s
 decreases-loop table₀ payload s₀ table s = session_count - s
 
 pub start_spec : {M : Type 1} → statement M

@@ -19,7 +19,7 @@ use Rattle.table.proofs.Places.{Copying, copying_none, copying_next, copied_all}
 use Rattle.table.proofs.tell.Statement.{statement}
 use Rattle.table.proofs.tell.Tie as tie
 
-abbrev invariant-loop : tie.invariant-loop
+abbrev invariant-loop : tie.invariant-loop-session
 invariant-loop table₀ out₀ at kind notice at₀ from₀ revision₀ flag₀ place₀ taken₀ bit₀ session₀ table out at' from revision flag place taken bit
     session =
     Turns (copy_most (kind_at kind)) (event (event_in kind notice)) table₀ out₀ at table out at' session
@@ -28,21 +28,21 @@ invariant-loop table₀ out₀ at kind notice at₀ from₀ revision₀ flag₀ 
     × (kind ≡ tightenings → Stands table notice place)
     × Copying kind table₀ table place session
 
-abbrev decreases-loop : tie.decreases-loop
+abbrev decreases-loop : tie.decreases-loop-session
 decreases-loop table₀ out₀ at kind notice at₀ from₀ revision₀ flag₀ place₀ taken₀ bit₀ session₀ table out at' from revision flag place taken bit
     session =
     session_count - session
 
-loop-again : tie.Need-loop-preserved invariant-loop decreases-loop
+loop-again : tie.Need-loop-session-preserved invariant-loop decreases-loop
 loop-again c =
     let k = c.before.before.before.before.before in
     let t = k.before.before.before in
-    let l = t.before.loop in
+    let l = t.before.loop-session in
     let s = t.before.before.before.before.before in
-    let v = k.tell-session.ensures in
-    let few = t.loop-test.true in (
+    let v = k.tell_session-took.ensures in
+    let few = t.loop-session-test.true in (
       turns_next l.invariant.0 few v.within v.went,
-      sums_next l.invariant.1 k.tell-session.result.taken c.share.ensures few
+      sums_next l.invariant.1 k.tell_session-took.result.taken c.share-taken.ensures few
           (event_in s.args.kind s.args.notice.now) v.went v.takes,
       v.last,
       v.stands,
@@ -52,18 +52,18 @@ loop-again c =
 returns : tie.Need-returns invariant-loop decreases-loop
 unfolding decode
 returns c =
-    let i = c.before.loop.invariant in
-    let e = turns_all i.0 c.loop-test.false in
+    let i = c.before.loop-session.invariant in
+    let e = turns_all i.0 c.loop-session-test.false in
     record {
       within = e.0;
-      taken = sums_all i.1 c.loop-test.false;
+      taken = sums_all i.1 c.loop-session-test.false;
       becomes = e.1;
       bytes = e.2;
-      one_copy = copied_all _ _ c.loop-test.false i.4;
+      one_copy = copied_all _ _ c.loop-session-test.false i.4;
     }
 
-pub tell-spec : {M : Type 1} → statement M
-tell-spec =
+pub tell_spec : {M : Type 1} → statement M
+tell_spec =
     tie.close
     (tie.spec
     invariant-loop
@@ -78,12 +78,12 @@ tell-spec =
     (λ c κs. search (rules, turn_lent))
     (λ c κs. search rules)
     (λ c. let k = c.before.before.before.before.before in let t = k.before.before.before in
-    omega (arith, adds t.before.loop.invariant.1 k.tell-session.result.taken c.share.ensures t.loop-test.true))
+    omega (arith, adds t.before.loop-session.invariant.1 k.tell_session-took.result.taken c.share-taken.ensures t.loop-session-test.true))
     (λ c. let t = c.before.before.before.before.before.before.before.before in
-    omega (arith, bit_small t.before.loop.invariant.1 t.loop-test.true))
+    omega (arith, bit_small t.before.loop-session.invariant.1 t.loop-session-test.true))
     (λ c. search rules)
     (λ c. search rules)
     loop-again
-    (λ c. c.before.loop.invariant.0.size)
-    (λ c. c.before.loop.invariant.0.long)
+    (λ c. c.before.loop-session.invariant.0.size)
+    (λ c. c.before.loop-session.invariant.0.long)
     returns)

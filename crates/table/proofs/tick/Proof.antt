@@ -10,25 +10,25 @@ use Rattle.table.proofs.Turns.{Turns, turns_none, turn_lent, turns_next, turns_a
 use Rattle.table.proofs.tick.Statement.{statement}
 use Rattle.table.proofs.tick.Tie as tie
 
-abbrev invariant-loop : tie.invariant-loop
+abbrev invariant-loop : tie.invariant-loop-session
 invariant-loop table₀ out₀ at at₀ session₀ table out at' session = Turns (copies_most kinds) tick table₀ out₀ at table out at' session
 
-abbrev decreases-loop : tie.decreases-loop
+abbrev decreases-loop : tie.decreases-loop-session
 decreases-loop table₀ out₀ at at₀ session₀ table out at' session = session_count - session
 
-pub tick-spec : {M : Type 1} → statement M
-tick-spec =
+pub tick_spec : {M : Type 1} → statement M
+tick_spec =
     tie.close
     (tie.spec
     invariant-loop
     decreases-loop
     (λ c. turns_none _ tick _ _ _ c.before.before.requires.0)
-    (λ c κs. turn_lent c.before.before.before.loop.invariant c.before.before.before.before.before.before.requires.1
-    c.before.before.loop-test.true)
+    (λ c κs. turn_lent c.before.before.before.loop-session.invariant c.before.before.before.before.before.before.requires.1
+    c.before.before.loop-session-test.true)
     (λ c. search rules)
     (λ c. search rules)
     (λ c. search (rules, turns_next))
-    (λ c. c.before.loop.invariant.size)
-    (λ c. c.before.loop.invariant.long)
-    (λ c. let e = turns_all c.before.loop.invariant c.loop-test.false in
+    (λ c. c.before.loop-session.invariant.size)
+    (λ c. c.before.loop-session.invariant.long)
+    (λ c. let e = turns_all c.before.loop-session.invariant c.loop-session-test.false in
     record { within = e.0; went = went_one {m = ticks} e.1 e.2 }))
