@@ -6,15 +6,16 @@
 Outside comments and texts no file has a word that takes something for true without a proof:
 
 - `axiom`, or the module `Axiom`, which has the logic's own two, excluded middle and choice;
-- a hole, `?` or `?name`, or a probe, `{! .. !}`;
-- an `extern "C"` block, whose contracts nothing proves; `unsafe`.
+- a hole, `?` or `?name`, or a probe, `{! .. !}`; the `?` behind an expression of Rattle, which hands an error on, is none;
+- an `extern "C"` block, whose contracts nothing proves; `unsafe`, but for the mark of a name that C calls, `#[unsafe(no_mangle)]`.
 
 No function that C calls has a `requires`: nothing would prove that C keeps it.
 
-A library stands on the repository's crates alone. A program may name the kit's io, libc and os, which rest on contracts of C functions.
+Each crate stands on the repository's crates and the toolchain's std alone; a program might name the kit's io, libc and os, which rest on
+contracts of C functions.
 
-A law of a proof by hand takes the logic's rules as an argument, `Given`. Where a file does not hand them in itself (`givenOf`), its head
-says that, and no other head does.
+A law of a proof by hand may take the logic's rules as an argument, `𝓛` of today's or `Given` of older files. Where a file does not hand
+them in itself (`givenOf`), its head says that, and no other head does.
 
 The prover refuses these words too, and rt builds only what it proves: docs/PROVED.md. Exit status 0: all holds."""
 
@@ -39,7 +40,8 @@ PIECES = {
 ASSUMES = {
     ".antt": [(BEGINS + "axiom" + ENDS, "an axiom"), (BEGINS + "Axiom" + ENDS, "an axiom of the logic"), (BEGINS + r"\?", "a hole"),
               (r"\{!", "a probe")],
-    ".rt": [(r'\bextern\s*(?:"")?\s*\{', "contracts of C functions"), (r"\bunsafe\b", "what is unsafe"), (BEGINS + r"\?", "a hole")],
+    ".rt": [(r'\bextern\s*(?:"")?\s*\{', "contracts of C functions"), (r"\bunsafe\b(?!\(no_mangle\)\])", "what is unsafe"),
+            (r"""(?<![\w)\]}>?"])\?""", "a hole")],
 }
 
 # A function that C calls, up to the next one.
@@ -47,7 +49,7 @@ EXPORT = re.compile(r'\bextern\s*""\s*fn (\w+)((?:(?!\bfn\b).)*)', re.S)
 
 SAYS = re.compile(r"Assumes (.*?)\.(?: |$)")
 NOTHING = ()
-RULES = "the logic's rules (`Given`), nothing else"
+RULES = "the logic's rules, nothing else"
 
 
 def bare(text, ending):
@@ -71,7 +73,7 @@ def held(path):
     wrong += [f"{path}: {name} requires something of C" for name, rest in EXPORT.findall(code) if re.search(r"\brequires\b", rest)]
     if ending == ".antt":
         names = re.findall(NAME, code)
-        takes = "Given" in names and "givenOf" not in names
+        takes = ("𝓛" in names or "Given" in names) and "givenOf" not in names
         said = SAYS.findall(head(text))
         wrong += [f"{path}: its head says that it assumes {what}" for what in said if what not in ((RULES,) if takes else NOTHING)]
         wrong += [f"{path}: its head does not say that it takes {RULES}"] if takes and not said else []
@@ -80,10 +82,10 @@ def held(path):
 
 def main(arguments):
     os.chdir(arguments[0] if arguments else os.path.join(os.path.dirname(os.path.abspath(__file__)), "..", ".."))
-    paths = sorted(path for ending in PIECES for path in glob.glob(f"crates/**/*{ending}", recursive=True))
+    paths = sorted(path for ending in PIECES for path in glob.glob(f"crates/**/*{ending}", recursive=True) if "/out/" not in path)
     wrong = [what for path in paths for what in held(path)]
     with open("crates.txt", encoding="utf-8") as file:
-        crates = {name: set(uses.split()) for name, uses in re.findall(r"^(\w+):(.*)$", file.read(), re.M)}
+        crates = {name: set(uses.split()) for name, uses in re.findall(r"^(\w+)[^\n:#]*:(.*)$", file.read(), re.M)}
     on_c = [name for name, uses in crates.items() if uses & set(KIT)]
     wrong += [f"crates.txt: {name} is a library, and the kit's io, libc and os rest on contracts of C functions" for name in on_c
               if not os.path.isfile(f"crates/{name}/src/main.rt")]

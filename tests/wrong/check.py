@@ -90,7 +90,7 @@ def twins_held(paths):
 
 def main(arguments):
     os.chdir(os.path.join(os.path.dirname(os.path.abspath(__file__)), "..", ".."))
-    crates = {name: Crate(name) for name in re.findall(r"^(\w+):", read("crates.txt"), re.M)}
+    crates = {name: Crate(name) for name in re.findall(r"^(\w+)[^\n:#]*:", read("crates.txt"), re.M)}
     in_gate, apart = sorted(glob.glob("crates/*/must-fail/*.edit")), sorted(glob.glob("tests/wrong/*/*.edit"))
     edits, counts, wrong = [], collections.Counter(), []
     for path in in_gate + apart:
