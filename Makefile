@@ -20,6 +20,7 @@ help:
 	@echo "make run     proves the library, builds the host around it, and starts that with a simulated tool on 127.0.0.1:4545"
 	@echo "make watch   a small line server, for another terminal; FETCH=17-23 asks for old results, REVISION=5 for results in revision 5"
 	@echo "make test    everything that the gate runs: layout, proofs, must-fail edits, the comparison with the implementation in C, the host"
+	@echo "make archive proves the library for C, and writes $(ARCHIVE)"
 	@echo "make install the library for C, the host, serifladder-replay, ladder, watch, unit file and man pages, to PREFIX=$(PREFIX)"
 	@echo "make uninstall removes them"
 	@echo "make proved  proves every crate and lists the public functions"

@@ -1,6 +1,7 @@
 -- A lane: a session's subscription to one kind of notice, and the notices that it holds, in one run of bytes. 01, "Notices and the
 -- clock", and 02, P7. docs/TABLE.md has the map.
-use Rattle.std.specs.Prelude.{◌≡◌, ℕ, zero, suc, ◌+◌, ◌-◌, ◌*◌, ◌≤◌, ◌<◌, Bool, true, false, cond, ◌&&◌, List, [], ◌∷◌, ◌++◌, leb, ltb, length, get_or, take, drop}
+use Rattle.std.specs.Prelude.{◌≡◌, ℕ, zero, suc, ◌+◌, ◌-◌, ◌*◌, ◌≤◌, ◌<◌, Bool, true, false, cond, ◌&&◌, List, [], ◌∷◌, ◌++◌, leb, ltb}
+use Rattle.std.specs.Prelude.{length, get_or, take, drop}
 use Rattle.std.proofs.lemmas.List.Edits.{sets}
 use Rattle.model.specs.Limits.{given_up_at}
 use Rattle.model.specs.Bytes.{all, little}
@@ -69,7 +70,8 @@ places_in l = take (control_of l).held (drop control_size l)
 -- each number is one that a subscription can have, and each slot that is held is well formed
 unfoldable pub lane_formed : ℕ → List ℕ → Bool
 lane_formed kind l =
-    leb (get_or l 0 0) form_greatest && ltb (get_or l 1 0) given_up_at && leb (get_or l 2 0) (most kind) && slots_formed kind (get_or l 2 0) l
+    leb (get_or l 0 0) form_greatest && ltb (get_or l 1 0) given_up_at && leb (get_or l 2 0) (most kind)
+    && slots_formed kind (get_or l 2 0) l
 
 pub record Lane (kind : ℕ) (l : List ℕ) : Type 0 where
   pub size : length l ≡ lane_size kind

@@ -1,5 +1,6 @@
 -- The calls: their refusals, what they do, their answers and their output. 01, "What the product holds".
-use Rattle.std.specs.Prelude.{ℕ, zero, suc, ◌+◌, ◌/◌, ◌%◌, ◌^◌, Bool, true, false, not, cond, ◌&&◌, List, [], ◌∷◌, ◌++◌, leb, ltb, eqb, length}
+use Rattle.std.specs.Prelude.{ℕ, zero, suc, ◌+◌, ◌/◌, ◌%◌, ◌^◌, Bool, true, false, not, cond, ◌&&◌, List, [], ◌∷◌, ◌++◌, leb, ltb, eqb}
+use Rattle.std.specs.Prelude.{length}
 use Rattle.std.proofs.Math.Option.{Option, none, some, map as option_map}
 use Rattle.model.specs.Limits.{session_count, table_least, output_least, number_greatest, answer_least, answer_too_short}
 use Rattle.model.specs.Bytes.{in_bytes}

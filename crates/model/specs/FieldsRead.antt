@@ -1,5 +1,6 @@
 -- The rows the other way: what a reader makes of the data of a frame. 01, "Frames we write".
-use Rattle.std.specs.Prelude.{ℕ, zero, suc, ◌^◌, ◌≡◌, Bool, true, false, cond, ◌&&◌, List, [], ◌∷◌, map, leb, eqb, ltb, length, take, drop, replicate}
+use Rattle.std.specs.Prelude.{ℕ, zero, suc, ◌^◌, ◌≡◌, Bool, true, false, cond, ◌&&◌, List, [], ◌∷◌, map, leb, eqb, ltb, length, take, drop}
+use Rattle.std.specs.Prelude.{replicate}
 use Rattle.std.proofs.Math.Option.{Option, none, some}
 use Rattle.model.specs.Limits.{header_length, time_length}
 use Rattle.model.specs.Bytes.{digit_0, is_digit, is_space, all, spaces, decimal}

@@ -63,7 +63,10 @@ is_formed_spec =
     (λ c. search rules)
     (λ c κs. search rules)
     (λ c.
-    rw (le-leb _ _ c.before.before.before.if-lane-gt-FORM_GREATEST.false, le-ltb _ _ (rw c.before.wide.ensures at c.if-wide-ge-GIVEN_UP_AT.true)))
+    rw (
+      le-leb _ _ c.before.before.before.if-lane-gt-FORM_GREATEST.false,
+      le-ltb _ _ (rw c.before.wide.ensures at c.if-wide-ge-GIVEN_UP_AT.true),
+    ))
     (λ c κs. search rules)
     (λ c. search rules)
     (λ c κs. search rules)

@@ -33,8 +33,11 @@ returns c =
     let w = c.before in
     let s = w.before.before.before in
     let l = s.args.lane.now in
-    let e = ap (λ (n : ℕ). take n (drop control_size l)) (add-sub_cancel_left control_size w.wide.result ∙ held w) in
-    (e, ap (all is_place) e ∙ places_there l s.requires.size (storable tightenings l s.requires).held (held_formed tightenings l s.requires))
+    let e = ap (λ (n : ℕ). take n (drop control_size l)) (add-sub_cancel_left control_size w.wide.result ∙ held w) in (
+      e,
+      ap (all is_place) e
+          ∙ places_there l s.requires.size (storable tightenings l s.requires).held (held_formed tightenings l s.requires),
+    )
 
 pub places_spec : {M : Type 1} → statement M
 places_spec =
