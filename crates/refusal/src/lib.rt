@@ -1,4 +1,6 @@
 // The numbers with which calls are refused, 0 where they are not. 01, "What the product holds": the lowest that applies.
+#![tactic(auto)]
+
 ghost use Rattle.std.specs.Prelude.{◌≡◌};
 ghost use Rattle.model.specs.Calls.{
   start as start_call,
