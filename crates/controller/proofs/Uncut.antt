@@ -14,7 +14,6 @@ use Rattle.model.proofs.Cuts.{read_on, cut_anywhere}
 use Rattle.model.specs.Erased.{erase_world}
 use Rattle.model.proofs.Erase.{output_append}
 use Rattle.table.specs.Table.{decode, Table}
-use Rattle.controller.specs.declared.Answer.{Answer}
 use Rattle.controller.specs.HandedOn.{HandedOn, nothing_left, and_on}
 use Rattle.controller.proofs.Traces.{table_left}
 use Rattle.controller.proofs.Modelled.{lending, one_call}
@@ -44,7 +43,7 @@ as_uncut {s = s} {t = t} w h e (and_on {t₁ = t₁} {o = o} {bs = bs} {b = b} {
     let left : r.consumed ≡ q.1.consumed = ap (λ (a : model.Answer). a.consumed) k.answer in
     let ih = rw (out.size, left) at (as_uncut q.0 (table_left h out) k.world rest) in
     record {
-      world = rw (read_on l s w b bs) ih.world;
+      world = ih.world ∙ ap (λ (x : Upshot). erase_world x.world) (sym (read_on l s w b bs));
       bytes =
           ap₂ ◌++◌ k.bytes ih.bytes ∙ sym (output_append q.2 _)
           ∙ ap (λ (x : Upshot). output x.emissions) (sym (read_on l s w b bs));

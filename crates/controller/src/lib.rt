@@ -1,4 +1,6 @@
 // The calls of the product.
+#![tactic(auto)]
+
 ghost use Rattle.std.specs.Prelude.{◌≡◌, [], drop};
 ghost use Rattle.model.specs.Records.{identifier_in, tightening_of, tightening};
 ghost use Rattle.model.specs.Events.{tightened};

@@ -6,15 +6,15 @@ use Rattle.controller.proofs.Tools.{scan_reported, alarm_reported}
 use Rattle.controller.proofs.report.Statement.{statement}
 use Rattle.controller.proofs.report.Tie as tie
 
-pub report-spec : {M : Type 1} → statement M
-report-spec =
+pub report_spec : {M : Type 1} → statement M
+report_spec =
     tie.close
     (tie.spec
     (λ c κs. search rules)
     (λ c. search rules)
     (λ c. search rules)
     (λ c. search rules)
-    (λ c κs. search (rules, tightening_size, c.before.before.before.before.before.before.before.before.requires.number))
+    (λ c κs. search (rules, tightening_size, c.before.before.before.before.before.before.requires.number))
     (λ c. search rules)
     (λ c κs. search (rules, tightening_to))
     (λ c. search rules)
