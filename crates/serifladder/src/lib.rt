@@ -1,4 +1,6 @@
 // The calls, for a host in C. A slice passes as a pointer and a length.
+#![tactic(auto)]
+
 ghost use Rattle.std.specs.Prelude.{[], ◌≤◌, length};
 ghost use Rattle.model.specs.Limits.{answer_least};
 ghost use Rattle.model.specs.Calls.{

@@ -11,8 +11,8 @@ returns c =
     let w = d.before.before.before.before in
     let b = w.before.before.before.before in
     let n = b.before.before.before.before in
-    let all-four = put_then (put_then (put_then n.put-little.ensures.1 b.put-little2.ensures.1) w.put-little3.ensures.1)
-    d.put-little4.ensures.1 in
+    let all-four = put_then (put_then (put_then n.put_little-a.ensures.1 b.put_little-b.ensures.1) w.put_little-c.ensures.1)
+    d.put_little.ensures.1 in
     record { number = refl; numbers = all-four.output }
 
 pub give_spec : {M : Type 1} → statement M
