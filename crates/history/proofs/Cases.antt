@@ -15,8 +15,8 @@ use Rattle.model.specs.Bytes.{space, within, places, little, digits}
 use Rattle.model.specs.Records.{Settings, payload, settings_of, read_settings}
 use Rattle.model.specs.Tests.{◌gives◌, first}
 use Rattle.model.specs.Frames.{frame_record_kind, close_record_kind}
-use Rattle.model.specs.World.{World, begins, begun}
-use Rattle.model.specs.Calls.{Call, start, Lent, is_none, output, Answer, refusal, answered, step, run}
+use Rattle.model.specs.World.{World, begun}
+use Rattle.model.specs.Calls.{Call, start, Lent, is_none, Answer, refusal, answered, step, run}
 use Rattle.model.specs.Program.{zeros, call_of, shown as underlined}
 use Rattle.model.proofs.Text.{ascii, same_bytes, same_lines}
 use Rattle.model.proofs.Framed.{both}

@@ -159,6 +159,7 @@ begun_by d (called y a b out z u) = (y, out, sym z ∙ d)
 
 pub once_made : (ps : List Export) (ms : List Made) → CallsOf ps ms → OnceTold ps → Once ms
 once_made [] [] no_more o = tt
+once_made [] (m ∷ ms) c o = elim c [ ]
 once_made (p ∷ ps) (m ∷ ms) (made x r) o = (
   ap₂ (λ (n : ℕ) (c : Call). eqb n 0 && starts c) (sym x.told) x.call ∙ o.0,
   once_made ps ms r o.1,
@@ -194,6 +195,7 @@ demand_3_of_the_exports {t = t} {ps = ps} h o =
 -- NUMBER 2 NEVER OCCURS
 never_made : (ps : List Export) (ms : List Made) → CallsOf ps ms → Never 2 ms → NeverTold 2 ps
 never_made [] [] no_more n = tt
+never_made [] (m ∷ ms) c n = elim c [ ]
 never_made (p ∷ ps) (m ∷ ms) (made x r) n = (λ e. n.0 (sym x.told ∙ e), never_made ps ms r n.1)
 never_made (p ∷ ps) ms (not_made (short_answer a z u v) r) n = (λ e. omega arith, never_made ps ms r n)
 never_made (p ∷ ps) ms (not_made (short_table a b z u v) r) n = (λ e. omega arith, never_made ps ms r n)
@@ -228,7 +230,7 @@ module _ {p : Export} {t t₁ : List ℕ} (w : World) (h : Table t) (e : decode 
       (record {
         returns = record {
           number = z ∙ ap (λ (x : model.Answer). x.number) d.answer;
-          answer = rw d.answer at u;
+          answer = u ∙ ap (λ (x : model.Answer). sets p.answer 0 (answer_bytes x)) d.answer;
           output = out.output ∙ ap (sets p.output 0) (sym (stands out).records ∙ d.bytes);
         };
         world = d.world;

@@ -1,6 +1,6 @@
 -- What a line server sees of a history: where each frame ends that a call wrote, and which message a reply follows. It is read off the
 -- calls, their answers and the bytes that they wrote; nothing here looks into the table.
-use Rattle.std.specs.Prelude.{ℕ, zero, suc, ◌+◌, ◌<◌, ◌≡◌, true, false, cond, List, [], ◌∷◌, ◌++◌, map, eqb, length, take, drop}
+use Rattle.std.specs.Prelude.{ℕ, zero, suc, ◌<◌, ◌≡◌, true, false, cond, List, [], ◌∷◌, ◌++◌, map, eqb, length, take, drop}
 use Rattle.std.proofs.Math.Option.{Option, none, some}
 use Rattle.model.specs.Limits.{session_count}
 use Rattle.model.specs.Bytes.{NUL, places, decimal}
