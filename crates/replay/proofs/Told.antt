@@ -13,7 +13,7 @@ use Rattle.model.specs.Records.{house_record, record_head}
 use Rattle.model.specs.Session.{Emission, reply, copy, close}
 use Rattle.model.specs.Calls.{Call, output_record, output, step}
 use Rattle.model.specs.Calls as model
-use Rattle.model.specs.Row.{Tagged, said}
+use Rattle.model.specs.Row.{Tagged}
 use Rattle.model.specs.Program.{shown, line_of, lines_of, printed}
 use Rattle.table.specs.Table.{decode}
 use Rattle.table.proofs.Regions.{so_many_sessions}

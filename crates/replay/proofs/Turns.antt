@@ -8,7 +8,6 @@ use lib.Dec.{leb, eqb}
 use lib.ListN.{length, drop, length-drop}
 use lib.Seq.{sets, length-sets}
 use borrow.Author.Tests.{eq-eqb, eqb-true, eqb-false, leb-true, not-true}
-use Rattle.model.specs.Bytes.{within}
 use Rattle.model.specs.Runs.{cut, consumed_by}
 use Rattle.model.specs.World.{World}
 use Rattle.model.specs.Calls.{Call, start, bytes, does, answered, output, refusal, step}

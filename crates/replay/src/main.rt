@@ -1,4 +1,6 @@
 // The test program: house records on standard input, a line for each output record and each refusal on standard output.
+#![tactic(auto)]
+
 ghost use Rattle.std.specs.Prelude.{◌≡◌, true, false, cond, eqb, [], ◌∷◌, ◌++◌, suc, ◌+◌, ◌≤◌, length, take};
 ghost use Rattle.model.specs.Limits.{output_least};
 ghost use Rattle.model.specs.Bytes.{space, within};

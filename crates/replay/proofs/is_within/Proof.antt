@@ -3,5 +3,5 @@ use borrow.Author.Tests.{le-leb, lt-leb}
 use Rattle.replay.proofs.is_within.Statement.{statement}
 use Rattle.replay.proofs.is_within.Tie as tie
 
-pub is-within-spec : {M : Type 1} → statement M
-is-within-spec = tie.close (tie.spec (λ c. rw (lt-leb _ _ c.if1.true)) (λ c. rw (le-leb _ _ c.if1.false)))
+pub is_within_spec : {M : Type 1} → statement M
+is_within_spec = tie.close (tie.spec (λ c. rw (lt-leb _ _ c.if-n-least.true)) (λ c. rw (le-leb _ _ c.if-n-least.false)))

@@ -6,8 +6,8 @@ use Rattle.replay.proofs.Follows.{free_behind, free_front}
 use Rattle.replay.proofs.room.Statement.{statement}
 use Rattle.replay.proofs.room.Tie as tie
 
-pub room-spec : {M : Type 1} → statement M
-room-spec =
+pub room_spec : {M : Type 1} → statement M
+room_spec =
     tie.close
     (tie.spec
     (λ c. search rules)

@@ -13,16 +13,16 @@ use Rattle.replay.proofs.whole.Tie as tie
 none-there : {input : List ℕ} → 0 ≡ whole_size input → Measured input 0
 none-there e = record { whole = e; within = omega arith; head = λ z. absurd (omega arith) }
 
-returns-4 : tie.Need-returns-4
+returns-4 : tie.Need-returns
 returns-4 c =
     let w = size_whole c.before.before.before.before.before.args.bytes.now (omega arith) (omega arith) in
     record { whole = omega arith; within = omega arith; head = λ z. omega arith }
 
-pub whole-spec : {M : Type 1} → statement M
-whole-spec =
+pub whole_spec : {M : Type 1} → statement M
+whole_spec =
     tie.close
     (tie.spec
-    (λ c. none-there (size_cut c.before.before.args.bytes.now c.if1.true))
+    (λ c. none-there (size_cut c.before.before.args.bytes.now c.if-bytes-lt-RECORD_HEAD.true))
     (λ c κs. search rules)
     (λ c. none-there (size_too_long c.before.before.before.before.args.bytes.now (omega arith)))
     (λ c. search rules)
