@@ -1,5 +1,4 @@
 -- `table::answer` meets its contract.
-use borrow.Author.Rules.{rules}
 use mathlib.Core.Path.{ap, ◌∙◌}
 use lib.ListN.{length}
 use Rattle.table.proofs.Regions.{length_in}
@@ -19,4 +18,7 @@ pub say_one-requires : goal.say_one-requires
 say_one-requires c = say_lent c.requires c.put_reply-at.ensures.within c.put_reply-at.ensures.put
 
 pub returns : goal.returns
-returns c = search (rules, answered, run_is)
+returns c =
+    answered c.requires c.settings.ensures.0
+    (run_is c.requires c.region_of.ensures c.run_bytes-kept.ensures c.ended_in-run.ensures)
+    c.told_by.ensures c.put_reply-at.ensures.within c.put_reply-at.ensures.put c.say_one.ensures
