@@ -24,7 +24,13 @@ open_spec =
     ((is_ready a.table.now a.output (sym c.before.before.tick-n.ensures ∙ c.before.if-n-ne0.false)).table, omega arith))
     (λ c. let r = c.before.before.before in let a = r.before.before.before.args in
     own_gives a.table.now a.output (open_own a.table.now a.session) r.before.tick-n.ensures r.if-n-ne0.false
-    (rw (lt-leb session_count _ c.before.before.if-session-ge-SESSION_COUNT.false, sym c.before.is_closed.ensures ∙ c.if-not-is_closed.true)))
+    (rw (
+      lt-leb session_count _ c.before.before.if-session-ge-SESSION_COUNT.false,
+      sym c.before.is_closed.ensures ∙ c.if-not-is_closed.true,
+    )))
     (λ c. let r = c.before.before.before in let a = r.before.before.before.args in
     own_gives a.table.now a.output (open_own a.table.now a.session) r.before.tick-n.ensures r.if-n-ne0.false
-    (rw (lt-leb session_count _ c.before.before.if-session-ge-SESSION_COUNT.false, sym c.before.is_closed.ensures ∙ c.if-not-is_closed.false))))
+    (rw (
+      lt-leb session_count _ c.before.before.if-session-ge-SESSION_COUNT.false,
+      sym c.before.is_closed.ensures ∙ c.if-not-is_closed.false,
+    ))))

@@ -49,6 +49,7 @@ returns-3 c =
 
 pub is_formed_spec : {M : Type 1} → statement M
 is_formed_spec =
-    tie.close (tie.spec invariant-loop decreases-loop (λ c. search rules) (λ c. search rules) (λ c. search rules) (λ c κs. search rules) returns
+    tie.close (tie.spec invariant-loop decreases-loop (λ c. search rules) (λ c. search rules) (λ c. search rules) (λ c κs. search rules)
+    returns
     (λ c. record { left = refl }) (λ c κs. search rules) is-formed-requires-2 returns-2 (λ c. search rules) (λ c. search rules) loop-again
     returns-3)

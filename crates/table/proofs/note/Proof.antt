@@ -12,7 +12,9 @@ use Rattle.table.proofs.note.Tie as tie
 -- it is a tightening
 module _ (c : tie.Else-kind-eq-ALARMS) where
   tightening : c.before.before.before.before.args.kind ≡ tightenings
-  tightening = let few = c.before.before.before.before.requires.known in omega (arith, c.before.if-kind-eq-IDENTIFIERS.false, c.if-kind-eq-ALARMS.false)
+  tightening =
+      let few = c.before.before.before.before.requires.known in
+      omega (arith, c.before.if-kind-eq-IDENTIFIERS.false, c.if-kind-eq-ALARMS.false)
 
 pub note_spec : {M : Type 1} → statement M
 note_spec =
@@ -21,7 +23,8 @@ note_spec =
     (λ c. search rules)
     (λ c. search rules)
     (λ c. search rules)
-    (λ c κs. let p = c.before.before.before.before.requires in (shared_good _ p.table, p.place ∙ ap place_size c.before.if-kind-eq-IDENTIFIERS.true))
+    (λ c κs. let p = c.before.before.before.before.requires in
+    (shared_good _ p.table, p.place ∙ ap place_size c.before.if-kind-eq-IDENTIFIERS.true))
     (λ c. search rules)
     (λ c. let k = c.before.before in let i = k.before.before in
     let p = i.before.before.before.requires in

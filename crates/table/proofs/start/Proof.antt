@@ -14,7 +14,8 @@ decreases-loop table₀ payload s₀ table s = session_count - s
 
 pub start_spec : {M : Type 1} → statement M
 start_spec =
-    tie.close (tie.spec invariant-loop decreases-loop (λ c. closed_none _) (λ c. search rules) (λ c. search rules) (λ c. search rules) (λ c. search rules)
+    tie.close (tie.spec invariant-loop decreases-loop (λ c. closed_none _) (λ c. search rules) (λ c. search rules) (λ c. search rules)
+    (λ c. search rules)
     (λ c. search rules) (λ c. search rules) (λ c κs. search rules) (λ c. search rules) (λ c. search rules)
     (λ c. search (rules, closed_next)) (λ c. search rules)
     (λ c. search rules) (λ c. search rules) (λ c κs. search rules) (λ c. search rules) (λ c. search (rules, closed_all)))

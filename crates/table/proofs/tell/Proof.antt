@@ -20,7 +20,8 @@ use Rattle.table.proofs.tell.Statement.{statement}
 use Rattle.table.proofs.tell.Tie as tie
 
 abbrev invariant-loop : tie.invariant-loop-session
-invariant-loop table₀ out₀ at kind notice at₀ from₀ revision₀ flag₀ place₀ taken₀ bit₀ session₀ table out at' from revision flag place taken bit
+invariant-loop table₀ out₀ at kind notice at₀ from₀ revision₀ flag₀ place₀ taken₀ bit₀ session₀ table out at' from revision flag place taken
+    bit
     session =
     Turns (copy_most (kind_at kind)) (event (event_in kind notice)) table₀ out₀ at table out at' session
     × Summing kind table₀ table session bit taken
@@ -29,7 +30,8 @@ invariant-loop table₀ out₀ at kind notice at₀ from₀ revision₀ flag₀ 
     × Copying kind table₀ table place session
 
 abbrev decreases-loop : tie.decreases-loop-session
-decreases-loop table₀ out₀ at kind notice at₀ from₀ revision₀ flag₀ place₀ taken₀ bit₀ session₀ table out at' from revision flag place taken bit
+decreases-loop table₀ out₀ at kind notice at₀ from₀ revision₀ flag₀ place₀ taken₀ bit₀ session₀ table out at' from revision flag place taken
+    bit
     session =
     session_count - session
 
