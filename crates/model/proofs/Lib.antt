@@ -23,3 +23,4 @@ pub mod Sent
 pub mod Wire
 pub mod EntryLaws
 pub mod KindLaws
+pub mod Named

@@ -5,6 +5,7 @@ pub mod Records
 pub mod Layouts
 pub mod Runs
 pub mod Kinds
+pub mod Named
 pub mod Events
 pub mod Memory
 pub mod Sharing
