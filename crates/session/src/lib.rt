@@ -14,9 +14,7 @@ ghost use Rattle.session.specs.Control.{
   fresh as fresh_session,
   cleared as cleared_session,
   beat_at,
-  clock_after,
   Advances,
-  due_by,
   step_at,
   still as still_one,
   next_goes_out,
@@ -198,33 +196,17 @@ pub enum Due {
     GivenUp,
 }
 
-// Where a beat leaves the clock. The notice after one that is given up begins with a new clock.
-fn ticks_after(b: Beat) -> u64
-    ensures { result ≡ (clock_after b).ticks }
-{
-    match b {
-        Beat::Runs(clock) | Beat::Copy(clock) => clock,
-        Beat::GivenUp => 0,
-    }
-}
-
-fn due_after(b: Beat) -> Option<Due>
-    ensures { result ≡ due_by b }
-{
-    match b {
-        Beat::Runs(_) => None,
-        Beat::Copy(_) => Some(Due::Copy),
-        Beat::GivenUp => Some(Due::GivenUp),
-    }
-}
-
-// The same as `beat_of`, in place: the clock is lent.
+// The same as `beat_of`, in place: the clock is lent. The notice after one that is given up begins with a new clock.
 pub fn advance(clock: &mut Clock) -> Option<Due>
     ensures { Advances clock.old result clock.new }
 {
-    let beat = beat_of(clock.ticks);
-    clock.ticks = ticks_after(beat);
-    due_after(beat)
+    let (ticks, due) = match beat_of(clock.ticks) {
+        Beat::Runs(ticks) => (ticks, None),
+        Beat::Copy(ticks) => (ticks, Some(Due::Copy)),
+        Beat::GivenUp => (0, Some(Due::GivenUp)),
+    };
+    clock.ticks = ticks;
+    due
 }
 
 // ---- a tick and an acknowledge, to a subscription
@@ -295,8 +277,8 @@ pub fn ticked(x: Subscription) -> Step
     ensures { result ≡ ticked_to x }
 {
     match x.form {
-        Form::Not | Form::Plain => still(x),
-        Form::Acknowledged => { if x.held == 0 { still(x) } else { beaten(x) } }
+        Form::Acknowledged if x.held > 0 => beaten(x),
+        Form::Not | Form::Plain | Form::Acknowledged => still(x),
     }
 }
 
