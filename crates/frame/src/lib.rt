@@ -9,7 +9,8 @@ ghost use Rattle.model.specs.Records.{record_head, payload_length, settings_of, 
 ghost use Rattle.model.specs.Records.{limit_of, tightening_items, tightening_length, result_items, alarm_items, alarm_length};
 ghost use Rattle.model.specs.Layouts.{limit_characters, controller_rows, identifier_rows, layout_0065, torque_rows, angle_rows};
 ghost use Rattle.model.specs.Layouts.{result_rows, alarm_rows};
-ghost use Rattle.model.specs.Kinds.{kinds, kind_at, copy_most, reply_most};
+ghost use Rattle.model.specs.Kinds.{kind_at, copy_most, reply_most};
+ghost use Rattle.model.specs.Named.{place_of};
 ghost use Rattle.model.specs.Events.{result_as};
 ghost use Rattle.model.specs.Frames.{frame_0002, frame_0004, frame_0005, frame_0065, event_frame, frame_record, close_record};
 ghost use Rattle.text.specs.Put.{Written, WrittenUpTo};
@@ -72,7 +73,7 @@ const REVISION_AT: usize = NUMBER_AT + NUMBER_DIGITS;
 
 const FLAG_AT: usize = REVISION_AT + REVISION_DIGITS;
 
-use model::IDENTIFIER_LENGTH;
+use model::{IDENTIFIER_LENGTH, Kind};
 
 // ---- the header of a received run
 
@@ -198,7 +199,7 @@ pub fn read_header<'a>(run: &'a [u8], count: usize) -> RunRead<'a>
 // How a session is subscribed to a kind of notice, as far as a copy shows it.
 #[derive(Clone, Copy)]
 pub struct Asked {
-    pub kind: usize,
+    pub kind: Kind,
     pub revision: u64,
     pub no_acknowledge: bool,
 }
@@ -581,20 +582,16 @@ fn put_notice(out: &mut [u8], at: usize, asked: Asked, settings: &[u8], told: &[
     ensures { DataPut (Notice asked) (payloads settings.now told.now) out.old at result
         out.new }
 {
-    if asked.kind == model::IDENTIFIERS {
-        if asked.revision < 2 {
-            return text::copy_few(told, out, at);
+    match asked.kind {
+        Kind::Identifiers if asked.revision < 2 => text::copy_few(told, out, at),
+        Kind::Identifiers => put_parts(out, at, told),
+        Kind::Tightenings if asked.revision < 2 => put_result(out, at, settings, told),
+        Kind::Tightenings => {
+            let at = put_later(out, at, settings, told);
+            put_added(out, at, asked.revision)
         }
-        return put_parts(out, at, told);
+        Kind::Alarms => put_alarm(out, at, told),
     }
-    if asked.kind == model::ALARMS {
-        return put_alarm(out, at, told);
-    }
-    if asked.revision < 2 {
-        return put_result(out, at, settings, told);
-    }
-    let at = put_later(out, at, settings, told);
-    put_added(out, at, asked.revision)
 }
 
 // Any frame.
@@ -646,14 +643,13 @@ fn reply_heading(size: usize, mid: u64) -> Heading
 }
 
 // The message number of a notice.
-fn notice_mid(kind: usize) -> u64
-    requires { kind < length kinds }
-    ensures { result ≡ (kind_at kind).notice }
+fn notice_mid(kind: Kind) -> u64
+    ensures { result ≡ (kind_at (place_of kind)).notice }
 {
     match kind {
-        model::IDENTIFIERS => 52,
-        model::TIGHTENINGS => 61,
-        _ => 71,
+        Kind::Identifiers => 52,
+        Kind::Tightenings => 61,
+        Kind::Alarms => 71,
     }
 }
 
@@ -807,9 +803,9 @@ pub fn put_9999(out: &mut [u8], to: To, run: &[u8]) -> usize
 // A copy of the notice in a place, to a session that subscribed so.
 pub fn put_copy(out: &mut [u8], to: To, asked: Asked, settings: &[u8], place: &[u8]) -> usize
     requires { Lent out.old to asked settings.now place.now }
-    ensures { WrittenUpTo out.old to.at (copy_most (kind_at asked.kind)) (frame_record to.session
+    ensures { WrittenUpTo out.old to.at (copy_most (kind_at (place_of asked.kind))) (frame_record to.session
         (event_frame (settings_of settings.now) asked.revision asked.no_acknowledge
-        (event_in asked.kind place.now))) result out.new }
+        (event_in (place_of asked.kind) place.now))) result out.new }
 {
     put_frame(out, to, Content::Notice(asked), settings, place)
 }
