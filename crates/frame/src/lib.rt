@@ -80,16 +80,13 @@ use model::{IDENTIFIER_LENGTH, Kind};
 // A message has no more bytes.
 const MESSAGE_LONGEST: usize = 9999;
 
-// What a run is: no message, or a message with what its header says.
-#[derive(Drop)]
-pub enum Header {
-    Dropped,
-    Message {
-        size: usize,
-        mid: u64,
-        revision: u64,
-        no_acknowledge: bool,
-    },
+// What the header of a message says.
+#[derive(Clone, Copy)]
+pub struct Header {
+    pub size: usize,
+    pub mid: u64,
+    pub revision: u64,
+    pub no_acknowledge: bool,
 }
 
 // Whether byte 12 is one that a header may have.
@@ -156,19 +153,20 @@ fn is_message(run: &[u8], count: usize) -> bool
     is_flag(run[FLAG_AT])
 }
 
-// What a run of count bytes, whose first are these, is.
-fn header_in(run: &[u8], count: usize) -> Header
+// The header of a run of count bytes, whose first are these, if it is a message.
+#[tactic(auto, unfolding(crate::specs::Header::header_of, model::specs::Runs::read_run))]
+fn header_in(run: &[u8], count: usize) -> Option<Header>
     ensures { result ≡ header_of run.now «count» }
 {
     if !is_message(run, count) {
-        return Header::Dropped;
+        return None;
     }
-    Header::Message {
+    Some(Header {
         size: count,
         mid: text::decimal(&run[NUMBER_AT..REVISION_AT]),
         revision: revision(&run[REVISION_AT..FLAG_AT]),
         no_acknowledge: run[FLAG_AT] == b'1',
-    }
+    })
 }
 
 // The data field: what stands behind the header, as part of the caller's bytes.
@@ -178,10 +176,10 @@ pub fn data_field(run: &[u8]) -> &[u8]
     text::rest(run, HEADER_LENGTH)
 }
 
-// A run that was read: what it is, and its data field.
+// A run that was read: its header, if it is a message, and its data field.
 #[derive(Drop)]
 pub struct RunRead<'a> {
-    pub header: Header,
+    pub header: Option<Header>,
     pub field: &'a [u8],
 }
 
@@ -189,9 +187,10 @@ pub struct RunRead<'a> {
 pub fn read_header<'a>(run: &'a [u8], count: usize) -> RunRead<'a>
     ensures { RunReads run.now «count» result.header result.field.now }
 {
-    let header = header_in(run, count);
-    let field = data_field(run);
-    RunRead { header, field }
+    RunRead {
+        header: header_in(run, count),
+        field: data_field(run),
+    }
 }
 
 // ---- what frames say
