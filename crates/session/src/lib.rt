@@ -594,33 +594,34 @@ fn decide_opened(x: Session, mid: u64, v: Verdict) -> Decision
     }
 }
 
-// What a run does whose header is h.
+// What a run does that has this header, if it is a message.
 #[tactic(auto, unfolding(crate::specs::Decisions::decision))]
-fn decide_read(x: Session, standing: Standing, h: Header, data_field: &[u8]) -> Decision
-    ensures { result ≡ decision x standing h data_field.now }
+fn decide_read(
+    x: Session,
+    standing: Standing,
+    header: Option<Header>,
+    data_field: &[u8],
+) -> Decision
+    ensures { result ≡ decision x standing header data_field.now }
 {
-    let Header::Message {
-        size,
-        mid,
-        revision,
-        no_acknowledge,
-    } = h
-    else {
+    let Some(h) = header else {
         return replied(Reply::Nothing, x);
     };
     let number = message::number_meant(standing, data_field);
     let v = message::judge(
         standing,
-        Outline { mid, size },
-        revision,
+        Outline {
+            mid: h.mid,
+            size: h.size,
+        },
+        h.revision,
         number,
         data_field,
     );
-    let phase = x.phase;
-    match phase {
+    match x.phase {
         Phase::Closed => replied(Reply::Nothing, x),
-        Phase::Opened => decide_opened(x, mid, v),
-        Phase::Started => decide_started(mid, revision, no_acknowledge, number, v),
+        Phase::Opened => decide_opened(x, h.mid, v),
+        Phase::Started => decide_started(h.mid, h.revision, h.no_acknowledge, number, v),
     }
 }
 
