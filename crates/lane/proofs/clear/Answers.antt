@@ -4,4 +4,4 @@ use Rattle.lane.proofs.Controls.{cleared}
 use Rattle.lane.proofs.clear.Goals as goal
 
 pub returns : goal.returns
-returns c = rw c.fill.ensures.1.output (cleared (place_of c.args.kind) c.args.lane.now c.requires)
+returns c = cleared (place_of c.args.kind) c.args.lane.now _ c.requires (c.fill.ensures.after (λ y e. e))

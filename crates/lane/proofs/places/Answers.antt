@@ -24,7 +24,7 @@ pub returns : goal.returns
 unfolding places_in control_of
 returns c =
     let l = c.args.lane.now in
-    let e = ap (λ (n : ℕ). take n (drop control_size l)) (add-sub_cancel_left control_size c.wide.result ∙ c.wide.ensures) in (
+    let e = ap (λ (n : ℕ). take n (drop control_size l)) (add-sub_cancel_left control_size c.from.result ∙ c.from.ensures) in (
       e,
       ap (all is_place) e ∙ places_there l c.requires.size (storable tightenings l c.requires).held (held_formed tightenings l c.requires),
     )
