@@ -1,6 +1,7 @@
 -- A lane's control in its bytes.
 use mathlib.Core.Path.{◌≡◌, refl, sym, ap, ◌∙◌}
-use Prim.Native.Nat.{ℕ, zero, suc, ◌≤◌, ◌<◌, ◌^◌, zero-le}
+use Prim.Native.Nat.{ℕ, zero, suc, ◌+◌, ◌-◌, ◌≤◌, ◌<◌, ◌^◌, zero-le}
+use native.Mathlib.Nat.{add-sub_cancel_left}
 use native.Mathlib.Omega.{arith}
 use mathlib.Core.Bool.{true, false, ◌&&◌, not, and-eq-true_iff}
 use mathlib.Core.List.{List, [], ◌∷◌, ◌++◌}
@@ -9,23 +10,24 @@ use lib.ListN.{length, get_or, take, drop, replicate, length-drop}
 use lib.Seq.{sets, length-sets, get_or-take, drop-drop, length-take-le}
 use borrow.Author.Tests.{le-leb, lt-ltb, leb-true, ltb-true}
 use Rattle.model.specs.Limits.{given_up_at}
-use Rattle.model.specs.Bytes.{little, in_bytes}
+use Rattle.model.specs.Bytes.{little, in_bytes, all}
 use Rattle.model.specs.Events.{Notice}
-use Rattle.model.specs.Kinds.{room_of}
+use Rattle.model.specs.Kinds.{room_of, tightenings}
 use Rattle.model.specs.Notices.{is_subscribed, beats, act}
 use Rattle.text.specs.Cells.{cells}
 use Rattle.text.proofs.Numbers.{in_bytes_length}
 use Rattle.text.proofs.Lists.{drop_sets_after}
 use Rattle.text.proofs.Cells.{stored_same, stored_before}
+use Rattle.places.specs.Places.{is_place}
 use Rattle.session.specs.Meaning.{subscription_as}
 use Rattle.session.specs.declared.Form.{Form}
 use Rattle.session.specs.declared.Form.TheVariants.{Not, Plain, Acknowledged}
 use Rattle.session.specs.declared.Subscription.{Subscription}
 use Rattle.lane.specs.Kinds.{most, control_size, lane_size}
-use Rattle.lane.specs.Lane.{form_of, form_greatest, control_of, notices_in, slots_formed, lane_by, lane_formed, Lane}
+use Rattle.lane.specs.Lane.{form_of, form_greatest, control_of, notices_in, slots_formed, lane_by, places_in, lane_formed, Lane}
 use Rattle.lane.specs.Lane.{Cleared}
 use Rattle.lane.specs.Lane.{Storable, Stored, any, Deals}
-use Rattle.lane.proofs.Slots.{same_formed, none_formed}
+use Rattle.lane.proofs.Slots.{same_formed, none_formed, places_there}
 
 pub form_else : (b : ℕ) → (b ≡ 0 → ⊥) → (b ≡ 1 → ⊥) → Acknowledged ≡ form_of b
 form_else zero h g = absurd (h refl)
@@ -118,6 +120,24 @@ unfolding control_of lane_formed
 held_formed kind l h =
     ((and-eq-true_iff (leb (get_or l 0 0) form_greatest && ltb (get_or l 1 0) given_up_at && leb (get_or l 2 0) (most kind))
     (slots_formed kind (get_or l 2 0) l)).0 h.formed).1
+
+-- the places that a lane of tightenings holds
+module _ (l : List ℕ) (n : ℕ) (lane : Lane tightenings l) (e : n ≡ get_or l 2 0) where
+  pub places_fit : control_size + n ≤ length l
+  unfolding control_of
+  places_fit =
+      let few = (storable tightenings l lane).held in
+      let size = lane.size in
+      omega arith
+
+  pub places_held : take (control_size + n - control_size) (drop control_size l) ≡ places_in l
+  unfolding control_of places_in
+  places_held = ap (λ (m : ℕ). take m (drop control_size l)) (add-sub_cancel_left control_size n ∙ e)
+
+  pub held_are_places : all is_place (take (control_size + n - control_size) (drop control_size l)) ≡ true
+  held_are_places =
+      ap (all is_place) places_held
+      ∙ places_there l lane.size (storable tightenings l lane).held (held_formed tightenings l lane)
 
 -- ==== what the form alone tells
 

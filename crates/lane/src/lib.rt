@@ -198,7 +198,10 @@ fn shift_down(lane: &mut [u8], kind: Kind, held: u64)
 {
     let size = slot_size(kind);
     let others = (held - 1) as usize * size;
-    lane.copy_within(CONTROL_SIZE + size..CONTROL_SIZE + size + others, CONTROL_SIZE);
+    lane.copy_within(
+        CONTROL_SIZE + size..CONTROL_SIZE + size + others,
+        CONTROL_SIZE,
+    );
 }
 
 // Any deed but an event: whether a copy of what is then the open notice is to be sent.
@@ -334,6 +337,7 @@ pub fn take(lane: &mut [u8], kind: Kind, taken: Taken, slot: &[u8])
 }
 
 // The places of the notices that are held, where the slots are places.
+#[tactic(auto, using(crate::proofs::Controls::places_fit, crate::proofs::Controls::places_held, crate::proofs::Controls::held_are_places))]
 pub fn places(lane: &[u8]) -> &[u8]
     requires { Lane tightenings lane.now }
     ensures { (result.now ≡ places_in lane.now) × (all is_place result.now ≡ true) }

@@ -12,8 +12,8 @@ pub store-requires : goal.store-requires
 store-requires c =
     let s : Shifts (place_of c.args.kind) c.load-x.result.held c.dealt-step.result.shift c.args.lane.now c.if-step.lane =
     elim c.if-step.branch [
-      then-step w ↦ rw (w.if-step.true, w.lane-is) w.shift_down.ensures
-    | else-step w ↦ rw (w.if-step.false, w.lane-is) (not_shifted _ _ _ c.requires.size)
+      | then-step w ↦ rw (w.if-step.true, w.lane-is) w.shift_down.ensures
+      | else-step w ↦ rw (w.if-step.false, w.lane-is) (not_shifted _ _ _ c.requires.size)
     ] in
     storing _ _ _ _ _ c.requires c.load-x.ensures c.dealt-step.ensures s
 
@@ -21,7 +21,7 @@ pub returns : goal.returns
 returns c =
     let s : Shifts (place_of c.args.kind) c.load-x.result.held c.dealt-step.result.shift c.args.lane.now c.if-step.lane =
     elim c.if-step.branch [
-      then-step w ↦ rw (w.if-step.true, w.lane-is) w.shift_down.ensures
-    | else-step w ↦ rw (w.if-step.false, w.lane-is) (not_shifted _ _ _ c.requires.size)
+      | then-step w ↦ rw (w.if-step.true, w.lane-is) w.shift_down.ensures
+      | else-step w ↦ rw (w.if-step.false, w.lane-is) (not_shifted _ _ _ c.requires.size)
     ] in
     deals _ _ _ _ _ c.requires c.load-x.ensures c.dealt-step.ensures s c.store.ensures
