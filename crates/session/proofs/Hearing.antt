@@ -3,7 +3,7 @@ use mathlib.Core.Path.{◌≡◌, refl, sym, ◌∙◌, ap}
 use mathlib.Core.Bool.{Bool, true, false, cond}
 use mathlib.Core.List.{List, [], ◌∷◌, ◌++◌, map, append-nil}
 use mathlib.Core.Option.{Option as Maybe, none, some}
-use Rattle.std.specs.Prelude.{Option, Some, None}
+use Rattle.std.specs.Prelude.{Some, None}
 use Prim.Native.Nat.{ℕ, suc}
 use lib.Dec.{ltb, eqb}
 use lib.ListN.{length, take, drop}
@@ -29,36 +29,19 @@ use Rattle.model.specs.Hearing.{started_standing, opened_standing, message_error
 use Rattle.model.specs.Hearing.{identifier_judged}
 use Rattle.model.specs.Local.{end_run, end_run_opened, receives, step, identifier_run, announces}
 use Rattle.model.specs.Sharing.{Shared}
-use Rattle.message.specs.Meaning.{meant, Remembers, standing_of, standing_with, effect_listed, error_number}
-use Rattle.message.proofs.Order.{by_number}
+use Rattle.message.specs.Meaning.{meant, Remembers, standing_of, effect_listed, error_number}
 use Rattle.message.specs.declared.Common.{Common}
 use Rattle.message.specs.declared.Standing.{Standing}
 use Rattle.frame.specs.Header.{shown, header_of}
-use Rattle.frame.specs.declared.Header.{Header}
 use Rattle.session.specs.Meaning.{session_as}
 use Rattle.session.specs.Control.{session}
-use Rattle.session.specs.Decisions.{begun, replied, start, no_error, accepted, decided_started, decided, decision}
+use Rattle.session.specs.Decisions.{begun, replied, start, no_error, accepted, decided_started, decision}
 use Rattle.session.specs.Effects.{standing_in, decision_on, carried_out, announced}
 use Rattle.session.specs.declared.Phase.{Phase}
 use Rattle.session.specs.declared.Phase.TheVariants.{Closed, Opened, Started}
 use Rattle.session.specs.declared.Session.{Session}
 use Rattle.session.specs.declared.Reply.TheVariants.{Error}
 use Rattle.session.specs.declared.Decision.{Decision}
-
--- ==== a decision from its parts
-
-module _ (x : Session) (standing : Standing) (bs : List ℕ) where
-  pub in_phase : {header : Option Header} {h : Header} {number : ℕ} {error : Maybe model.Error} {p : Phase} {d : Decision}
-      → header ≡ Some h
-      → number ≡ meant standing.common (number_asked bs)
-      → error ≡ error_of (standing_with standing number) h.mid h.size h.revision bs
-      → x.phase ≡ p
-      → d ≡ decided p x h.mid h.revision h.no_acknowledge number error
-      → d ≡ decision x standing header bs
-  unfolding decision
-  in_phase {h = h} eh en ee ep ed =
-      let right = rw en at ee ∙ by_number standing bs h.mid h.size h.revision in
-      ed ∙ rw (← ep, right, en, eh)
 
 -- ==== where nothing is done to any kind, the subscriptions are as they were, and nothing is sent
 

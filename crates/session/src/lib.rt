@@ -504,38 +504,26 @@ fn decide_opened(x: Session, mid: u64, found: Result<(), Error>) -> Decision
     }
 }
 
-// What a run does that has this header, if it is a message.
-#[tactic(auto, unfolding(crate::specs::Decisions::decision))]
-fn decide_read(
-    x: Session,
-    standing: Standing,
-    header: Option<Header>,
-    data_field: &[u8],
-) -> Decision
-    ensures { result ≡ decision x standing header data_field.now }
+// What a run of count bytes does, whose first are these.
+#[tactic(auto, using(message::proofs::Order::by_number), unfolding(crate::specs::Decisions::decision))]
+pub fn decide(x: Session, standing: Standing, run: &[u8], count: usize) -> Decision
+    ensures { result ≡ decision x standing (header_of run.now «count») (drop header_length run.now) }
 {
-    let Some(h) = header else {
+    let read = frame::read_header(run, count);
+    let Some(h) = read.header else {
         return replied(None, x);
     };
-    let number = message::number_meant(standing, data_field);
+    let number = message::number_meant(standing, read.field);
     let outline = Outline {
         mid: h.mid,
         size: h.size,
     };
-    let found = message::judge(standing, outline, h.revision, number, data_field);
+    let found = message::judge(standing, outline, h.revision, number, read.field);
     match x.phase {
         Phase::Closed => replied(None, x),
         Phase::Opened => decide_opened(x, h.mid, found),
         Phase::Started => decide_started(h, number, found),
     }
-}
-
-// What a run of count bytes does, whose first are these.
-pub fn decide(x: Session, standing: Standing, run: &[u8], count: usize) -> Decision
-    ensures { result ≡ decision x standing (header_of run.now «count») (drop header_length run.now) }
-{
-    let read = frame::read_header(run, count);
-    decide_read(x, standing, read.header, read.field)
 }
 
 // ---- the reply, as an output record
