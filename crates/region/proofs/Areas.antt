@@ -15,6 +15,7 @@ use Rattle.model.specs.Runs.{Run}
 use Rattle.model.specs.Kinds.{kinds}
 use Rattle.model.specs.Notices.{Subscription, unsubscribed}
 use Rattle.model.specs.Session.{no_subscriptions}
+use Rattle.model.proofs.Named.{place_within}
 use Rattle.text.specs.Areas.{Apart}
 use Rattle.text.proofs.Cells.{area_same, area_before, area_after}
 use Rattle.text.proofs.Areas.{each_below, apart, areas_at, areas_put, areas_same, length_areas, all_set, passes}
@@ -275,3 +276,6 @@ module _ (read : Reading) where
 pub still_good : {r r' : List ℕ} {x : Session} {n : Run} {subs : Reading → List Subscription}
     → ((read : Reading) → Changes read r x n (subs read) r') → Good r'
 still_good c = (c notice_in).becomes.good
+
+-- a lane is lent
+pub ruleset lent = (place_within, lane_lent)

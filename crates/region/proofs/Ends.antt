@@ -53,7 +53,8 @@ use Rattle.lane.specs.Lane.{Reading}
 use Rattle.lane.proofs.Sayings.{quiet_of, after}
 use Rattle.region.specs.Region.{region_size, head_area, run_area, subscriptions_in, subscription_in, session_of, meaning, Good}
 use Rattle.region.specs.Region.{Becomes, Changes, LanesCleared}
-use Rattle.region.specs.Said.{DealtTo, Ready, ending, stood, Shows, StandsSo, Ruled, due_copy, copy_due, IsReady, CarriesOut, ended_by, ended_in}
+use Rattle.region.specs.Said.{DealtTo, Ready, ending, stood, Shows, StandsSo, Ruled, due_copy, copy_due, IsReady, CarriesOut}
+use Rattle.region.specs.Said.{ended_by, ended_in}
 use Rattle.region.specs.Said.{RunEnds}
 use Rattle.region.specs.declared.Ended.{Ended}
 use Rattle.region.proofs.Rulings.{ruled_as}
@@ -182,8 +183,9 @@ module _ (read : Reading) where
           ready = ready_due kind sends r₂
               (λ b. rw is ((after (room_of (place_of kind)) (deed_of deed) x quiet).there (sym e.sends ∙ b)));
           carries = λ st.
-              rw (q, ← c.becomes.subscriptions, row_one read few e st, said_one read few e st, now, ← (copy_of st kind sends r₂), is, e.sends)
-              (rw (sent (room_of (place_of kind)) (deed_of deed) x quiet st (place_of kind)));
+              rw (q, ← c.becomes.subscriptions, row_one read few e st, said_one read few e st, now)
+              (rw (← (copy_of st kind sends r₂), is, e.sends)
+              (rw (sent (room_of (place_of kind)) (deed_of deed) x quiet st (place_of kind))));
         }
 
   -- step by step: the run is over, what it held is gone or not, and it is then as the decision says

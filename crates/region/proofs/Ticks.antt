@@ -20,6 +20,7 @@ use Rattle.model.specs.Session.{close}
 use Rattle.model.specs.Session as model
 use Rattle.model.specs.Local.{step, tick, event, takes}
 use Rattle.model.specs.Sharing.{Shared, shared_begun}
+use Rattle.model.proofs.Named.{place_within}
 use Rattle.text.proofs.Areas.{each_below}
 use Rattle.frame.specs.Places.{event_in, notice_in}
 use Rattle.session.specs.Meaning.{session_as, is_taken}
@@ -43,7 +44,7 @@ use Rattle.region.specs.Region.{head_area, run_area, lane_at, lane_in, subscript
 use Rattle.region.specs.Region.{places_held, Good, Changes}
 use Rattle.region.specs.Said.{DealtTo, DealtToAll, TickStays, Ticks}
 use Rattle.region.specs.Said.{Answers, Taking, Holds, Takes}
-use Rattle.region.proofs.Areas.{lane_good, lane_part, lane_now, head_kept, length_subscriptions}
+use Rattle.region.proofs.Areas.{lane_good, lane_lent, lane_part, lane_now, head_kept, length_subscriptions}
 use Rattle.region.proofs.Areas.{subscription_at, means, unchanged}
 use Rattle.region.proofs.Walks.{dealt_to}
 use Rattle.region.proofs.Says.{sent_itself, row_acting, said_due, all_ready, now_is, row_one, said_one, none_due}
@@ -218,3 +219,8 @@ module _ {kind : ℕ} {t : Taken} {slot r : List ℕ} {a z : ℕ} {ys : List ℕ
         let was = subst (λ (n : ℕ). mid_of a (a + z - a) r ≡ lane_in n r) e (lane_part r few ea ez) in
         rw (head_kept r few ea ez k.good.size lane, started, now, ← was) (w.adds e k.holds);
   }
+
+-- what becomes of an event, and that it is held so
+pub ruleset answers = (place_within, lane_good, answers_closed, answers_opened, answers_started)
+
+pub ruleset taken_so = (place_within, lane_lent, lane_part, takes_held)

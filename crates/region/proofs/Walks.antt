@@ -18,6 +18,7 @@ use Rattle.model.specs.declared.TheConstants.{KINDS}
 use Rattle.model.specs.Notices.{Subscription, unsubscribed, is_subscribed, Deed, act}
 use Rattle.model.specs.Session.{no_subscriptions}
 use Rattle.model.specs.Row.{row}
+use Rattle.model.proofs.Named.{place_within}
 use Rattle.text.specs.Areas.{areas}
 use Rattle.text.proofs.Lists.{drop_next, replicate_next}
 use Rattle.text.proofs.Areas.{length_areas}
@@ -33,7 +34,7 @@ use Rattle.lane.specs.Lane as lane
 use Rattle.region.specs.Region.{region_size, head_area, run_area, lane_at, lanes, lane_in, subscriptions_in, subscription_in}
 use Rattle.region.specs.Region.{Good, Changes, LanesCleared}
 use Rattle.region.specs.Said.{acting, dues, DealtTo, DealtToAll, stood}
-use Rattle.region.proofs.Areas.{length_subscriptions, subscription_at, there, lane_part, lane_replaced, lane_size_kept}
+use Rattle.region.proofs.Areas.{length_subscriptions, subscription_at, there, lane_length, lane_part, lane_replaced, lane_size_kept}
 use Rattle.region.proofs.Areas.{head_kept, run_kept, lanes_put, unchanged, changes_then}
 
 -- ==== a loop that fills a list: those before k stand there, and what is to come stands behind them
@@ -180,6 +181,8 @@ module _ {r₀ r : List ℕ} {k : ℕ} (w : Clearing r₀ r k) where
         none = λ read.
             let n = length_subscriptions read r in filled (subscriptions_in read r) k (omega arith) (rw none_left) ∙ w.none read;
       }
+
+pub ruleset clearing = (place_within, lane_part, lane_length, clearing_none, all_cleared)
 
 module _ (read : Reading) where
   -- ==== what they are subscribed to

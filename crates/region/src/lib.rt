@@ -2,12 +2,11 @@
 // done here changes the region and nothing else, and tells by value what is then to be said.
 #![tactic(auto)]
 
-ghost use Rattle.std.specs.Prelude.{◌≡◌, Bool, false, cond, map, ◌≤◌, ◌<◌, length};
-ghost use Rattle.model.specs.Limits.{run_kept, identifier_length, idle_limit};
-ghost use Rattle.model.specs.Bytes.{all, padded};
+ghost use Rattle.std.specs.Prelude.{◌≡◌, cond, map, ◌≤◌, ◌<◌, length};
 ghost use Rattle.std.specs.List.{list_all};
+ghost use Rattle.model.specs.Limits.{run_kept, identifier_length, idle_limit};
+ghost use Rattle.model.specs.Bytes.{padded};
 ghost use Rattle.model.specs.Runs.{empty_run, longer};
-ghost use Rattle.model.specs.Kinds.{kinds};
 ghost use Rattle.model.specs.Named.{place_of};
 ghost use Rattle.model.specs.Notices.{is_subscribed, beats};
 ghost use Rattle.model.specs.Session.{closed, fresh, is_closed as is_closed_session, no_subscriptions};
@@ -20,7 +19,7 @@ ghost use Rattle.places.specs.Places.{place_count};
 ghost use Rattle.places.specs.Free.{marked};
 ghost use Rattle.lane.specs.Kinds.{lane_size};
 ghost use Rattle.lane.specs.Lane.{Reading, lane_formed};
-ghost use Rattle.region.specs.Region.{region_size, head_area, run_area, lane_at as lane_begins, lanes, lane_in, subscriptions_in};
+ghost use Rattle.region.specs.Region.{region_size, head_area, run_area, lane_at as lane_begins, lane_in, subscriptions_in};
 ghost use Rattle.region.specs.Region.{session_of, region_formed, Good, run_bytes as bytes_of_run, Becomes, Changes, LanesCleared};
 ghost use Rattle.region.specs.Region.{places_held};
 ghost use Rattle.region.specs.Said.{DealtTo, DealtToAll, TickStays, Ticks, Answers, Taking, Holds};
@@ -140,7 +139,7 @@ fn clear_run(region: &mut [u8])
 }
 
 // A deed to the notices of one kind: whether a copy of the one that is then open is due.
-#[tactic(auto, using(model::proofs::Named::place_within, crate::proofs::Areas::lane_lent))]
+#[tactic(auto, using(crate::proofs::Areas::lent))]
 fn deal(region: &mut [u8], kind: Kind, deed: Deed) -> bool
     requires { Good region.old }
     ensures { (read : Reading) → DealtTo read (place_of kind) (deed_of deed) region.old result region.new }
@@ -165,7 +164,7 @@ fn beat(region: &mut [u8]) -> [bool; KIND_COUNT]
 }
 
 // Nothing is held of any kind, whatever the bytes of the lanes were.
-#[tactic(auto, using(crate::proofs::Areas::lane_part, crate::proofs::Areas::lane_length, crate::proofs::Walks::in_order, crate::proofs::Walks::clearing_none, crate::proofs::Walks::clearing_next, crate::proofs::Walks::all_cleared, model::proofs::Named::place_within))]
+#[tactic(auto, using(crate::proofs::Walks::clearing))]
 fn clear_lanes(region: &mut [u8])
     requires { length region.old ≡ region_size }
     ensures { LanesCleared region.old region.new }
@@ -225,13 +224,11 @@ pub fn tick(region: &mut [u8]) -> Option<[bool; KIND_COUNT]>
     requires { Good region.old }
     ensures { (read : Reading) → Ticks read region.old result region.new }
 {
-    match session::idled(load(region)) {
-        Some(x) => Some(tick_stays(region, x)),
-        None => {
-            store(region, Session::cleared());
-            None
-        }
-    }
+    let Some(x) = session::idled(load(region)) else {
+        store(region, Session::cleared());
+        return None;
+    };
+    Some(tick_stays(region, x))
 }
 
 // ---- an event
@@ -247,7 +244,7 @@ fn not_taken() -> Taken
 }
 
 // What becomes of an event of that kind.
-#[tactic(auto, using(model::proofs::Named::place_within, crate::proofs::Areas::lane_good, crate::proofs::Ticks::answers_closed, crate::proofs::Ticks::answers_opened, crate::proofs::Ticks::answers_started))]
+#[tactic(auto, using(crate::proofs::Ticks::answers))]
 pub fn taking(region: &[u8], kind: Kind) -> Taken
     requires { Good region.now }
     ensures { Answers (place_of kind) region.now result }
@@ -259,7 +256,7 @@ pub fn taking(region: &[u8], kind: Kind) -> Taken
 }
 
 // Its notice is held so: `slot` is what is kept of it, which means that notice to whoever reads it.
-#[tactic(auto, using(model::proofs::Named::place_within, crate::proofs::Areas::lane_lent, crate::proofs::Areas::lane_part, crate::proofs::Ticks::takes_held))]
+#[tactic(auto, using(crate::proofs::Ticks::taken_so))]
 pub fn take(region: &mut [u8], kind: Kind, taken: Taken, slot: &[u8])
     requires { Taking (place_of kind) taken slot.now region.old }
     ensures { Holds (place_of kind) taken.take slot.now region.old region.new }
@@ -270,7 +267,7 @@ pub fn take(region: &mut [u8], kind: Kind, taken: Taken, slot: &[u8])
 }
 
 // The places that it has open or waiting are marked as used.
-#[tactic(auto, using(model::proofs::Named::place_within, crate::proofs::Places::tightenings_good), unfolding(crate::specs::Region::places_held, places::specs::Free::marked))]
+#[tactic(auto, using(crate::proofs::Places::tightenings_good), unfolding(crate::specs::Region::places_held, places::specs::Free::marked))]
 pub fn mark(region: &[u8], used: &mut [u8])
     requires { Good region.now × (length used.old ≡ place_count) }
     ensures { used.new ≡ marked used.old (places_held region.now) }
@@ -372,9 +369,9 @@ fn carry_out(region: &mut [u8], d: Decision) -> Option<Kind>
     deal(region, kind, deed).then_some(kind)
 }
 
-// What the end of a run leaves to say: the reply, if there is one, whose header, if it is one that was received, stands in the slice that is
-// lent or in the region; the kind of which a copy of the open notice is due, if one is; and the identifier that is made known to all, if one
-// is.
+// What the end of a run leaves to say: the reply, if there is one, whose header, if it is one that was received, stands in the slice that
+// is lent or in the region; the kind of which a copy of the open notice is due, if one is; and the identifier that is made known to all,
+// if one is.
 #[derive(Clone, Copy)]
 pub struct Ended {
     pub whole: bool,
