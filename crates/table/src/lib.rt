@@ -19,18 +19,19 @@ ghost use Rattle.region.specs.Said.{copies_out, due_copy, due_copies, ending, Sh
 ghost use Rattle.shared.specs.Shared.{settings_part};
 ghost use Rattle.table.specs.Table.{shared_area, places_area, region_in, regions, kept_in, reading_in, decode, settings_in};
 ghost use Rattle.table.specs.Table.{table_formed, Table, Openable, Becomes};
-ghost use Rattle.table.specs.Table.{WentUpTo};
+ghost use Rattle.table.specs.Table.{WentUpTo, region_range};
 ghost use Rattle.table.specs.Says.{Lent, Wrote, CopyLent, OpenLent, DueLent, EndLent, subscription_to, subscriptions_to};
 ghost use Rattle.table.specs.Says.{Asking, Opened, asked_in, told_by as told_so};
-ghost use Rattle.table.specs.Passes.{EventTo, Repeats, AskedLent, Copies, EventLent, TellsOne, Tells, Happens, Hears, unended};
-ghost use Rattle.table.specs.Passes.{Roomy, StandLent, Stood, PlacedLent, kept_by, KeepLent, Keeps, Notes};
+ghost use Rattle.table.specs.Passes.{EventTo, AskedLent, Copies, EventLent, TellsOne, Tells, Happens, Hears, unended};
+ghost use Rattle.table.specs.Passes.{Roomy, StandLent, Stood, PlacedLent, KeepLent, Keeps, Notes};
 ghost use Rattle.table.specs.Passes.{Received};
 
 use frame::{Asked, To};
 use message::Common;
 use model::{ALARMS, IDENTIFIER_LENGTH, IDENTIFIERS, KIND_COUNT, SESSION_COUNT, TIGHTENINGS};
 use region::Ended;
-use session::{Form, Reply, Taken};
+use session::{Form, Reply, Take, Taken};
+use std::ops::Range;
 
 // Where the places begin.
 const SHARED: usize = shared::SIZE;
@@ -40,16 +41,24 @@ const REGIONS: usize = shared::SIZE + places::SIZE;
 
 const SIZE: usize = region::SIZE;
 
-// ---- reading
+// Where the region of session s is.
+fn range_of(s: u64) -> Range<usize>
+    requires { s < session_count }
+    ensures { result ≡ region_range s }
+{
+    let at = REGIONS + s as usize * SIZE;
+    at..at + SIZE
+}
 
 // The region of session s, as it stands.
 fn region_of(table: &[u8], s: u64) -> &[u8]
     requires { (table_least ≤ length table.now) × (s < session_count) }
     ensures { result.now ≡ region_in s table.now }
 {
-    let a = REGIONS + s as usize * SIZE;
-    &table[a..a + SIZE]
+    &table[range_of(s)]
 }
+
+// ---- reading
 
 pub fn is_formed(table: &[u8]) -> bool
     requires { table_least ≤ length table.now }
@@ -58,12 +67,10 @@ pub fn is_formed(table: &[u8]) -> bool
     if !shared::is_formed(&table[0..SHARED]) {
         return false;
     }
-    let mut s: u64 = 0;
-    while s < SESSION_COUNT {
+    for s in 0..SESSION_COUNT {
         if !region::is_formed(region_of(table, s)) {
             return false;
         }
-        s += 1;
     }
     true
 }
@@ -120,11 +127,8 @@ pub fn start(table: &mut [u8], payload: &[u8])
     requires { (table_least ≤ length table.old) × (length payload.now ≡ settings_length) }
     ensures { Becomes table.old (begun (settings_of payload.now) 0) table.new }
 {
-    let mut s: u64 = 0;
-    while s < SESSION_COUNT {
-        let a = REGIONS + s as usize * SIZE;
-        region::start(&mut table[a..a + SIZE]);
-        s += 1;
+    for s in 0..SESSION_COUNT {
+        region::start(&mut table[range_of(s)]);
     }
     shared::start(&mut table[0..SHARED], payload);
 }
@@ -136,8 +140,7 @@ pub fn open(table: &mut [u8], s: u64)
     requires { Openable table.old s }
     ensures { Becomes table.old (uncounted (next (decode table.old) (opens s))) table.new }
 {
-    let a = REGIONS + s as usize * SIZE;
-    region::open(&mut table[a..a + SIZE]);
+    region::open(&mut table[range_of(s)]);
 }
 
 // Session s is hung up.
@@ -145,8 +148,7 @@ pub fn hang_up(table: &mut [u8], s: u64)
     requires { Table table.old × (s < session_count) }
     ensures { Becomes table.old (uncounted (next (decode table.old) (hangs_up s))) table.new }
 {
-    let a = REGIONS + s as usize * SIZE;
-    region::hang_up(&mut table[a..a + SIZE]);
+    region::hang_up(&mut table[range_of(s)]);
 }
 
 // ---- saying: the table is lent beside the output
@@ -243,8 +245,7 @@ fn tick_session(table: &mut [u8], out: &mut [u8], to: To) -> usize
     ensures { WentUpTo table.old out.old to.at (copies_most kinds)
         (to_one to.session one_tick ∷ []) result table.new out.new }
 {
-    let a = REGIONS + to.session as usize * SIZE;
-    let ticked = region::tick(&mut table[a..a + SIZE]);
+    let ticked = region::tick(&mut table[range_of(to.session)]);
     if ticked.closes {
         return frame::put_close(out, to);
     }
@@ -259,10 +260,8 @@ pub fn tick(table: &mut [u8], out: &mut [u8], at: usize) -> usize
         out.new }
 {
     let mut at = at;
-    let mut session: u64 = 0;
-    while session < SESSION_COUNT {
+    for session in 0..SESSION_COUNT {
         at = tick_session(table, out, To { session, at });
-        session += 1;
     }
     at
 }
@@ -276,49 +275,34 @@ pub struct Told {
     pub taken: u64,
 }
 
-// The copy that was written last: where its record begins, which ends at the place where the next one goes, and how it was asked for.
-// Where none was written, it is empty.
+// A copy that was written: where its record begins, and how it was asked for.
 #[derive(Clone, Copy)]
 struct Copied {
     from: usize,
-    revision: u64,
-    no_acknowledge: bool,
+    asked: Asked,
 }
 
-// Where the next one goes, the one that was written last, and the place where the event's notice stands: as many as there are, where it
-// stands in none.
+// Where the next copy of an event goes, the one that was written last, which ends there, and the place where the event's notice stands: each
+// of the two once there is one.
 #[derive(Clone, Copy)]
 struct Next {
     to: To,
-    copied: Copied,
-    place: usize,
-}
-
-// Whether there is one, and it was asked for alike.
-fn repeats(copied: Copied, at: usize, asked: Asked) -> bool
-    ensures { result ≡ true → Repeats copied at asked }
-{
-    if copied.from >= at {
-        return false;
-    }
-    if copied.revision != asked.revision {
-        return false;
-    }
-    copied.no_acknowledge == asked.no_acknowledge
+    copied: Option<Copied>,
+    place: Option<usize>,
 }
 
 // A copy of an event, to a session that asked for it so: the one that was written last, once more, where it was asked for alike.
 fn put_event(table: &[u8], out: &mut [u8], next: Next, asked: Asked, notice: &[u8]) -> usize
-    requires { AskedLent table.now out.old next.to asked notice.now next.copied }
+    requires { AskedLent table.now out.old next asked notice.now }
     ensures { Copies (settings_in table.now) asked notice.now next.to out.old result
         out.new }
 {
-    let to = next.to;
-    let copied = next.copied;
-    if repeats(copied, to.at, asked) {
-        return frame::put_again(out, to, copied.from);
+    if let Some(copied) = next.copied {
+        if copied.asked == asked {
+            return frame::put_again(out, next.to, copied.from);
+        }
     }
-    frame::put_copy(out, to, asked, settings(table), notice)
+    frame::put_copy(out, next.to, asked, settings(table), notice)
 }
 
 // The first place that no session has open or waiting.
@@ -327,128 +311,73 @@ fn free_place(table: &[u8]) -> usize
     ensures { (result < place_count) × (is_free result (regions places_held table.now) ≡ true) }
 {
     let mut used = [0; places::COUNT];
-    let mut s: u64 = 0;
-    while s < SESSION_COUNT {
+    for s in 0..SESSION_COUNT {
         region::mark(region_of(table, s), &mut used);
-        s += 1;
     }
     places::first_free(&used)
 }
 
 // A result that a session is to hold stands in a place: the one where it stands already, or one that is free.
-fn stand(table: &mut [u8], res: &[u8], place: usize) -> usize
+fn stand(table: &mut [u8], res: &[u8], place: Option<usize>) -> usize
     requires { StandLent table.old res.now place }
     ensures { Stood table.old res.now place result table.new }
 {
-    if place < places::COUNT {
-        return place;
+    match place {
+        Some(stands) => stands,
+        None => {
+            let free = free_place(table);
+            places::put(&mut table[SHARED..REGIONS], free, res);
+            free
+        }
     }
-    let free = free_place(table);
-    places::put(&mut table[SHARED..REGIONS], free, res);
-    free
-}
-
-// What an event did to one session: whether it was taken, whether a copy is to be sent now, and the place where its notice stands then.
-#[derive(Clone, Copy)]
-struct Kept {
-    taken: bool,
-    tell: bool,
-    place: usize,
 }
 
 // A tightening of which that becomes, to one session, which holds its place: where it stands then.
-fn keep_placed(table: &mut [u8], s: u64, taken: Taken, res: &[u8], place: usize) -> usize
+fn keep_placed(table: &mut [u8], s: u64, taken: Taken, res: &[u8], place: Option<usize>) -> usize
     requires { PlacedLent table.old s taken res.now place }
-    ensures { Keeps table.old s tightenings res.now place (kept_by taken.take result)
-        table.new }
+    ensures { Keeps table.old s tightenings res.now place taken.take table.new (Some result) }
 {
     let stands = stand(table, res, place);
-    let slot = [stands as u8];
-    let a = REGIONS + s as usize * SIZE;
-    region::take(&mut table[a..a + SIZE], TIGHTENINGS, taken, &slot);
+    region::take(&mut table[range_of(s)], TIGHTENINGS, taken, &[stands as u8]);
     stands
 }
 
-// An event of that kind, to one session, which holds its notice or does not.
-fn keep(table: &mut [u8], s: u64, kind: usize, notice: &[u8], place: usize) -> Kept
-    requires { KeepLent table.old s kind notice.now place }
-    ensures { Keeps table.old s kind notice.now place result table.new }
+// An event of that kind, to one session, which holds its notice or does not: what becomes of it, and the place where it stands then.
+fn keep(table: &mut [u8], s: u64, kind: usize, notice: &[u8], place: &mut Option<usize>) -> Take
+    requires { KeepLent table.old s kind notice.now place.old }
+    ensures { Keeps table.old s kind notice.now place.old result table.new place.new }
 {
     let taken = region::taking(region_of(table, s), kind);
-    let take = taken.take;
-    let told = lane::is_taken(take);
-    let tell = lane::is_told(take);
-    if !lane::is_held(take) {
-        return Kept {
-            taken: told,
-            tell,
-            place,
-        };
+    if lane::is_held(taken.take) {
+        if kind == TIGHTENINGS {
+            *place = Some(keep_placed(table, s, taken, notice, *place));
+        } else {
+            region::take(&mut table[range_of(s)], kind, taken, notice);
+        }
     }
-    let a = REGIONS + s as usize * SIZE;
-    if kind != TIGHTENINGS {
-        region::take(&mut table[a..a + SIZE], kind, taken, notice);
-        return Kept {
-            taken: told,
-            tell,
-            place,
-        };
-    }
-    let place = keep_placed(table, s, taken, notice, place);
-    Kept {
-        taken: told,
-        tell,
-        place,
-    }
+    taken.take
 }
 
-// What came of it: the place behind what went out, whether it was taken, the copy that was written last, and where its notice stands.
-#[derive(Clone, Copy)]
-struct Took {
-    at: usize,
-    taken: bool,
-    from: usize,
-    revision: u64,
-    no_acknowledge: bool,
-    place: usize,
-}
-
-// An event of that kind, to one session.
-fn tell_session(table: &mut [u8], out: &mut [u8], next: Next, kind: usize, notice: &[u8]) -> Took
-    requires { EventLent table.old out.old next kind notice.now }
-    ensures { TellsOne table.old out.old next kind notice.now result table.new
-        out.new }
+// An event of that kind, to one session: whether it is taken.
+fn tell_session(
+    table: &mut [u8],
+    out: &mut [u8],
+    next: &mut Next,
+    kind: usize,
+    notice: &[u8],
+) -> bool
+    requires { EventLent table.old out.old next.old kind notice.now }
+    ensures { TellsOne table.old out.old next.old kind notice.now result table.new
+        out.new next.new }
 {
-    let to = next.to;
-    let copied = next.copied;
-    let kept = keep(table, to.session, kind, notice, next.place);
-    if !kept.tell {
-        return Took {
-            at: to.at,
-            taken: kept.taken,
-            from: copied.from,
-            revision: copied.revision,
-            no_acknowledge: copied.no_acknowledge,
-            place: kept.place,
-        };
+    let take = keep(table, next.to.session, kind, notice, &mut next.place);
+    if lane::is_told(take) {
+        let asked = asked_by(table, next.to.session, kind);
+        let from = next.to.at;
+        next.to.at = put_event(table, out, *next, asked, notice);
+        next.copied = Some(Copied { from, asked });
     }
-    let asked = asked_by(table, to.session, kind);
-    let at = put_event(table, out, next, asked, notice);
-    Took {
-        at,
-        taken: kept.taken,
-        from: to.at,
-        revision: asked.revision,
-        no_acknowledge: asked.no_acknowledge,
-        place: kept.place,
-    }
-}
-
-// What a session adds to the sum, whose 2^s is `bit`.
-fn share(taken: bool, bit: u64) -> u64
-    ensures { result ≡ cond taken bit 0 }
-{
-    if taken { bit } else { 0 }
+    lane::is_taken(take)
 }
 
 // An event of that kind to every session, in order.
@@ -456,32 +385,22 @@ fn tell(table: &mut [u8], out: &mut [u8], at: usize, kind: usize, notice: &[u8])
     requires { EventTo table.old kind notice.now × (at + event_most kind ≤ length out.old) }
     ensures { Tells table.old out.old at kind notice.now result table.new out.new }
 {
-    let mut at = at;
-    let mut from = at;
-    let mut revision: u64 = 0;
-    let mut no_acknowledge = false;
-    let mut place = places::COUNT;
-    let mut taken: u64 = 0;
-    let mut bit: u64 = 1;
-    let mut session: u64 = 0;
-    while session < SESSION_COUNT {
-        let copied = Copied {
-            from,
-            revision,
-            no_acknowledge,
-        };
-        let to = To { session, at };
-        let took = tell_session(table, out, Next { to, copied, place }, kind, notice);
-        at = took.at;
-        from = took.from;
-        revision = took.revision;
-        no_acknowledge = took.no_acknowledge;
-        place = took.place;
-        taken += share(took.taken, bit);
-        bit *= 2;
-        session += 1;
+    let mut next = Next {
+        to: To { session: 0, at },
+        copied: None,
+        place: None,
+    };
+    let mut taken = 0;
+    for session in 0..SESSION_COUNT {
+        next.to.session = session;
+        if tell_session(table, out, &mut next, kind, notice) {
+            taken += 1 << session;
+        }
     }
-    Told { at, taken }
+    Told {
+        at: next.to.at,
+        taken,
+    }
 }
 
 // What the event leaves to all sessions: the identifier in force, or the last number and the tightening that has it; an alarm nothing.
@@ -518,8 +437,7 @@ fn lengthen(table: &mut [u8], s: u64, bytes: &[u8])
     ensures { Becomes table.old
         (uncounted (next (decode table.old) (hears s (unended bytes.now)))) table.new }
 {
-    let a = REGIONS + s as usize * SIZE;
-    region::lengthen(&mut table[a..a + SIZE], bytes);
+    region::lengthen(&mut table[range_of(s)], bytes);
 }
 
 // Where the bytes of a run are that is over: in the slice that it ended in, if it began there, or where they were kept.
@@ -578,8 +496,7 @@ fn hear(table: &mut [u8], out: &mut [u8], to: To, bytes: &[u8], place: &mut [u8]
         out.new place.new }
 {
     let common = common(table);
-    let a = REGIONS + to.session as usize * SIZE;
-    let ended = region::end_run(&mut table[a..a + SIZE], common, bytes, place);
+    let ended = region::end_run(&mut table[range_of(to.session)], common, bytes, place);
     let at = answer(table, out, to, bytes, ended);
     Heard {
         at,
