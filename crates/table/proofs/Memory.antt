@@ -17,6 +17,7 @@ use Rattle.message.specs.declared.Common.{Common}
 use Rattle.session.specs.Effects.{replies, written}
 use Rattle.session.specs.declared.Reply.{Reply}
 use Rattle.session.specs.declared.Reply.TheVariants.{Nothing, Started, Accepted, Error, Kept, Mirrored}
+use Rattle.region.specs.Said.{Shows}
 use Rattle.shared.specs.Memory.{payload_kept}
 use Rattle.shared.specs.Shared.{last_of, count_of, kept_of, Area}
 use Rattle.shared.proofs.Results.{numbered_is, newest_is}
@@ -53,7 +54,7 @@ module _ (a : List ℕ) (h : Area a) where
     asked n true = at_last ∙ ap (λ (m : ℕ). numbered m (kept_of a)) (sym last)
     asked n false = refl
 
-    pub remembers : Remembers x (kept_of a)
+    remembers : Remembers x (kept_of a)
     unfolding asked_for
     remembers = record {
       kept = λ n. ap is_there (at_number n) ∙ there_if (among n) (result_at n) ∙ rw (last, count);
@@ -64,6 +65,12 @@ module _ (a : List ℕ) (h : Area a) where
   found : (n : ℕ) → is_there (numbered n (kept_of a)) ≡ true → numbered n (kept_of a) ≡ some (result_at n)
   found n e =
       let b : among n ≡ true = sym (ap is_there (at_number n) ∙ there_if (among n) (result_at n)) ∙ e in at_number n ∙ rw b
+
+-- what the tests of a message look at of what all share
+pub shown : {x : Common} (t : List ℕ) → Table t → x.granted ≡ (settings_in t).granted → x.newest ≡ last_of (shared_area t)
+    → x.kept ≡ count_of (shared_area t) → Shows x (decode t).shared
+unfolding decode
+shown {x} t h granted newest kept = record { granted = granted; remembers = remembers (shared_area t) (shared_good t h) x newest kept }
 
 -- a reply as it is written is the reply by what all share
 module _ (t : List ℕ) (h : Table t) (run : List ℕ) where

@@ -13,7 +13,7 @@ ghost use Rattle.frame.specs.Places.{notice_in};
 ghost use Rattle.run.specs.Area.{Ends};
 ghost use Rattle.places.specs.Places.{place_count};
 ghost use Rattle.places.specs.Free.{is_free};
-ghost use Rattle.lane.specs.Lane.{is_plain as is_plain_so, first_in};
+ghost use Rattle.lane.specs.Lane.{first_in};
 ghost use Rattle.region.specs.Region.{lane_in, places_held};
 ghost use Rattle.region.specs.Said.{copies_out, due_copy, due_copies, ending, Shows, end_said};
 ghost use Rattle.shared.specs.Shared.{settings_part};
@@ -76,6 +76,7 @@ pub fn is_formed(table: &[u8]) -> bool
 }
 
 // Whether session s is closed.
+#[tactic(auto, using(crate::proofs::Regions::part_is, crate::proofs::Regions::region_good, crate::proofs::Regions::part_in))]
 pub fn is_closed(table: &[u8], s: u64) -> bool
     requires { Table table.now × (s < session_count) }
     ensures { result ≡ is_closed_session (session_at (decode table.now) s) }
@@ -84,6 +85,7 @@ pub fn is_closed(table: &[u8], s: u64) -> bool
 }
 
 // The last tightening number.
+#[tactic(auto, unfolding(crate::specs::Table::decode))]
 pub fn last(table: &[u8]) -> u64
     requires { Table table.now }
     ensures { (result ≡ (decode table.now).shared.last) × (result < suc number_greatest) }
@@ -92,6 +94,7 @@ pub fn last(table: &[u8]) -> u64
 }
 
 // The identifier in force, as it stands.
+#[tactic(auto, using(crate::proofs::Regions::length_in_force, crate::proofs::Regions::length_shared), unfolding(crate::specs::Table::decode))]
 pub fn in_force(table: &[u8]) -> &[u8]
     requires { Table table.now }
     ensures { (result.now ≡ (decode table.now).shared.in_force) × (length result.now ≡ identifier_length) }
@@ -100,6 +103,7 @@ pub fn in_force(table: &[u8]) -> &[u8]
 }
 
 // The settings' payload, as it stands.
+#[tactic(auto, using(crate::proofs::Regions::length_settings, crate::proofs::Regions::length_shared))]
 pub fn settings(table: &[u8]) -> &[u8]
     requires { Table table.now }
     ensures { (result.now ≡ settings_part (shared_area table.now)) × (length result.now ≡ settings_length) }
@@ -153,36 +157,18 @@ pub fn hang_up(table: &mut [u8], s: u64)
 
 // ---- saying: the table is lent beside the output
 
-// Whether it is subscribed to with no acknowledge asked.
-fn is_plain(form: Form) -> bool
-    ensures { result ≡ is_plain_so form }
-{
-    match form {
-        Form::Not => false,
-        Form::Plain => true,
-        Form::Acknowledged => false,
-    }
-}
-
 // How a session asked for notices of that kind.
+#[tactic(auto, using(crate::proofs::Says::region_long, crate::proofs::Says::lane_long))]
 fn asked_by(table: &[u8], s: u64, kind: usize) -> Asked
     requires { Asking table.now s kind }
     ensures { result ≡ asked_in kind (region_in s table.now) }
 {
-    let x = lane::load(region::lane(region_of(table, s), kind));
-    let form = x.form;
+    let subscription = lane::load(region::lane(region_of(table, s), kind));
     Asked {
         kind,
-        revision: x.revision,
-        no_acknowledge: is_plain(form),
+        revision: subscription.revision,
+        no_acknowledge: matches!(subscription.form, Form::Plain),
     }
-}
-
-// The place that a slot is.
-fn number(b: u8) -> usize
-    ensures { result ≡ b }
-{
-    b as usize
 }
 
 // The bytes of the open notice of that kind: they stand in a place, or in the lane itself.
@@ -193,7 +179,7 @@ fn open_notice(table: &[u8], s: u64, kind: usize) -> &[u8]
 {
     let slot = lane::first(region::lane(region_of(table, s), kind), kind);
     if kind == TIGHTENINGS {
-        return places::at(&table[SHARED..REGIONS], number(slot[0]));
+        return places::at(&table[SHARED..REGIONS], usize::from(slot[0]));
     }
     slot
 }
@@ -282,8 +268,7 @@ struct Copied {
     asked: Asked,
 }
 
-// Where the next copy of an event goes, the one that was written last, which ends there, and the place where the event's notice stands: each
-// of the two once there is one.
+// Where the next copy of an event goes; the one that was written last, which ends there; and the place where the event's notice stands.
 #[derive(Clone, Copy)]
 struct Next {
     to: To,
@@ -456,12 +441,8 @@ fn told_by<'a>(table: &'a [u8], run: &'a [u8], reply: Reply) -> &'a [u8]
     ensures { result.now ≡ told_so (shared_area table.now) run.now reply }
 {
     match reply {
-        Reply::Nothing => run,
-        Reply::Started => run,
-        Reply::Accepted { mid: _ } => run,
-        Reply::Error { mid: _, code: _ } => run,
         Reply::Kept { number } => shared::kept(&table[0..SHARED], number),
-        Reply::Mirrored => run,
+        _ => run,
     }
 }
 
