@@ -51,7 +51,6 @@ module _ (kind i : ℕ) (p : List ℕ) (x : Subscription) (l : List ℕ) (k : Pu
       let f = rw z at slot_fits in
       let d = length-drop control_size l in
       record {
-        known = k.known;
         size = still_long;
         control = k.control;
         formed = rw (k.last, z, drop_sets p l control_size (i * slot_size kind))
@@ -199,7 +198,6 @@ module _ (read : List ℕ → Notice) (kind : ℕ) (l : List ℕ) (known : kind 
     lane = lane;
     there = (fair (room_of kind) x).there;
     push = λ q. record {
-      known = known;
       size = lane.size;
       few = (took (read p)).place;
       slot = size;

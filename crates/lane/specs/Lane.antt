@@ -5,7 +5,7 @@ use Rattle.std.specs.Prelude.{length, get_or, take, drop}
 use Rattle.std.proofs.lemmas.List.Edits.{sets}
 use Rattle.model.specs.Limits.{given_up_at}
 use Rattle.model.specs.Bytes.{all, little}
-use Rattle.model.specs.Kinds.{kinds, tightenings, room_of}
+use Rattle.model.specs.Kinds.{tightenings, room_of}
 use Rattle.model.specs.Events.{Notice}
 use Rattle.model.specs.Notices.{empty, busy, unsubscribed, plain, acked, act}
 use Rattle.model.specs.Notices as model
@@ -95,7 +95,6 @@ pub record Storable (kind : ℕ) (x : Subscription) : Type 0 where
   pub held : x.held ≤ most kind
 
 pub record Storing (kind : ℕ) (x : Subscription) (l : List ℕ) : Type 0 where
-  pub known : kind < length kinds
   pub size : length l ≡ lane_size kind
   pub control : Storable kind x
   pub formed : slots_formed kind x.held l ≡ true
@@ -121,7 +120,6 @@ any (n ∷ ns) = true
 
 -- of so many the first goes, or does not, where there is one
 pub record Shifting (kind held : ℕ) (shift : Bool) (l : List ℕ) : Type 0 where
-  pub known : kind < length kinds
   pub size : length l ≡ lane_size kind
   pub few : held ≤ most kind
   pub one : shift ≡ true → 0 < held
@@ -157,7 +155,6 @@ is_held (take.Waits place) = true
 
 -- the slot p goes behind the first i, and x to the control
 pub record Pushing (kind i : ℕ) (p : List ℕ) (x : Subscription) (l : List ℕ) : Type 0 where
-  pub known : kind < length kinds
   pub size : length l ≡ lane_size kind
   pub few : i < most kind
   pub slot : length p ≡ slot_size kind
@@ -190,7 +187,6 @@ pub record Keeps (read : List ℕ → Notice) (kind : ℕ) (t : Take) (p : List 
 
 -- an event of a kind, to a lane of that kind, where it becomes of its notice what `t` says; the slot p is for it
 pub record Taking (kind : ℕ) (t : Taken) (p l : List ℕ) : Type 0 where
-  pub known : kind < length kinds
   pub lane : Lane kind l
   pub taken : t ≡ taken (room_of kind) (control_of l)
   pub slot : length p ≡ slot_size kind

@@ -3,7 +3,8 @@
 #![tactic(auto)]
 
 ghost use Rattle.std.specs.Prelude.{◌≡◌, true, List, ℕ, ◌≤◌, ◌<◌, length};
-ghost use Rattle.model.specs.Kinds.{kinds, room_of, tightenings};
+ghost use Rattle.model.specs.Kinds.{room_of, tightenings};
+ghost use Rattle.model.specs.Named.{place_of};
 ghost use Rattle.model.specs.Bytes.{all};
 ghost use Rattle.model.specs.Events.{Notice};
 ghost use Rattle.places.specs.Places.{is_place};
@@ -38,6 +39,7 @@ ghost use Rattle.lane.specs.Lane.{
   TakesSo,
 };
 
+use model::Kind;
 use session::{Deed, Form, Session, Subscription, Take, Taken};
 
 // ---- the kinds
@@ -55,25 +57,24 @@ struct Row {
 // A place, by its number.
 const PLACE_NUMBER_SIZE: usize = 1;
 
-// The one function that has a case for each kind; the last kind has the last arm.
-fn row_of(kind: usize) -> Row
-    requires { kind < length kinds }
-    ensures { result ≡ row_so kind }
+// The one function that has a case for each kind.
+fn row_of(kind: Kind) -> Row
+    ensures { result ≡ row_so (place_of kind) }
 {
     match kind {
-        model::IDENTIFIERS => Row {
+        Kind::Identifiers => Row {
             most: Session::IDENTIFIERS_HELD,
             size: model::IDENTIFIER_LENGTH,
             newest: true,
             placed: false,
         },
-        model::TIGHTENINGS => Row {
+        Kind::Tightenings => Row {
             most: Session::TIGHTENINGS_HELD,
             size: PLACE_NUMBER_SIZE,
             newest: false,
             placed: true,
         },
-        _ => Row {
+        Kind::Alarms => Row {
             most: Session::ALARMS_HELD,
             size: model::ALARM_LENGTH,
             newest: false,
@@ -83,9 +84,8 @@ fn row_of(kind: usize) -> Row
 }
 
 // How many bytes the slot of a notice of that kind takes.
-fn slot_size(kind: usize) -> usize
-    requires { kind < length kinds }
-    ensures { result ≡ slot_size_of kind }
+fn slot_size(kind: Kind) -> usize
+    ensures { result ≡ slot_size_of (place_of kind) }
 {
     let row = row_of(kind);
     row.size
@@ -98,9 +98,8 @@ const CONTROL_SIZE: usize = 16;
 const REVISION_AT: usize = 8;
 
 // How many bytes a lane of that kind takes.
-pub fn size(kind: usize) -> usize
-    requires { kind < length kinds }
-    ensures { result ≡ lane_size kind }
+pub fn size(kind: Kind) -> usize
+    ensures { result ≡ lane_size (place_of kind) }
 {
     let row = row_of(kind);
     CONTROL_SIZE + row.most as usize * row.size
@@ -139,9 +138,10 @@ fn form_byte(f: Form) -> u8
 }
 
 // Whether each of the first so many slots is one of the places that there are, where they are places.
-fn slots_formed(lane: &[u8], kind: usize, held: usize, placed: bool) -> bool
-    requires { SlotsTested kind held «placed» lane.now }
-    ensures { result ≡ slots_formed kind held lane.now }
+#[tactic(auto, using(crate::proofs::Slots::not_tested, crate::proofs::Slots::is_tested))]
+fn slots_formed(lane: &[u8], kind: Kind, held: usize, placed: bool) -> bool
+    requires { SlotsTested (place_of kind) held «placed» lane.now }
+    ensures { result ≡ slots_formed (place_of kind) held lane.now }
 {
     if !placed {
         return true;
@@ -150,9 +150,10 @@ fn slots_formed(lane: &[u8], kind: usize, held: usize, placed: bool) -> bool
 }
 
 // Whether the control is that of a subscription to that kind, and what it holds can be held.
-pub fn is_formed(lane: &[u8], kind: usize) -> bool
-    requires { (kind < length kinds) × (length lane.now ≡ lane_size kind) }
-    ensures { result ≡ lane_formed kind lane.now }
+#[tactic(auto, unfolding(crate::specs::Lane::lane_formed))]
+pub fn is_formed(lane: &[u8], kind: Kind) -> bool
+    requires { length lane.now ≡ lane_size (place_of kind) }
+    ensures { result ≡ lane_formed (place_of kind) lane.now }
 {
     if lane[0] > FORM_GREATEST {
         return false;
@@ -169,6 +170,7 @@ pub fn is_formed(lane: &[u8], kind: usize) -> bool
 }
 
 // The subscription.
+#[tactic(auto, unfolding(crate::specs::Lane::control_of))]
 pub fn load(lane: &[u8]) -> Subscription
     requires { control_size ≤ length lane.now }
     ensures { result ≡ control_of lane.now }
@@ -181,9 +183,9 @@ pub fn load(lane: &[u8]) -> Subscription
     }
 }
 
-fn store(lane: &mut [u8], kind: usize, x: Subscription)
-    requires { Storing kind x lane.old }
-    ensures { Stored kind x lane.old lane.new }
+fn store(lane: &mut [u8], kind: Kind, x: Subscription)
+    requires { Storing (place_of kind) x lane.old }
+    ensures { Stored (place_of kind) x lane.old lane.new }
 {
     let form = x.form;
     let bytes = [form_byte(form), x.clock as u8, x.held as u8];
@@ -192,14 +194,16 @@ fn store(lane: &mut [u8], kind: usize, x: Subscription)
 }
 
 // Whatever the bytes were: a lane that is not subscribed.
-pub fn clear(lane: &mut [u8], kind: usize)
-    requires { (kind < length kinds) × (length lane.old ≡ lane_size kind) }
-    ensures { Cleared kind lane.new }
+#[tactic(auto, using(crate::proofs::Controls::cleared))]
+pub fn clear(lane: &mut [u8], kind: Kind)
+    requires { length lane.old ≡ lane_size (place_of kind) }
+    ensures { Cleared (place_of kind) lane.new }
 {
     text::fill(lane, 0, REVISION_AT, 0);
 }
 
 // Whatever the kind, and whatever is held.
+#[tactic(auto, using(crate::proofs::Controls::subscribed_byte))]
 pub fn is_subscribed(lane: &[u8]) -> bool
     requires { control_size ≤ length lane.now }
     ensures { (read : List ℕ → Notice) (kind : ℕ) → result ≡ is_subscribed_so (lane_by read kind lane.now) }
@@ -208,9 +212,9 @@ pub fn is_subscribed(lane: &[u8]) -> bool
 }
 
 // The first slot, as it stands: the open notice is there, where one is open.
-pub fn first(lane: &[u8], kind: usize) -> &[u8]
-    requires { (kind < length kinds) × (length lane.now ≡ lane_size kind) }
-    ensures { result.now ≡ first_in kind lane.now }
+pub fn first(lane: &[u8], kind: Kind) -> &[u8]
+    requires { length lane.now ≡ lane_size (place_of kind) }
+    ensures { result.now ≡ first_in (place_of kind) lane.now }
 {
     let end = CONTROL_SIZE + slot_size(kind);
     &lane[CONTROL_SIZE..end]
@@ -219,9 +223,10 @@ pub fn first(lane: &[u8], kind: usize) -> &[u8]
 // ---- a deed
 
 // The first notice is gone, and those that wait shift down, where they do.
-fn shift_down(lane: &mut [u8], kind: usize, held: u64, shift: bool)
-    requires { Shifting kind held «shift» lane.old }
-    ensures { Shifts kind held «shift» lane.old lane.new }
+#[tactic(auto, using(crate::proofs::Lanes::not_shifted, crate::proofs::Lanes::is_shifted))]
+fn shift_down(lane: &mut [u8], kind: Kind, held: u64, shift: bool)
+    requires { Shifting (place_of kind) held «shift» lane.old }
+    ensures { Shifts (place_of kind) held «shift» lane.old lane.new }
 {
     if !shift {
         return;
@@ -232,9 +237,9 @@ fn shift_down(lane: &mut [u8], kind: usize, held: u64, shift: bool)
 }
 
 // Any deed but an event: whether a copy of what is then the open notice is to be sent.
-pub fn deal(lane: &mut [u8], kind: usize, deed: Deed) -> bool
-    requires { (kind < length kinds) × Lane kind lane.old }
-    ensures { (read : List ℕ → Notice) → Deals read kind (deed_of deed) lane.old result lane.new }
+pub fn deal(lane: &mut [u8], kind: Kind, deed: Deed) -> bool
+    requires { Lane (place_of kind) lane.old }
+    ensures { (read : List ℕ → Notice) → Deals read (place_of kind) (deed_of deed) lane.old result lane.new }
 {
     let x = load(lane);
     let step = session::dealt(x, deed);
@@ -245,9 +250,10 @@ pub fn deal(lane: &mut [u8], kind: usize, deed: Deed) -> bool
 }
 
 // A second passes: where none is held there is nothing to do.
-pub fn beat(lane: &mut [u8], kind: usize) -> bool
-    requires { (kind < length kinds) × Lane kind lane.old }
-    ensures { (read : List ℕ → Notice) → Deals read kind beats lane.old result lane.new }
+#[tactic(auto, using(crate::proofs::Controls::none_beats))]
+pub fn beat(lane: &mut [u8], kind: Kind) -> bool
+    requires { Lane (place_of kind) lane.old }
+    ensures { (read : List ℕ → Notice) → Deals read (place_of kind) beats lane.old result lane.new }
 {
     if lane[2] == 0 {
         return false;
@@ -271,9 +277,8 @@ fn holding(x: Subscription, clock: u64, held: u64) -> Subscription
 }
 
 // Where one is open: the newest waits alone; or it waits behind the others, where there is room.
-fn busy(x: Subscription, kind: usize) -> Taken
-    requires { kind < length kinds }
-    ensures { result ≡ taken_busy (room_of kind) x }
+fn busy(x: Subscription, kind: Kind) -> Taken
+    ensures { result ≡ taken_busy (room_of (place_of kind)) x }
 {
     let row = row_of(kind);
     if row.newest {
@@ -297,9 +302,8 @@ fn busy(x: Subscription, kind: usize) -> Taken
 
 // What becomes of its notice, and the subscription after it.
 #[tactic(auto, unfolding(session::specs::Control::taken))]
-fn taken_by(x: Subscription, kind: usize) -> Taken
-    requires { kind < length kinds }
-    ensures { result ≡ taken (room_of kind) x }
+fn taken_by(x: Subscription, kind: Kind) -> Taken
+    ensures { result ≡ taken (room_of (place_of kind)) x }
 {
     let form = x.form;
     match form {
@@ -324,9 +328,9 @@ fn taken_by(x: Subscription, kind: usize) -> Taken
 }
 
 // The same, by what stands in the lane.
-pub fn taking(lane: &[u8], kind: usize) -> Taken
-    requires { (kind < length kinds) × Lane kind lane.now }
-    ensures { result ≡ taken (room_of kind) (control_of lane.now) }
+pub fn taking(lane: &[u8], kind: Kind) -> Taken
+    requires { Lane (place_of kind) lane.now }
+    ensures { result ≡ taken (room_of (place_of kind)) (control_of lane.now) }
 {
     taken_by(load(lane), kind)
 }
@@ -366,9 +370,10 @@ pub fn is_held(t: Take) -> bool
 }
 
 // What is to be held of a notice goes to slot i, as the last of those held, and the subscription that holds it to the control.
-fn put(lane: &mut [u8], kind: usize, i: u64, slot: &[u8], next: Subscription)
-    requires { Pushing kind i slot.now next lane.old }
-    ensures { Pushes kind i slot.now next lane.old lane.new }
+#[tactic(auto, using(crate::proofs::Events::push_storing, crate::proofs::Events::pushes))]
+fn put(lane: &mut [u8], kind: Kind, i: u64, slot: &[u8], next: Subscription)
+    requires { Pushing (place_of kind) i slot.now next lane.old }
+    ensures { Pushes (place_of kind) i slot.now next lane.old lane.new }
 {
     let at = CONTROL_SIZE + i as usize * slot_size(kind);
     text::copy(slot, lane, at);
@@ -376,9 +381,9 @@ fn put(lane: &mut [u8], kind: usize, i: u64, slot: &[u8], next: Subscription)
 }
 
 // It goes to its slot, where it has one; where it has none, the lane is as it was.
-fn hold(lane: &mut [u8], kind: usize, take: Take, slot: &[u8], next: Subscription)
-    requires { Keeping kind take slot.now next lane.old }
-    ensures { (read : List ℕ → Notice) → Keeps read kind take slot.now next lane.old lane.new }
+fn hold(lane: &mut [u8], kind: Kind, take: Take, slot: &[u8], next: Subscription)
+    requires { Keeping (place_of kind) take slot.now next lane.old }
+    ensures { (read : List ℕ → Notice) → Keeps read (place_of kind) take slot.now next lane.old lane.new }
 {
     match take {
         Take::Not => {}
@@ -389,9 +394,9 @@ fn hold(lane: &mut [u8], kind: usize, take: Take, slot: &[u8], next: Subscriptio
 }
 
 // An event of which that becomes; `slot` is what is held of its notice.
-pub fn take(lane: &mut [u8], kind: usize, taken: Taken, slot: &[u8])
-    requires { Taking kind taken slot.now lane.old }
-    ensures { TakesSo kind taken.take slot.now lane.old lane.new }
+pub fn take(lane: &mut [u8], kind: Kind, taken: Taken, slot: &[u8])
+    requires { Taking (place_of kind) taken slot.now lane.old }
+    ensures { TakesSo (place_of kind) taken.take slot.now lane.old lane.new }
 {
     let take = taken.take;
     let next = taken.next;

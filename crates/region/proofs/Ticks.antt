@@ -1,7 +1,9 @@
 -- A tick and an event, to a session in its region.
 use mathlib.Core.Path.{◌≡◌, refl, sym, ap, subst, ◌∙◌}
 use mathlib.Core.Bool.{Bool, true, false, true≢false}
+use mathlib.Core.Logic.{◌⊎◌, ⊎_elim}
 use mathlib.Core.List.{List, [], ◌∷◌}
+use Rattle.std.specs.Prelude.{Some, None}
 use Prim.Native.Nat.{ℕ, ◌+◌, ◌-◌, ◌<◌}
 use lib.Dec.{eqb}
 use lib.ListN.{length, replicate}
@@ -64,7 +66,7 @@ module _ (read : Reading) where
 
   module _ {x : Session} {r r₁ : List ℕ} (c : Changes read r x (run_of (run_area r)) (subscriptions_in read r) r₁) where
     -- it is not started: nothing more is done
-    pub stays_quiet : {p : Phase} → x.phase ≡ p
+    stays_quiet : {p : Phase} → x.phase ≡ p
         → ((st : Settings) → ticked_in p st x.idle (run_of (run_area r)) (subscriptions_in read r)
         ≡ (session_as p x.idle (run_of (run_area r)) (subscriptions_in read r), []))
         → TickStays read x r (replicate (length kinds) false) r₁
@@ -74,6 +76,9 @@ module _ (read : Reading) where
       ready = none_ready (length kinds) (subscriptions_in read r₁) (length_subscriptions read r₁);
       steps = λ st. rw (none_due st 0 (length kinds) (subscriptions_in read r₁), means read c.becomes, e) (quiet st);
     }
+
+    pub stays_unstarted : (x.phase ≡ Closed) ⊎ (x.phase ≡ Opened) → TickStays read x r (replicate (length kinds) false) r₁
+    stays_unstarted = ⊎_elim (λ e. stays_quiet e (λ st. refl)) (λ e. stays_quiet e (λ st. refl))
 
     pub stays_started : {due : List Bool} {r₂ : List ℕ} → x.phase ≡ Started → DealtToAll read (λ kind. beats) r₁ due r₂
         → TickStays read x r due r₂
@@ -99,7 +104,7 @@ module _ (read : Reading) where
         ∙ ap (ticked_so g.settings (run_of (run_area r)) (subscriptions_in read r)) (sym e)
 
     pub tick_stays : (i : Idling) (y : Session) (due : List Bool) (r' : List ℕ) → i ≡ idled x → i ≡ Stays y → TickStays read y r due r'
-        → Ticks read r (record { closes = false; due = due }) r'
+        → Ticks read r (Some due) r'
     tick_stays i y due r' ei ey w = record {
       good = w.good;
       size = w.size;
@@ -110,13 +115,13 @@ module _ (read : Reading) where
 
     pub tick_closes : (i : Idling) (r' : List ℕ) → i ≡ idled x → i ≡ TimesOut
         → Changes read r cleared (run_of (run_area r)) (subscriptions_in read r) r'
-        → Ticks read r (record { closes = true; due = replicate (length kinds) false }) r'
+        → Ticks read r None r'
     tick_closes i r' ei ey c =
         let b = c.becomes in
         record {
           good = b.good;
           size = b.size;
-          ready = none_ready (length kinds) (subscriptions_in read r') (length_subscriptions read r');
+          ready = tt;
           steps = λ g.
               ticked g i ei ∙ ap (ticked_so g.settings (run_of (run_area r)) (subscriptions_in read r)) ey
               ∙ ap (λ (m : model.Session). (m, close ∷ [])) (sym (means read b));
@@ -197,16 +202,16 @@ module _ {kind : ℕ} {r : List ℕ} (g : Good r) (few : kind < length kinds) {x
   }
 
 -- its notice is held
-module _ {kind : ℕ} {t : Taken} {slot r : List ℕ} {a z : ℕ} {ys : List ℕ} (k : Taking kind t slot r) (ea : a ≡ lane_at kind)
-    (ez : z ≡ lane_size kind) (w : lane.TakesSo kind t.take slot (mid_of a (a + z - a) r) ys) where
+module _ {kind : ℕ} {t : Taken} {slot r : List ℕ} {a z : ℕ} {ys : List ℕ} (few : kind < length kinds) (k : Taking kind t slot r)
+    (ea : a ≡ lane_at kind) (ez : z ≡ lane_size kind) (w : lane.TakesSo kind t.take slot (mid_of a (a + z - a) r) ys) where
   abbrev r₁ : List ℕ
   r₁ = put_mid a (a + z - a) r ys
 
   holds_takes : (read : Reading) (p : List ℕ) → read kind slot ≡ notice_in kind p → Takes read kind p r t.take r₁
   holds_takes read p e =
       let v = rw e at (w.means (read kind)) in
-      takes_one read p r k.known refl (k.answers.started k.holds) (dealt_to read k.known k.good ea ez v.deals)
-      (v.takes ∙ ap (λ l. notices.takes (room_of kind) (lane_of read kind l)) (lane_part r k.known ea ez))
+      takes_one read p r few refl (k.answers.started k.holds) (dealt_to read few k.good ea ez v.deals)
+      (v.takes ∙ ap (λ l. notices.takes (room_of kind) (lane_of read kind l)) (lane_part r few ea ez))
 
   pub takes_held : Holds kind t.take slot r r₁
   unfolding places_held
@@ -215,7 +220,7 @@ module _ {kind : ℕ} {t : Taken} {slot r : List ℕ} {a z : ℕ} {ys : List ℕ
     adds = λ e.
         let lane = (w.means (notice_in kind)).deals.lane in
         let started = k.answers.started k.holds in
-        let now = subst (λ (n : ℕ). lane_in n r₁ ≡ ys) e (lane_now r k.known ea ez k.good.size lane) in
-        let was = subst (λ (n : ℕ). mid_of a (a + z - a) r ≡ lane_in n r) e (lane_part r k.known ea ez) in
-        rw (head_kept r k.known ea ez k.good.size lane, started, now, ← was) (w.adds e k.holds);
+        let now = subst (λ (n : ℕ). lane_in n r₁ ≡ ys) e (lane_now r few ea ez k.good.size lane) in
+        let was = subst (λ (n : ℕ). mid_of a (a + z - a) r ≡ lane_in n r) e (lane_part r few ea ez) in
+        rw (head_kept r few ea ez k.good.size lane, started, now, ← was) (w.adds e k.holds);
   }

@@ -1,6 +1,8 @@
 -- What is said of a region once it has changed: copies of the notices that are then open, of an event itself, a reply. Each change tells by
 -- value what there is to say. 01, "What a message does" and "Notices and the clock".
 use Rattle.std.specs.Prelude.{◌≡◌, ℕ, suc, ◌≤◌, ◌<◌, Bool, true, false, cond, List, [], ◌∷◌, ◌++◌, map, length, get_or, set, take, drop}
+use Rattle.std.specs.Prelude as lent
+use Rattle.std.specs.Prelude.{Some, None, IfSome}
 use Rattle.std.proofs.Math.Option.{Option, none, some}
 use Rattle.model.specs.Limits.{header_length, identifier_length, idle_limit}
 use Rattle.model.specs.Records.{Settings}
@@ -35,7 +37,6 @@ use Rattle.run.specs.Area.{run_of}
 use Rattle.head.specs.Head.{head_of}
 use Rattle.region.specs.Region.{head_area, run_area, lane_in, subscriptions_in, subscription_in, session_of, Good, run_bytes}
 use Rattle.region.specs.Region.{places_held, Changes}
-use Rattle.region.specs.declared.Ticked.{Ticked}
 use Rattle.region.specs.declared.Ended.{Ended}
 
 -- ==== copies
@@ -96,15 +97,16 @@ module _ (read : Reading) where
         → ticked_so st (run_of (run_area r)) (subscriptions_in read r) (Stays x)
         ≡ (session_of read r', due_copies st 0 due (subscriptions_in read r'))
 
-  -- what is said: the order to close, or the copies that are due
-  abbrev pub tick_said : Settings → Ticked → List ℕ → List Emission
-  tick_said st t r = cond t.closes (close ∷ []) (due_copies st 0 t.due (subscriptions_in read r))
+  -- what is said: the copies that are due, or the order to close
+  abbrev pub tick_said : Settings → lent.Option (List Bool) → List ℕ → List Emission
+  tick_said st (Some due) r = due_copies st 0 due (subscriptions_in read r)
+  tick_said st None r = close ∷ []
 
-  pub record Ticks (r : List ℕ) (t : Ticked) (r' : List ℕ) : Type 0 where
+  pub record Ticks (r : List ℕ) (left : lent.Option (List Bool)) (r' : List ℕ) : Type 0 where
     pub good : Good r'
     pub size : length r' ≡ length r
-    pub ready : AllReady t.due (subscriptions_in read r')
-    pub steps : (g : Shared) → step g tick (session_of read r) ≡ (session_of read r', tick_said g.settings t r')
+    pub ready : IfSome left (λ due. AllReady due (subscriptions_in read r'))
+    pub steps : (g : Shared) → step g tick (session_of read r) ≡ (session_of read r', tick_said g.settings left r')
 
   -- ==== an event of that kind, whose notice has the bytes p
 
@@ -130,7 +132,6 @@ pub record Answers (kind : ℕ) (r : List ℕ) (t : Taken) : Type 0 where
 -- what take asks for: that becomes of it, its notice is to be held, and the slot is for it
 pub record Taking (kind : ℕ) (t : Taken) (slot r : List ℕ) : Type 0 where
   pub good : Good r
-  pub known : kind < length kinds
   pub answers : Answers kind r t
   pub holds : is_held t.take ≡ true
   pub size : length slot ≡ slot_size kind

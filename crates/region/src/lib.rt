@@ -5,8 +5,10 @@
 ghost use Rattle.std.specs.Prelude.{◌≡◌, Bool, false, cond, map, ◌≤◌, ◌<◌, length};
 ghost use Rattle.model.specs.Limits.{run_kept, identifier_length, idle_limit};
 ghost use Rattle.model.specs.Bytes.{all, padded};
+ghost use Rattle.std.specs.List.{list_all};
 ghost use Rattle.model.specs.Runs.{empty_run, longer};
 ghost use Rattle.model.specs.Kinds.{kinds};
+ghost use Rattle.model.specs.Named.{place_of};
 ghost use Rattle.model.specs.Notices.{is_subscribed, beats};
 ghost use Rattle.model.specs.Session.{closed, fresh, is_closed as is_closed_session, no_subscriptions};
 ghost use Rattle.session.specs.Meaning.{deed_of};
@@ -16,6 +18,7 @@ ghost use Rattle.run.specs.Area.{run_of};
 ghost use Rattle.head.specs.Head.{head_of};
 ghost use Rattle.places.specs.Places.{place_count};
 ghost use Rattle.places.specs.Free.{marked};
+ghost use Rattle.lane.specs.Kinds.{lane_size};
 ghost use Rattle.lane.specs.Lane.{Reading, lane_formed};
 ghost use Rattle.region.specs.Region.{region_size, head_area, run_area, lane_at as lane_begins, lanes, lane_in, subscriptions_in};
 ghost use Rattle.region.specs.Region.{session_of, region_formed, Good, run_bytes as bytes_of_run, Becomes, Changes, LanesCleared};
@@ -24,8 +27,8 @@ ghost use Rattle.region.specs.Said.{DealtTo, DealtToAll, TickStays, Ticks, Answe
 ghost use Rattle.region.specs.Said.{StandsSo, Ruled, CarryingOut, CarriesOut, ended_by, EndingWhole, RunEnds, KeptEnds};
 
 use message::{Common, Standing};
-use model::{IDENTIFIER_LENGTH, IDENTIFIERS, KIND_COUNT, TIGHTENINGS};
-use session::{Decision, Deed, Form, Idling, Phase, Reply, Session, Subscription, Take, Taken};
+use model::{IDENTIFIER_LENGTH, KIND_COUNT, KINDS, Kind};
+use session::{Decision, Deed, Idling, Phase, Reply, Session, Take, Taken};
 
 // How many bytes it has.
 pub const SIZE: usize = 288;
@@ -38,23 +41,23 @@ const RUN_AT: usize = 8;
 const RUN_END: usize = 56;
 
 // By kind: where its lane begins.
-fn lane_at(kind: usize) -> usize
-    requires { kind < length kinds }
-    ensures { result ≡ lane_begins kind }
+fn lane_at(kind: Kind) -> usize
+    ensures { result ≡ lane_begins (place_of kind) }
 {
     match kind {
-        IDENTIFIERS => 56,
-        TIGHTENINGS => 128,
-        _ => 160,
+        Kind::Identifiers => 56,
+        Kind::Tightenings => 128,
+        Kind::Alarms => 160,
     }
 }
 
 // ---- reading
 
 // The lane of a kind, as it stands.
-pub fn lane(region: &[u8], kind: usize) -> &[u8]
-    requires { (length region.now ≡ region_size) × (kind < length kinds) }
-    ensures { result.now ≡ lane_in kind region.now }
+pub fn lane(region: &[u8], kind: Kind) -> &[u8]
+    requires { length region.now ≡ region_size }
+    ensures bytes { result.now ≡ lane_in (place_of kind) region.now }
+    ensures size { length result.now ≡ lane_size (place_of kind) }
 {
     let a = lane_at(kind);
     let e = a + lane::size(kind);
@@ -72,50 +75,39 @@ pub fn run_bytes(region: &[u8]) -> &[u8]
 // Whether every lane is well formed.
 fn lanes_formed(region: &[u8]) -> bool
     requires { length region.now ≡ region_size }
-    ensures { result ≡ all (λ (formed : Bool). formed) (lanes lane_formed region.now) }
+    ensures { result ≡ list_all (λ kind. lane_formed (place_of kind) (lane_in (place_of kind) region.now))
+        KINDS }
 {
-    let mut kind = 0;
-    while kind < KIND_COUNT {
-        if !lane::is_formed(lane(region, kind), kind) {
-            return false;
-        }
-        kind += 1;
-    }
-    true
+    KINDS
+        .iter()
+        .all(|&kind| lane::is_formed(lane(region, kind), kind))
 }
 
+#[tactic(auto, using(crate::proofs::Walks::each_passes), unfolding(crate::specs::Region::region_formed))]
 pub fn is_formed(region: &[u8]) -> bool
     requires { length region.now ≡ region_size }
     ensures { result ≡ region_formed region.now }
 {
-    if !head::is_formed(&region[0..HEAD_END]) {
-        return false;
-    }
-    if !run::is_formed(&region[RUN_AT..RUN_END]) {
-        return false;
-    }
-    lanes_formed(region)
+    head::is_formed(&region[..HEAD_END])
+        && run::is_formed(&region[RUN_AT..RUN_END])
+        && lanes_formed(region)
 }
 
 // Its phase and its idle count.
+#[tactic(auto, using(crate::proofs::Areas::head_there, crate::proofs::Areas::head_few))]
 fn load(region: &[u8]) -> Session
     requires { Good region.now }
     ensures { (result ≡ head_of (head_area region.now)) × (result.idle < idle_limit) }
 {
-    head::load(&region[0..HEAD_END])
+    head::load(&region[..HEAD_END])
 }
 
+#[tactic(auto, using(crate::proofs::Ticks::means_so))]
 pub fn is_closed(region: &[u8]) -> bool
     requires { Good region.now }
     ensures { (read : Reading) → result ≡ is_closed_session (session_of read region.now) }
 {
-    let x = load(region);
-    let phase = x.phase;
-    match phase {
-        Phase::Closed => true,
-        Phase::Opened => false,
-        Phase::Started => false,
-    }
+    matches!(load(region).phase, Phase::Closed)
 }
 
 // ---- its areas change
@@ -125,7 +117,7 @@ fn store(region: &mut [u8], x: Session)
     ensures { (read : Reading) → Changes read region.old x (run_of (run_area region.old))
         (subscriptions_in read region.old) region.new }
 {
-    head::store(&mut region[0..HEAD_END], x);
+    head::store(&mut region[..HEAD_END], x);
 }
 
 // More bytes of its run.
@@ -148,9 +140,10 @@ fn clear_run(region: &mut [u8])
 }
 
 // What is done to the notices of one kind: whether a copy of the one that is then open is due.
-fn deal(region: &mut [u8], kind: usize, deed: Deed) -> bool
-    requires { Good region.old × (kind < length kinds) }
-    ensures { (read : Reading) → DealtTo read kind (deed_of deed) region.old result region.new }
+#[tactic(auto, using(model::proofs::Named::place_within, crate::proofs::Areas::lane_lent, crate::proofs::Walks::dealt_to, crate::proofs::Ends::nothing_dealt))]
+fn deal(region: &mut [u8], kind: Kind, deed: Deed) -> bool
+    requires { Good region.old }
+    ensures { (read : Reading) → DealtTo read (place_of kind) (deed_of deed) region.old result region.new }
 {
     if let Deed::Nothing = deed {
         return false;
@@ -166,27 +159,24 @@ fn beat(region: &mut [u8]) -> [bool; KIND_COUNT]
     ensures { (read : Reading) → DealtToAll read (λ kind. beats) region.old result region.new }
 {
     let mut due = [false; KIND_COUNT];
-    let mut kind = 0;
-    while kind < KIND_COUNT {
+    for kind in KINDS {
         let a = lane_at(kind);
         let e = a + lane::size(kind);
-        due[kind] = lane::beat(&mut region[a..e], kind);
-        kind += 1;
+        due[kind.place()] = lane::beat(&mut region[a..e], kind);
     }
     due
 }
 
 // Nothing is held of any kind, whatever the bytes of the lanes were.
+#[tactic(auto, using(crate::proofs::Areas::lane_part, crate::proofs::Areas::lane_length, crate::proofs::Walks::in_order, crate::proofs::Walks::clearing_none, crate::proofs::Walks::clearing_next, crate::proofs::Walks::all_cleared, model::proofs::Named::place_within))]
 fn clear_lanes(region: &mut [u8])
     requires { length region.old ≡ region_size }
     ensures { LanesCleared region.old region.new }
 {
-    let mut kind = 0;
-    while kind < KIND_COUNT {
+    for kind in KINDS {
         let a = lane_at(kind);
         let e = a + lane::size(kind);
         lane::clear(&mut region[a..e], kind);
-        kind += 1;
     }
 }
 
@@ -197,7 +187,7 @@ pub fn start(region: &mut [u8])
     requires { length region.old ≡ region_size }
     ensures { Good region.new × ((read : Reading) → session_of read region.new ≡ closed) }
 {
-    head::store(&mut region[0..HEAD_END], Session::cleared());
+    head::store(&mut region[..HEAD_END], Session::cleared());
     run::clear(&mut region[RUN_AT..RUN_END]);
     clear_lanes(region);
 }
@@ -221,43 +211,28 @@ pub fn hang_up(region: &mut [u8])
 
 // ---- a tick
 
-// What a tick leaves to say: that the session is closed; or of which kinds a copy of the open notice.
-#[derive(Clone, Copy)]
-pub struct Ticked {
-    pub closes: bool,
-    pub due: [bool; KIND_COUNT],
-}
-
 // What a tick does to one that stays: x is its phase, and its idle count, which has gone up already.
 fn tick_stays(region: &mut [u8], x: Session) -> [bool; KIND_COUNT]
     requires { Good region.old × (x.idle < idle_limit) }
     ensures { (read : Reading) → TickStays read x region.old result region.new }
 {
     store(region, x);
-    let phase = x.phase;
-    match phase {
-        Phase::Closed => [false; KIND_COUNT],
-        Phase::Opened => [false; KIND_COUNT],
+    match x.phase {
+        Phase::Closed | Phase::Opened => [false; KIND_COUNT],
         Phase::Started => beat(region),
     }
 }
 
-pub fn tick(region: &mut [u8]) -> Ticked
+// What it leaves to say: of which kinds a copy of the open notice; or, where there is none, that the session is closed.
+pub fn tick(region: &mut [u8]) -> Option<[bool; KIND_COUNT]>
     requires { Good region.old }
     ensures { (read : Reading) → Ticks read region.old result region.new }
 {
-    let idling = session::idled(load(region));
-    match idling {
-        Idling::Stays(x) => {
-            let due = tick_stays(region, x);
-            Ticked { closes: false, due }
-        }
+    match session::idled(load(region)) {
+        Idling::Stays(x) => Some(tick_stays(region, x)),
         Idling::TimesOut => {
             store(region, Session::cleared());
-            Ticked {
-                closes: true,
-                due: [false; KIND_COUNT],
-            }
+            None
         }
     }
 }
@@ -270,33 +245,27 @@ fn not_taken() -> Taken
 {
     Taken {
         take: Take::Not,
-        next: Subscription {
-            form: Form::Not,
-            revision: 0,
-            clock: 0,
-            held: 0,
-        },
+        next: session::unsubscribed(),
     }
 }
 
 // What becomes of an event of that kind.
-pub fn taking(region: &[u8], kind: usize) -> Taken
-    requires { Good region.now × (kind < length kinds) }
-    ensures { Answers kind region.now result }
+#[tactic(auto, using(model::proofs::Named::place_within, crate::proofs::Areas::lane_good, crate::proofs::Ticks::answers_closed, crate::proofs::Ticks::answers_opened, crate::proofs::Ticks::answers_started))]
+pub fn taking(region: &[u8], kind: Kind) -> Taken
+    requires { Good region.now }
+    ensures { Answers (place_of kind) region.now result }
 {
-    let x = load(region);
-    let phase = x.phase;
-    match phase {
-        Phase::Closed => not_taken(),
-        Phase::Opened => not_taken(),
+    match load(region).phase {
+        Phase::Closed | Phase::Opened => not_taken(),
         Phase::Started => lane::taking(lane(region, kind), kind),
     }
 }
 
 // Its notice is held so: `slot` is what is kept of it, which means that notice to whoever reads it.
-pub fn take(region: &mut [u8], kind: usize, taken: Taken, slot: &[u8])
-    requires { Taking kind taken slot.now region.old }
-    ensures { Holds kind taken.take slot.now region.old region.new }
+#[tactic(auto, using(model::proofs::Named::place_within, crate::proofs::Areas::lane_lent, crate::proofs::Areas::lane_part, crate::proofs::Ticks::takes_held))]
+pub fn take(region: &mut [u8], kind: Kind, taken: Taken, slot: &[u8])
+    requires { Taking (place_of kind) taken slot.now region.old }
+    ensures { Holds (place_of kind) taken.take slot.now region.old region.new }
 {
     let a = lane_at(kind);
     let e = a + lane::size(kind);
@@ -304,14 +273,13 @@ pub fn take(region: &mut [u8], kind: usize, taken: Taken, slot: &[u8])
 }
 
 // The places that it has open or waiting are marked as used.
+#[tactic(auto, using(model::proofs::Named::place_within, crate::proofs::Places::tightenings_good), unfolding(crate::specs::Region::places_held, places::specs::Free::marked))]
 pub fn mark(region: &[u8], used: &mut [u8])
     requires { Good region.now × (length used.old ≡ place_count) }
     ensures { used.new ≡ marked used.old (places_held region.now) }
 {
-    let x = load(region);
-    let phase = x.phase;
-    if is_started(phase) {
-        places::mark(used, lane::places(lane(region, TIGHTENINGS)));
+    if is_started(load(region).phase) {
+        places::mark(used, lane::places(lane(region, Kind::Tightenings)));
     }
 }
 
@@ -320,11 +288,7 @@ pub fn mark(region: &[u8], used: &mut [u8])
 fn is_started(phase: Phase) -> bool
     ensures { result ≡ is_started_so phase }
 {
-    match phase {
-        Phase::Closed => false,
-        Phase::Opened => false,
-        Phase::Started => true,
-    }
+    matches!(phase, Phase::Started)
 }
 
 // To which kinds of notice it is subscribed.
@@ -333,22 +297,20 @@ fn subscribed(region: &[u8]) -> [bool; KIND_COUNT]
     ensures { (read : Reading) → result ≡ map is_subscribed (subscriptions_in read region.now) }
 {
     let mut known = [false; KIND_COUNT];
-    let mut kind = 0;
-    while kind < KIND_COUNT {
-        known[kind] = lane::is_subscribed(lane(region, kind));
-        kind += 1;
+    for kind in KINDS {
+        known[kind.place()] = lane::is_subscribed(lane(region, kind));
     }
     known
 }
 
 // What the tests of a message look at.
+#[tactic(auto, using(crate::proofs::Walks::stands_so))]
 fn standing(region: &[u8], x: Session, common: Common) -> Standing
     requires { Good region.now }
     ensures { StandsSo x common region.now result }
 {
-    let phase = x.phase;
     Standing {
-        started: is_started(phase),
+        started: is_started(x.phase),
         common,
         subscribed: subscribed(region),
     }
@@ -398,7 +360,7 @@ fn carry_out(region: &mut [u8], d: Decision) -> bool
     let next = d.next;
     store(region, next);
     let deed = d.deed;
-    deal(region, d.kind, deed)
+    deal(region, KINDS[d.kind], deed)
 }
 
 // What the end of a run leaves to say: the reply, whose header, if it is one that was received, stands in the slice that is lent or in the
