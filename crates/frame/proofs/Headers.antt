@@ -9,10 +9,8 @@ use lib.ListN.{length, get_or, take}
 use lib.Seq.{drop-cons}
 use borrow.Author.Tests.{leb-true, le-leb, eq-eqb, ne_eqb}
 use Rattle.model.specs.Limits.{header_length, message_longest}
-use Rattle.model.specs.Bytes.{digit_1, is_digit, is_space, all, places, decimal}
-use Rattle.model.specs.Runs.{is_flag, revision_of, is_message, read_run}
-use Rattle.frame.specs.Header.{header_of}
-use Rattle.frame.specs.declared.Header.TheVariants.{Dropped, Message}
+use Rattle.model.specs.Bytes.{is_digit, is_space, all, places, decimal}
+use Rattle.model.specs.Runs.{is_flag, is_message}
 
 pub left_of : (a b : Bool) → (a || b) ≡ true → b ≡ false → a ≡ true
 left_of true b e f = refl
@@ -89,19 +87,3 @@ module _ (bs : List ℕ) (count : ℕ) where
           by_flag b e f =
               let w : flag_at < length bs = omega arith in
               rw (is_long, is_short, digits, eq-eqb _ _ own, mid, e, byte_12 bs w) (f ∙ sym (and-true _))
-
--- ==== what the header reader answers
-
-module _ (bs : List ℕ) (count : ℕ) where
-  pub dropped : is_message (record { kept = bs; count = count }) ≡ false → Dropped ≡ header_of bs count
-  unfolding header_of read_run
-  dropped e = rw e
-
-  pub heard : {mid revision : ℕ} {flag : Bool} → is_message (record { kept = bs; count = count }) ≡ true
-      → mid ≡ decimal (number_part bs) → revision ≡ revision_of (revision_part bs) → flag ≡ eqb (get_or bs flag_at 0) digit_1
-      → Message count mid revision flag ≡ header_of bs count
-  unfolding header_of read_run
-  heard e m r f = rw (e, byte_12 bs whole, and-true (eqb (get_or bs flag_at 0) digit_1)) (λ i. Message count (m i) (r i) (f i))
-    where
-      whole : flag_at < length bs
-      whole = let w = (header_sound bs count e).whole in omega arith

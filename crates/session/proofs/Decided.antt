@@ -1,5 +1,6 @@
 -- What is true of every decision: it leaves an idle count that a session can have, it mirrors only what is a message, and it tells only of a
 -- tightening that is kept.
+use Rattle.std.specs.Prelude as prelude
 use mathlib.Core.Path.{◌≡◌, refl}
 use mathlib.Core.Bool.{Bool, true, false, not, cond}
 use mathlib.Core.List.{List, [], ◌∷◌}
@@ -20,7 +21,6 @@ use Rattle.message.specs.Meaning.{meant, is_among, standing_of, effect_listed, a
 use Rattle.message.specs.declared.Standing.{Standing}
 use Rattle.frame.specs.Header.{shown, header_of}
 use Rattle.frame.specs.declared.Header.{Header}
-use Rattle.frame.specs.declared.Header.TheVariants.{Dropped, Message}
 use Rattle.frame.proofs.Headers.{header_sound}
 use Rattle.session.specs.Decisions.{begun, replied, start, no_error, accepted, decided_started, decided, decision}
 use Rattle.session.specs.Effects.{decision_on}
@@ -50,10 +50,10 @@ module _ (P : Decision → Type 0) where
         either (eqb mid 1) (either (no_error error) begins (unmoved true mid (error_number error))) (unmoved false mid 0)
     every Started size mid revision no_acknowledge error e = to_started size mid revision no_acknowledge error e
 
-    pub on_any : (h : Header) → P (decision x standing h bs)
+    pub on_any : (h : prelude.Option Header) → P (decision x standing h bs)
     unfolding decision
-    on_any Dropped = unmoved false 0 0
-    on_any (Message size mid revision no_acknowledge) = every x.phase size mid revision no_acknowledge _ refl
+    on_any prelude.None = unmoved false 0 0
+    on_any (prelude.Some h) = every x.phase h.size h.mid h.revision h.no_acknowledge _ refl
 
 -- ==== the idle count is 0, or as it was
 
@@ -72,7 +72,7 @@ accepted_fair mid revision no_acknowledge number (some (acknowledges kind)) = om
 accepted_fair mid revision no_acknowledge number (some (fetches n)) = omega arith
 accepted_fair mid revision no_acknowledge number (some mirrors) = omega arith
 
-pub decided_fair : (x : Session) → x.idle < idle_limit → (standing : Standing) (h : Header) (bs : List ℕ) → Fair (decision x standing h bs)
+pub decided_fair : (x : Session) → x.idle < idle_limit → (standing : Standing) (h : prelude.Option Header) (bs : List ℕ) → Fair (decision x standing h bs)
 decided_fair x few standing h bs =
     on_any Fair x (λ b mid n. few) (omega arith) standing bs (λ size mid revision no_acknowledge error e.
     either Fair (no_error error) (accepted_fair mid revision no_acknowledge (meant standing.common (number_asked bs)) (effect_listed (entry_of mid)))
@@ -131,7 +131,7 @@ module _ (x : Session) (standing : Standing) (bs : List ℕ) (n : ℕ) where
     started_known size o none e = entry_known size o e
     started_known size o (some error) e = unmoved begun (answered (effect_listed o)) mid (error_number (some error))
 
-  pub told_kept : (h : Header) → Known (decision x standing h bs)
+  pub told_kept : (h : prelude.Option Header) → Known (decision x standing h bs)
   unfolding error_of
   told_kept h =
       on_any Known x (unmoved x) (λ q. absurd (let z : ◌≡◌ {A = ℕ} 0 1 = cc in omega arith)) standing bs

@@ -1,4 +1,5 @@
 -- What a run does to a session by value is what the model has it do, whatever subscriptions the session has.
+use Rattle.std.specs.Prelude as prelude
 use mathlib.Core.Path.{◌≡◌, refl, sym, ◌∙◌, ap}
 use mathlib.Core.Bool.{Bool, true, false, cond}
 use mathlib.Core.List.{List, [], ◌∷◌, ◌++◌, map, append-nil}
@@ -35,7 +36,6 @@ use Rattle.message.specs.declared.Common.{Common}
 use Rattle.message.specs.declared.Standing.{Standing}
 use Rattle.frame.specs.Header.{shown, header_of}
 use Rattle.frame.specs.declared.Header.{Header}
-use Rattle.frame.specs.declared.Header.TheVariants.{Message}
 use Rattle.session.specs.Meaning.{session_as}
 use Rattle.session.specs.Control.{session}
 use Rattle.session.specs.Decisions.{begun, replied, start, no_error, accepted, decided_started, decided, decision}
@@ -49,16 +49,16 @@ use Rattle.session.specs.declared.Decision.{Decision}
 -- ==== a decision from its parts
 
 module _ (x : Session) (standing : Standing) (bs : List ℕ) where
-  pub in_phase : {h : Header} {size mid revision number : ℕ} {no_acknowledge : Bool} {error : Option model.Error} {p : Phase} {d : Decision}
-      → h ≡ Message size mid revision no_acknowledge
+  pub in_phase : {header : prelude.Option Header} {h : Header} {number : ℕ} {error : Option model.Error} {p : Phase} {d : Decision}
+      → header ≡ prelude.Some h
       → number ≡ meant standing.common (number_asked bs)
-      → error ≡ error_of (standing_with standing number) mid size revision bs
+      → error ≡ error_of (standing_with standing number) h.mid h.size h.revision bs
       → x.phase ≡ p
-      → d ≡ decided p x mid revision no_acknowledge number error
-      → d ≡ decision x standing h bs
+      → d ≡ decided p x h.mid h.revision h.no_acknowledge number error
+      → d ≡ decision x standing header bs
   unfolding decision
-  in_phase {h} {size} {mid} {revision} {no_acknowledge = no_acknowledge} eh en ee ep ed =
-      let right = rw en at ee ∙ by_number standing bs mid size revision in
+  in_phase {h = h} eh en ee ep ed =
+      let right = rw en at ee ∙ by_number standing bs h.mid h.size h.revision in
       ed ∙ rw (← ep, right, en, eh)
 
 -- ==== where nothing is done to any kind, the subscriptions are as they were, and nothing is sent

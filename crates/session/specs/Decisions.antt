@@ -10,7 +10,6 @@ use Rattle.model.specs.Messages.{number_asked, entry_of, error_of}
 use Rattle.message.specs.Meaning.{effect_listed, answered, meant, standing_of, error_number}
 use Rattle.message.specs.declared.Standing.{Standing}
 use Rattle.frame.specs.declared.Header.{Header}
-use Rattle.frame.specs.declared.Header.TheVariants.{Dropped, Message}
 use Rattle.session.specs.Control.{session, fresh}
 use Rattle.session.specs.declared.Phase.{Phase}
 use Rattle.session.specs.declared.Phase.TheVariants.{Closed, Opened, Started}
@@ -87,9 +86,9 @@ decided Opened x mid revision no_acknowledge number error = decided_opened x mid
 decided Started x mid revision no_acknowledge number error =
     decided_started mid revision no_acknowledge number (effect_listed (entry_of mid)) error
 
--- of a run with that header and that data field, by what the tests look at besides; one that is dropped changes nothing
-unfoldable pub decision : Session → Standing → Header → List ℕ → Decision
-decision x standing Dropped bs = replied None x
-decision x standing (Message size mid revision no_acknowledge) bs =
-    decided x.phase x mid revision no_acknowledge (meant standing.common (number_asked bs))
-    (error_of (standing_of standing) mid size revision bs)
+-- of a run with that header, if it is a message, and that data field, by what the tests look at besides; one that is dropped changes nothing
+unfoldable pub decision : Session → Standing → Option Header → List ℕ → Decision
+decision x standing None bs = replied None x
+decision x standing (Some h) bs =
+    decided x.phase x h.mid h.revision h.no_acknowledge (meant standing.common (number_asked bs))
+    (error_of (standing_of standing) h.mid h.size h.revision bs)

@@ -517,32 +517,34 @@ fn decide_opened(x: Session, mid: u64, found: Result<(), Error>) -> Decision
     }
 }
 
-// What a run does whose header is h.
+// What a run does that has this header, if it is a message.
 #[tactic(auto, unfolding(crate::specs::Decisions::decision))]
-fn decide_read(x: Session, standing: Standing, h: Header, data_field: &[u8]) -> Decision
-    ensures { result ≡ decision x standing h data_field.now }
+fn decide_read(
+    x: Session,
+    standing: Standing,
+    header: Option<Header>,
+    data_field: &[u8],
+) -> Decision
+    ensures { result ≡ decision x standing header data_field.now }
 {
-    let Header::Message {
-        size,
-        mid,
-        revision,
-        no_acknowledge,
-    } = h
-    else {
+    let Some(h) = header else {
         return replied(None, x);
     };
     let number = message::number_meant(standing, data_field);
     let found = message::judge(
         standing,
-        Outline { mid, size },
-        revision,
+        Outline {
+            mid: h.mid,
+            size: h.size,
+        },
+        h.revision,
         number,
         data_field,
     );
     match x.phase {
         Phase::Closed => replied(None, x),
-        Phase::Opened => decide_opened(x, mid, found),
-        Phase::Started => decide_started(mid, revision, no_acknowledge, number, found),
+        Phase::Opened => decide_opened(x, h.mid, found),
+        Phase::Started => decide_started(h.mid, h.revision, h.no_acknowledge, number, found),
     }
 }
 

@@ -4,8 +4,8 @@ use Rattle.session.proofs.decide_read.Goals as goal
 
 pub returns-in-Opened : goal.returns-in-Opened
 returns-in-Opened c =
-    in_phase _ _ _ c.in-Message.is c.number_meant-number.ensures c.judge-found.ensures c.in-Opened.is c.decide_opened.ensures
+    in_phase _ _ _ c.in-Some.is c.number_meant-number.ensures c.judge-found.ensures c.in-Opened.is c.decide_opened.ensures
 
 pub returns-in-Started : goal.returns-in-Started
 returns-in-Started c =
-    in_phase _ _ _ c.in-Message.is c.number_meant-number.ensures c.judge-found.ensures c.in-Started.is c.decide_started.ensures
+    in_phase _ _ _ c.in-Some.is c.number_meant-number.ensures c.judge-found.ensures c.in-Started.is c.decide_started.ensures
