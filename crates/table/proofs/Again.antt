@@ -9,6 +9,7 @@ use mathlib.Core.List.{List}
 use lib.ListN.{length}
 use Rattle.model.specs.Bytes.{in_bytes}
 use Rattle.model.specs.Records.{Settings, record_head}
+use Rattle.model.specs.Named.{place_of}
 use Rattle.model.specs.Kinds.{kind_at, copy_most}
 use Rattle.model.specs.Frames.{event_frame, frame_record}
 use Rattle.text.proofs.Puts.{put_as, put_stands}
@@ -23,8 +24,8 @@ use Rattle.table.specs.Passes.{Last, AskedLent, Copies}
 
 -- the one that has been written is the last
 pub last_now : {st : Settings} {asked : Asked} {p o o' : List ℕ} {to : To} {next : ℕ}
-    → to.at + copy_most (kind_at asked.kind) ≤ length o → Copies st asked p to o next o'
-    → Last st asked.kind p next o' (record { from = to.at; asked = asked })
+    → to.at + copy_most (kind_at (place_of asked.kind)) ≤ length o → Copies st asked p to o next o'
+    → Last st (place_of asked.kind) p next o' (record { from = to.at; asked = asked })
 last_now {to = to} room v =
     let e = v.bytes.place in
     let w = v.within in
@@ -42,12 +43,12 @@ alike {a} {b} e = search rules
 
 -- where the last one was asked for alike
 module _ {t o p : List ℕ} {n : Next} {asked : Asked} (l : AskedLent t o n asked p) {c : Copied}
-    (last : Last (settings_in t) asked.kind p n.to.at o c) where
+    (last : Last (settings_in t) (place_of asked.kind) p n.to.at o c) where
   pub again_lent : Repeatable o n.to c.from
   again_lent =
       let s = last.shown in
       let e = s.stands.ends in
-      let long = record_long s.session (event_frame (settings_in t) c.asked.revision c.asked.no_acknowledge (event_in asked.kind p)) in
+      let long = record_long s.session (event_frame (settings_in t) c.asked.revision c.asked.no_acknowledge (event_in (place_of asked.kind) p)) in
       let f = last.few in
       let few = l.lent.session in
       let room = l.lent.room in
@@ -58,7 +59,7 @@ module _ {t o p : List ℕ} {n : Next} {asked : Asked} (l : AskedLent t o n aske
   copied_again alike v =
       let e = v.place in
       let f = last.few in
-      let said : Asked → List ℕ = λ a. event_frame (settings_in t) a.revision a.no_acknowledge (event_in asked.kind p) in
+      let said : Asked → List ℕ = λ a. event_frame (settings_in t) a.revision a.no_acknowledge (event_in (place_of asked.kind) p) in
       record {
         within = omega arith;
         bytes = put_as (ap (λ (a : Asked). frame_record n.to.session (said a)) alike) (v.put _ last.shown);

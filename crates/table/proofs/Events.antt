@@ -109,21 +109,20 @@ front_means t a payload x n rs h k =
 
 -- what is no tightening has no number
 module _ {t place : List ℕ} (h : Table t) where
-  other_to : (kind : ℕ) → kind < length kinds → (kind ≡ tightenings → ⊥) → length place ≡ place_size kind → EventTo t kind place
-  other_to kind few n e = record { table = h; known = few; place = e; number = λ q. absurd (n q) }
+  other_to : (kind : ℕ) → (kind ≡ tightenings → ⊥) → length place ≡ place_size kind → EventTo t kind place
+  other_to kind n e = record { table = h; place = e; number = λ q. absurd (n q) }
 
   pub identifier_to : length place ≡ place_size identifiers → EventTo t identifiers place
-  identifier_to e = other_to identifiers (omega arith) (λ q. omega arith) e
+  identifier_to e = other_to identifiers (λ q. omega arith) e
 
   pub alarm_to : length place ≡ place_size alarms → EventTo t alarms place
-  alarm_to e = other_to alarms (omega arith) (λ q. omega arith) e
+  alarm_to e = other_to alarms (λ q. omega arith) e
 
 -- the sessions that see it leave the last number as it was
 pub still_to : {t t₁ place : List ℕ} {kind : ℕ} (l : Local) → EventTo t kind place → Becomes t (next (decode t) (to_all l)) t₁
     → EventTo t₁ kind place
 still_to l h b = record {
   table = b.table;
-  known = h.known;
   place = h.place;
   number = λ q. h.number q ∙ ap (λ (w : World). suc w.shared.last) (sym b.meaning);
 }

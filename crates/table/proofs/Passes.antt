@@ -2,12 +2,14 @@
 use mathlib.Core.Path.{◌≡◌, refl, sym, ap, ◌∙◌}
 use Prim.Native.Nat.{ℕ, ◌+◌, ◌≤◌, ◌<◌}
 use native.Mathlib.Omega.{arith}
-use mathlib.Core.Bool.{true, false, cond}
+use mathlib.Core.Bool.{Bool, true, false, cond}
 use Rattle.std.specs.Prelude.{Option, Some, None, IfSome}
 use Rattle.std.proofs.lemmas.Option.{IfSome_then}
 use mathlib.Core.List.{List, [], ◌∷◌}
 use lib.ListN.{length}
 use Rattle.model.specs.Sharing.{Shared}
+use Rattle.model.specs.Named.{place_of}
+use Rattle.model.specs.declared.Kind.{Kind}
 use Rattle.model.specs.Kinds.{kinds, tightenings, kind_at, copy_most, copies_most}
 use Rattle.model.specs.Records.{settings_of}
 use Rattle.model.specs.Limits.{session_count}
@@ -28,7 +30,6 @@ use Rattle.lane.specs.Lane.{Reading, is_told}
 use Rattle.shared.specs.Shared.{settings_part}
 use Rattle.region.specs.Region.{session_of, subscription_in, places_held, Good}
 use Rattle.region.specs.Said.{copies_out, Ticks, tick_said, Takes, event_said}
-use Rattle.region.specs.declared.Ticked.{Ticked}
 use Rattle.table.specs.Table.{shared_area, region_in, reading_in, decode, settings_in, Becomes, Went}
 use Rattle.table.specs.Says.{Lent, DueLent, asked_in}
 use Rattle.table.specs.Passes.{Last, AskedLent, Copies, Stands, no_more, AddsIf, held_by, KeepLent, Keeps, EventLent, TellsOne}
@@ -65,20 +66,19 @@ module _ {t o : List ℕ} {to : To} {most : ℕ} (l : Lent t o to most) {r : Lis
 
 -- ==== a tick
 
-module _ {t o : List ℕ} {to : To} (l : Lent t o to (copies_most kinds)) {ticked : Ticked} {r : List ℕ}
-    (w : Ticks (reading_in t) (part t to.session) ticked r) where
-  pub due_lent : DueLent (put t to.session r) o to ticked.due
-  due_lent = record {
+module _ {t o : List ℕ} {to : To} (l : Lent t o to (copies_most kinds)) {r : List ℕ} where
+  pub due_lent : {due : List Bool} → Ticks (reading_in t) (part t to.session) (Some due) r → DueLent (put t to.session r) o to due
+  due_lent w = record {
     lent = still_lent l w.good;
     ready = rw (there l w.good, put_reading t to.session r l.table.size l.session w.good.size) w.ready;
   }
 
-  pub tick_passed : {next : ℕ} {o' : List ℕ}
-      → Put o to.at (out_bytes to.session (tick_said (reading_in (put t to.session r)) (settings_in (put t to.session r)) ticked
+  pub tick_passed : {left : Option (List Bool)} {next : ℕ} {o' : List ℕ} → Ticks (reading_in t) (part t to.session) left r
+      → Put o to.at (out_bytes to.session (tick_said (reading_in (put t to.session r)) (settings_in (put t to.session r)) left
       (region_in to.session (put t to.session r)))) next o'
       → Went t o to.at (to_one to.session tick ∷ []) next (put t to.session r) o'
   unfolding decode
-  tick_passed = passed l w.good tick (λ read g z. tick_said read g.settings ticked z) (w.steps (decode t).shared)
+  tick_passed {left = left} w = passed l w.good tick (λ read g z. tick_said read g.settings left z) (w.steps (decode t).shared)
 
 -- ==== an event
 
@@ -168,8 +168,11 @@ kept_not {t} {s} {kind} {p} {take} {place} k w =
     none_more None held = refl
     none_more (Some q) held = no_more
 
-module _ {t o : List ℕ} {n : Next} {kind : ℕ} {p : List ℕ} (e : EventLent t o n kind p) {take : Take} {t₁ : List ℕ}
-    {place : Option ℕ} (w : Keeps t n.to.session kind p n.place take t₁ place) where
+module _ {t o : List ℕ} {n : Next} {k : Kind} {p : List ℕ} (e : EventLent t o n (place_of k) p) {take : Take} {t₁ : List ℕ}
+    {place : Option ℕ} (w : Keeps t n.to.session (place_of k) p n.place take t₁ place) where
+  abbrev kind : ℕ
+  kind = place_of k
+
   -- what was written last is so by the settings, which are as they were
   last_still : IfSome n.copied (Last (settings_in t₁) kind p n.to.at o)
   last_still = rw w.settings e.last
@@ -177,9 +180,9 @@ module _ {t o : List ℕ} {n : Next} {kind : ℕ} {p : List ℕ} (e : EventLent 
   pub keeps_lent : Lent t₁ o n.to (copy_most (kind_at kind))
   keeps_lent = record { table = w.becomes.table; session = e.lent.session; room = e.lent.room }
 
-  pub asked_lent : {asked : Asked} → asked ≡ asked_in kind (region_in n.to.session t₁)
+  pub asked_lent : {asked : Asked} → asked ≡ asked_in k (region_in n.to.session t₁)
       → AskedLent t₁ o (record { to = n.to; copied = n.copied; place = place }) asked p
-  asked_lent q = rw q (record { known = e.known; lent = keeps_lent; place = e.notice; last = last_still })
+  asked_lent q = rw q (record { lent = keeps_lent; place = e.notice; last = last_still })
 
   told_one : {at : ℕ} {o' : List ℕ} {copied : Option Copied} → at ≤ n.to.at + copy_most (kind_at kind)
       → Put o n.to.at (out_bytes n.to.session (cond (is_told take) (copies_out (settings_in t) kind
@@ -210,7 +213,7 @@ module _ {t o : List ℕ} {n : Next} {kind : ℕ} {p : List ℕ} (e : EventLent 
   told_nothing b = told_one (omega arith) (rw b (put_nothing o n.to.at)) last_still
 
   -- a copy went out: it is the last
-  pub told_copy : {at : ℕ} {o' : List ℕ} {asked : Asked} → is_told take ≡ true → asked ≡ asked_in kind (region_in n.to.session t₁)
+  pub told_copy : {at : ℕ} {o' : List ℕ} {asked : Asked} → is_told take ≡ true → asked ≡ asked_in k (region_in n.to.session t₁)
       → Copies (settings_in t₁) asked p n.to o at o'
       → TellsOne t o n kind p (is_taken take) t₁ o' (record {
         to = record { session = n.to.session; at = at };
@@ -220,5 +223,5 @@ module _ {t o : List ℕ} {n : Next} {kind : ℕ} {p : List ℕ} (e : EventLent 
   told_copy b q v =
       let u = rw q at v in
       rw q (told_one u.within
-      (rw (b, ← w.settings) (put_as (copy_said (reading_in t₁) (settings_in t₁) n.to.session kind (region_in n.to.session t₁) p
+      (rw (b, ← w.settings) (put_as (copy_said (reading_in t₁) (settings_in t₁) n.to.session k (region_in n.to.session t₁) p
       (w.ready b)) u.bytes)) (last_now e.lent.room u))

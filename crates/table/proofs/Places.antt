@@ -16,12 +16,12 @@ use Rattle.places.specs.Places.{place_count, places_size, place_in, Putting, Put
 use Rattle.places.specs.Free.{lacks, is_free, marked, marked_by_all, first_free}
 use Rattle.places.proofs.Marks.{Fewer, free_there}
 use Rattle.lane.specs.Kinds.{most}
-use Rattle.region.specs.Region.{region_size, region_formed, session_of, places_held, Good}
+use Rattle.region.specs.Region.{region_size, region_formed, session_of, places_held}
 use Rattle.region.proofs.Places.{Agree, areas_alike, same_session, holds_few}
 use Rattle.table.specs.Table.{places_area, region_at, region_in, regions, reading, reading_in, decode, Table}
 use Rattle.table.specs.Passes.{Stands, Adds, no_more, AddsIf, held_by, Roomy, StandLent, Stood, TellsOne, OneCopy, Notes}
 use Rattle.table.specs.declared.Next.{Next}
-use Rattle.table.proofs.Regions.{part_in, part_good, length_regions, region_read, formed_parts, becomes_of, holds_as_before}
+use Rattle.table.proofs.Regions.{part_in, region_good, length_regions, region_read, formed_parts, becomes_of, holds_as_before}
 use Rattle.table.proofs.Regions.{length_places, middle, middle_size, middle_past, middle_shared, middle_places, middle_region}
 use Rattle.table.proofs.Regions.{middle_regions}
 
@@ -30,9 +30,6 @@ abbrev pub each_holds : List ℕ → List (List ℕ)
 each_holds t = regions places_held t
 
 module _ (t : List ℕ) (h : Table t) where
-  good_in : (s : ℕ) → s < session_count → Good (region_in s t)
-  good_in s few = subst Good (part_in t s) (part_good t s h few)
-
   holds_at : (s : ℕ) → s < session_count → get_or (each_holds t) s [] ≡ places_held (region_in s t)
   holds_at s few = region_read places_held t s [] few ∙ ap places_held (part_in t s)
 
@@ -42,7 +39,7 @@ module _ (t : List ℕ) (h : Table t) where
       let n = length_regions places_held t in
       record {
         most_each = λ i few. let k : i < session_count = omega arith in
-            rw (holds_at i k) (holds_few (region_in i t) (good_in i k));
+            rw (holds_at i k) (holds_few (region_in i t) (region_good t i h k));
         session = rw n room.there;
         fewer = rw (holds_at room.session room.there) room.fewer;
       }
@@ -101,7 +98,7 @@ module _ (t : List ℕ) (h : Table t) where
           ∙ middle_regions t a h.size long (session_of (reading a))
           ∙ areas_alike (λ (s : ℕ). session_of (reading a)) (λ (s : ℕ). session_of (reading_in t)) region_at (λ (s : ℕ). region_size) t 0
           session_count (λ j k. let b : j < session_count = omega arith in
-          same_session q (reading a) (reading_in t) agree (region_in j t) (good_in j b) (none_holds j b)));
+          same_session q (reading a) (reading_in t) agree (region_in j t) (region_good t j h b) (none_holds j b)));
       shared = middle_shared t a h.size long;
       regions = λ s k. middle_region t a h.size long s;
     }

@@ -6,7 +6,8 @@ use Rattle.model.specs.Limits.{session_count}
 use Rattle.model.specs.Runs.{Piece}
 use Rattle.model.specs.Records.{Settings}
 use Rattle.model.specs.Frames.{event_frame, frame_record}
-use Rattle.model.specs.Kinds.{kinds, kind_at, tightenings, copy_most, session_most, event_most, receive_most}
+use Rattle.model.specs.Named.{place_of}
+use Rattle.model.specs.Kinds.{kind_at, tightenings, copy_most, event_most, receive_most}
 use Rattle.model.specs.Events.{identified}
 use Rattle.model.specs.Notices.{is_subscribed}
 use Rattle.model.specs.Local.{event, takes, announces, step}
@@ -24,19 +25,17 @@ use Rattle.session.specs.Meaning.{is_taken}
 use Rattle.session.specs.declared.Take.{Take}
 use Rattle.session.specs.declared.Taken.{Taken}
 use Rattle.region.specs.Region.{places_held, subscription_in}
-use Rattle.region.specs.Said.{copies_out, Answers, ending, Knows}
+use Rattle.region.specs.Said.{copies_out, Answers}
 use Rattle.table.specs.Table.{shared_area, places_area, region_in, reading_in, decode, settings_in, Table, Becomes, noted, Went}
 use Rattle.table.specs.Says.{Lent}
 use Rattle.table.specs.declared.Copied.{Copied}
 use Rattle.table.specs.declared.Next.{Next}
 use Rattle.table.specs.declared.Told.{Told}
-use Rattle.table.specs.declared.Heard.{Heard}
 
 -- ==== an event of a kind, whose notice has the bytes p; a tightening has the next number
 
 pub record EventTo (t : List ℕ) (kind : ℕ) (p : List ℕ) : Type 0 where
   pub table : Table t
-  pub known : kind < length kinds
   pub place : length p ≡ place_size kind
   pub number : kind ≡ tightenings → (result_of p).number ≡ suc (decode t).shared.last
 
@@ -47,16 +46,15 @@ pub record Last (st : Settings) (kind : ℕ) (p : List ℕ) (at : ℕ) (o : List
 
 -- for a copy, as it is asked for
 pub record AskedLent (t o : List ℕ) (n : Next) (asked : Asked) (p : List ℕ) : Type 0 where
-  pub known : asked.kind < length kinds
-  pub lent : Lent t o n.to (copy_most (kind_at asked.kind))
-  pub place : length p ≡ place_size asked.kind
-  pub last : IfSome n.copied (Last (settings_in t) asked.kind p n.to.at o)
+  pub lent : Lent t o n.to (copy_most (kind_at (place_of asked.kind)))
+  pub place : length p ≡ place_size (place_of asked.kind)
+  pub last : IfSome n.copied (Last (settings_in t) (place_of asked.kind) p n.to.at o)
 
 -- it was written
 pub record Copies (st : Settings) (asked : Asked) (p : List ℕ) (to : To) (o : List ℕ) (next : ℕ) (o' : List ℕ) : Type 0 where
-  pub within : next ≤ to.at + copy_most (kind_at asked.kind)
+  pub within : next ≤ to.at + copy_most (kind_at (place_of asked.kind))
   pub bytes : Put o to.at (frame_record to.session
-      (event_frame st asked.revision asked.no_acknowledge (event_in asked.kind p))) next o'
+      (event_frame st asked.revision asked.no_acknowledge (event_in (place_of asked.kind) p))) next o'
 
 -- ==== 02, P7: a result that is to be held stands in one place
 
@@ -112,7 +110,6 @@ pub record PlacedLent (t : List ℕ) (s : ℕ) (taken : Taken) (p : List ℕ) (p
 pub record KeepLent (t : List ℕ) (s kind : ℕ) (p : List ℕ) (place : Option ℕ) : Type 0 where
   pub table : Table t
   pub session : s < session_count
-  pub known : kind < length kinds
   pub notice : length p ≡ place_size kind
   pub stands : kind ≡ tightenings → IfSome place (Stands t p)
 
@@ -133,7 +130,6 @@ pub record Keeps (t : List ℕ) (s kind : ℕ) (p : List ℕ) (place : Option �
 
 -- for the event, to one session, with an output
 pub record EventLent (t o : List ℕ) (n : Next) (kind : ℕ) (p : List ℕ) : Type 0 where
-  pub known : kind < length kinds
   pub lent : Lent t o n.to (copy_most (kind_at kind))
   pub notice : length p ≡ place_size kind
   pub last : IfSome n.copied (Last (settings_in t) kind p n.to.at o)
@@ -177,12 +173,6 @@ pub record Happens (t o : List ℕ) (at kind : ℕ) (p : List ℕ) (r : Told) (t
   pub one_copy : OneCopy kind t t'
 
 -- ==== received bytes
-
--- bytes that end a run of a session: what goes to that session, and the identifier that they make known
-pub record Hears (t o : List ℕ) (to : To) (bs place : List ℕ) (r : Heard) (t' o' place' : List ℕ) : Type 0 where
-  pub within : r.at ≤ to.at + session_most
-  pub went : Went t o to.at (hears to.session (ending bs) ∷ []) r.at t' o'
-  pub knows : Knows (announces (decode t).shared (ending bs) (session_at (decode t) to.session)) place r.identified place'
 
 -- a session hears a piece, and behind it all sessions of the identifier that it makes known
 abbrev pub heard_by_all : World → ℕ → Piece → List Moment

@@ -2,6 +2,7 @@
 #![tactic(auto)]
 
 ghost use Rattle.std.specs.Prelude.{◌≡◌, true, cond, [], ◌∷◌, suc, ◌+◌, ◌≤◌, ◌<◌, length};
+ghost use Rattle.model.specs.Named.{place_of};
 ghost use Rattle.model.specs.Limits.{session_count, table_least, identifier_length, number_greatest};
 ghost use Rattle.model.specs.Records.{settings_of, settings_length};
 ghost use Rattle.model.specs.Kinds.{kinds, tightenings, kind_at, copy_most, copies_most, session_most, event_most, receive_most, tick_most};
@@ -21,14 +22,14 @@ ghost use Rattle.table.specs.Table.{shared_area, places_area, region_in, regions
 ghost use Rattle.table.specs.Table.{table_formed, Table, Openable, Becomes};
 ghost use Rattle.table.specs.Table.{WentUpTo, region_range};
 ghost use Rattle.table.specs.Says.{Lent, Wrote, CopyLent, OpenLent, DueLent, EndLent, subscription_to, subscriptions_to};
-ghost use Rattle.table.specs.Says.{Asking, Opened, asked_in, told_by as told_so};
-ghost use Rattle.table.specs.Passes.{EventTo, AskedLent, Copies, EventLent, TellsOne, Tells, Happens, Hears, unended};
+ghost use Rattle.table.specs.Says.{Opened, asked_in, told_by as told_so};
+ghost use Rattle.table.specs.Passes.{EventTo, AskedLent, Copies, EventLent, TellsOne, Tells, Happens, unended};
 ghost use Rattle.table.specs.Passes.{Roomy, StandLent, Stood, PlacedLent, KeepLent, Keeps, Notes};
 ghost use Rattle.table.specs.Passes.{Received};
 
 use frame::{Asked, To};
 use message::Common;
-use model::{ALARMS, IDENTIFIER_LENGTH, IDENTIFIERS, KIND_COUNT, SESSION_COUNT, TIGHTENINGS};
+use model::{KIND_COUNT, KINDS, Kind, SESSION_COUNT};
 use region::Ended;
 use session::{Form, Reply, Take, Taken};
 use std::ops::Range;
@@ -158,9 +159,9 @@ pub fn hang_up(table: &mut [u8], s: u64)
 // ---- saying: the table is lent beside the output
 
 // How a session asked for notices of that kind.
-#[tactic(auto, using(crate::proofs::Says::region_long, crate::proofs::Says::lane_long))]
-fn asked_by(table: &[u8], s: u64, kind: usize) -> Asked
-    requires { Asking table.now s kind }
+#[tactic(auto, using(crate::proofs::Says::region_long))]
+fn asked_by(table: &[u8], s: u64, kind: Kind) -> Asked
+    requires { Table table.now × (s < session_count) }
     ensures { result ≡ asked_in kind (region_in s table.now) }
 {
     let subscription = lane::load(region::lane(region_of(table, s), kind));
@@ -172,38 +173,35 @@ fn asked_by(table: &[u8], s: u64, kind: usize) -> Asked
 }
 
 // The bytes of the open notice of that kind: they stand in a place, or in the lane itself.
-fn open_notice(table: &[u8], s: u64, kind: usize) -> &[u8]
-    requires { Opened table.now s kind }
-    ensures { result.now ≡ kept_in (places_area table.now) kind
-        (first_in kind (lane_in kind (region_in s table.now))) }
+fn open_notice(table: &[u8], s: u64, kind: Kind) -> &[u8]
+    requires { Opened table.now s (place_of kind) }
+    ensures { result.now ≡ kept_in (places_area table.now) (place_of kind)
+        (first_in (place_of kind) (lane_in (place_of kind) (region_in s table.now))) }
 {
     let slot = lane::first(region::lane(region_of(table, s), kind), kind);
-    if kind == TIGHTENINGS {
+    if kind == Kind::Tightenings {
         return places::at(&table[SHARED..REGIONS], usize::from(slot[0]));
     }
     slot
 }
 
 // A copy of a notice, to a session that is subscribed to its kind.
-fn put_copy(table: &[u8], out: &mut [u8], to: To, kind: usize, notice: &[u8]) -> usize
-    requires { CopyLent table.now out.old to kind notice.now }
-    ensures { Wrote (copy_most (kind_at kind)) (copies_out (settings_in table.now) kind
-        (subscription_to to kind table.now) (notice_in kind notice.now ∷ [])) to out.old result
-        out.new }
+fn put_copy(table: &[u8], out: &mut [u8], to: To, kind: Kind, notice: &[u8]) -> usize
+    requires { CopyLent table.now out.old to (place_of kind) notice.now }
+    ensures { Wrote (copy_most (kind_at (place_of kind))) (copies_out (settings_in table.now) (place_of kind)
+        (subscription_to to (place_of kind) table.now) (notice_in (place_of kind) notice.now ∷ []))
+        to out.old result out.new }
 {
     let asked = asked_by(table, to.session, kind);
     frame::put_copy(out, to, asked, settings(table), notice)
 }
 
-// A copy of the open notice of that kind, where one is due.
-fn say_one(table: &[u8], out: &mut [u8], to: To, kind: usize, due: bool) -> usize
-    requires { OpenLent table.now out.old to kind «due» }
-    ensures { Wrote (copy_most (kind_at kind)) (due_copy (settings_in table.now) kind «due»
-        (subscription_to to kind table.now)) to out.old result out.new }
+// A copy of the open notice of that kind, of which one is due.
+fn say_one(table: &[u8], out: &mut [u8], to: To, kind: Kind) -> usize
+    requires { OpenLent table.now out.old to (place_of kind) }
+    ensures { Wrote (copy_most (kind_at (place_of kind))) (due_copy (settings_in table.now) (place_of kind)
+        true (subscription_to to (place_of kind) table.now)) to out.old result out.new }
 {
-    if !due {
-        return to.at;
-    }
     put_copy(table, out, to, kind, open_notice(table, to.session, kind))
 }
 
@@ -213,12 +211,11 @@ fn say(table: &[u8], out: &mut [u8], to: To, due: [bool; KIND_COUNT]) -> usize
     ensures { Wrote (copies_most kinds) (due_copies (settings_in table.now) 0 due
         (subscriptions_to to table.now)) to out.old result out.new }
 {
-    let session = to.session;
     let mut at = to.at;
-    let mut kind = 0;
-    while kind < KIND_COUNT {
-        at = say_one(table, out, To { session, at }, kind, due[kind]);
-        kind += 1;
+    for kind in KINDS {
+        if due[kind.place()] {
+            at = say_one(table, out, To { at, ..to }, kind);
+        }
     }
     at
 }
@@ -231,12 +228,10 @@ fn tick_session(table: &mut [u8], out: &mut [u8], to: To) -> usize
     ensures { WentUpTo table.old out.old to.at (copies_most kinds)
         (to_one to.session one_tick ∷ []) result table.new out.new }
 {
-    let ticked = region::tick(&mut table[range_of(to.session)]);
-    if ticked.closes {
-        return frame::put_close(out, to);
+    match region::tick(&mut table[range_of(to.session)]) {
+        Some(due) => say(table, out, to, due),
+        None => frame::put_close(out, to),
     }
-    let due = ticked.due;
-    say(table, out, to, due)
 }
 
 // To every session, in order.
@@ -323,18 +318,18 @@ fn keep_placed(table: &mut [u8], s: u64, taken: Taken, res: &[u8], place: Option
     ensures { Keeps table.old s tightenings res.now place taken.take table.new (Some result) }
 {
     let stands = stand(table, res, place);
-    region::take(&mut table[range_of(s)], TIGHTENINGS, taken, &[stands as u8]);
+    region::take(&mut table[range_of(s)], Kind::Tightenings, taken, &[stands as u8]);
     stands
 }
 
 // An event of that kind, to one session, which holds its notice or does not: what becomes of it, and the place where it stands then.
-fn keep(table: &mut [u8], s: u64, kind: usize, notice: &[u8], place: &mut Option<usize>) -> Take
-    requires { KeepLent table.old s kind notice.now place.old }
-    ensures { Keeps table.old s kind notice.now place.old result table.new place.new }
+fn keep(table: &mut [u8], s: u64, kind: Kind, notice: &[u8], place: &mut Option<usize>) -> Take
+    requires { KeepLent table.old s (place_of kind) notice.now place.old }
+    ensures { Keeps table.old s (place_of kind) notice.now place.old result table.new place.new }
 {
     let taken = region::taking(region_of(table, s), kind);
     if lane::is_held(taken.take) {
-        if kind == TIGHTENINGS {
+        if kind == Kind::Tightenings {
             *place = Some(keep_placed(table, s, taken, notice, *place));
         } else {
             region::take(&mut table[range_of(s)], kind, taken, notice);
@@ -348,11 +343,11 @@ fn tell_session(
     table: &mut [u8],
     out: &mut [u8],
     next: &mut Next,
-    kind: usize,
+    kind: Kind,
     notice: &[u8],
 ) -> bool
-    requires { EventLent table.old out.old next.old kind notice.now }
-    ensures { TellsOne table.old out.old next.old kind notice.now result table.new
+    requires { EventLent table.old out.old next.old (place_of kind) notice.now }
+    ensures { TellsOne table.old out.old next.old (place_of kind) notice.now result table.new
         out.new next.new }
 {
     let take = keep(table, next.to.session, kind, notice, &mut next.place);
@@ -366,9 +361,9 @@ fn tell_session(
 }
 
 // An event of that kind to every session, in order.
-fn tell(table: &mut [u8], out: &mut [u8], at: usize, kind: usize, notice: &[u8]) -> Told
-    requires { EventTo table.old kind notice.now × (at + event_most kind ≤ length out.old) }
-    ensures { Tells table.old out.old at kind notice.now result table.new out.new }
+fn tell(table: &mut [u8], out: &mut [u8], at: usize, kind: Kind, notice: &[u8]) -> Told
+    requires { EventTo table.old (place_of kind) notice.now × (at + event_most (place_of kind) ≤ length out.old) }
+    ensures { Tells table.old out.old at (place_of kind) notice.now result table.new out.new }
 {
     let mut next = Next {
         to: To { session: 0, at },
@@ -389,24 +384,21 @@ fn tell(table: &mut [u8], out: &mut [u8], at: usize, kind: usize, notice: &[u8])
 }
 
 // What the event leaves to all sessions: the identifier in force, or the last number and the tightening that has it; an alarm nothing.
-fn note(table: &mut [u8], kind: usize, notice: &[u8])
-    requires { EventTo table.old kind notice.now }
-    ensures { Notes table.old kind notice.now table.new }
+fn note(table: &mut [u8], kind: Kind, notice: &[u8])
+    requires { EventTo table.old (place_of kind) notice.now }
+    ensures { Notes table.old (place_of kind) notice.now table.new }
 {
-    if kind == IDENTIFIERS {
-        shared::put_in_force(&mut table[0..SHARED], notice);
-        return;
+    match kind {
+        Kind::Identifiers => shared::put_in_force(&mut table[0..SHARED], notice),
+        Kind::Tightenings => shared::remember(&mut table[0..SHARED], notice),
+        Kind::Alarms => {}
     }
-    if kind == ALARMS {
-        return;
-    }
-    shared::remember(&mut table[0..SHARED], notice);
 }
 
 // An event of that kind, whose notice is in those bytes.
-pub fn happens(table: &mut [u8], out: &mut [u8], at: usize, kind: usize, notice: &[u8]) -> Told
-    requires { EventTo table.old kind notice.now × (at + event_most kind ≤ length out.old) }
-    ensures { Happens table.old out.old at kind notice.now result table.new
+pub fn happens(table: &mut [u8], out: &mut [u8], at: usize, kind: Kind, notice: &[u8]) -> Told
+    requires { EventTo table.old (place_of kind) notice.now × (at + event_most (place_of kind) ≤ length out.old) }
+    ensures { Happens table.old out.old at (place_of kind) notice.now result table.new
         out.new }
 {
     let told = tell(table, out, at, kind, notice);
@@ -429,19 +421,16 @@ fn lengthen(table: &mut [u8], s: u64, bytes: &[u8])
 fn ended_in<'a>(bytes: &'a [u8], kept: &'a [u8], whole: bool) -> &'a [u8]
     ensures { result.now ≡ cond whole bytes.now kept.now }
 {
-    if whole {
-        return bytes;
-    }
-    kept
+    if whole { bytes } else { kept }
 }
 
 // What a reply tells besides the settings: of a tightening that is kept its payload, as it stands; of a 9999 the run.
-fn told_by<'a>(table: &'a [u8], run: &'a [u8], reply: Reply) -> &'a [u8]
+fn told_by<'a>(table: &'a [u8], run: &'a [u8], reply: Option<Reply>) -> &'a [u8]
     requires { table_least ≤ length table.now }
     ensures { result.now ≡ told_so (shared_area table.now) run.now reply }
 {
     match reply {
-        Reply::Kept { number } => shared::kept(&table[0..SHARED], number),
+        Some(Reply::Kept { number }) => shared::kept(&table[0..SHARED], number),
         _ => run,
     }
 }
@@ -454,34 +443,11 @@ fn answer<'a>(table: &'a [u8], out: &mut [u8], to: To, bytes: &'a [u8], ended: E
 {
     let kept = region::run_bytes(region_of(table, to.session));
     let run = ended_in(bytes, kept, ended.whole);
-    let reply = ended.reply;
-    let at = session::put_reply(out, to, settings(table), told_by(table, run, reply), reply);
-    let behind = To {
-        session: to.session,
-        at,
-    };
-    say_one(table, out, behind, ended.kind, ended.sends)
-}
-
-// What came of the end of a run: the place behind what went out, and whether an identifier was made known.
-#[derive(Clone, Copy)]
-struct Heard {
-    at: usize,
-    identified: bool,
-}
-
-// The bytes end a run of a session. An identifier that is made known is put in `place`.
-fn hear(table: &mut [u8], out: &mut [u8], to: To, bytes: &[u8], place: &mut [u8]) -> Heard
-    requires { Lent table.old out.old to session_most × (length place.old ≡ identifier_length) }
-    ensures { Hears table.old out.old to bytes.now place.old result table.new
-        out.new place.new }
-{
-    let common = common(table);
-    let ended = region::end_run(&mut table[range_of(to.session)], common, bytes, place);
-    let at = answer(table, out, to, bytes, ended);
-    Heard {
-        at,
-        identified: ended.identified,
+    let told = told_by(table, run, ended.reply);
+    let at = session::put_reply(out, to, settings(table), told, ended.reply);
+    match ended.due {
+        Some(kind) => say_one(table, out, To { at, ..to }, kind),
+        None => at,
     }
 }
 
@@ -491,13 +457,13 @@ fn end_run(table: &mut [u8], out: &mut [u8], to: To, bytes: &[u8]) -> usize
     ensures { Received table.old out.old to (ending bytes.now) result table.new
         out.new }
 {
-    let mut place = [0; IDENTIFIER_LENGTH];
-    let heard = hear(table, out, to, bytes, &mut place);
-    if heard.identified {
-        let told = happens(table, out, heard.at, IDENTIFIERS, &place);
-        return told.at;
+    let common = common(table);
+    let ended = region::end_run(&mut table[range_of(to.session)], common, bytes);
+    let at = answer(table, out, to, bytes, ended);
+    match ended.identified {
+        Some(identifier) => happens(table, out, at, Kind::Identifiers, &identifier).at,
+        None => at,
     }
-    heard.at
 }
 
 // Received bytes to a session, which are read up to `end`.
