@@ -1,9 +1,9 @@
 -- A tick and an event, to a session in its region.
 use mathlib.Core.Path.{◌≡◌, refl, sym, ap, subst, ◌∙◌}
-use mathlib.Core.Bool.{Bool, true, false, true≢false}
+use mathlib.Core.Bool.{Bool, false, true≢false}
 use mathlib.Core.Logic.{◌⊎◌, ⊎_elim}
 use mathlib.Core.List.{List, [], ◌∷◌}
-use Rattle.std.specs.Prelude.{Some, None}
+use Rattle.std.specs.Prelude.{Option, Some, None}
 use Prim.Native.Nat.{ℕ, ◌+◌, ◌-◌, ◌<◌}
 use lib.Dec.{eqb}
 use lib.ListN.{length, replicate}
@@ -31,8 +31,6 @@ use Rattle.session.specs.declared.Session.{Session}
 use Rattle.session.specs.declared.Take.{Take}
 use Rattle.session.specs.declared.Take.TheVariants.{Not}
 use Rattle.session.specs.declared.Taken.{Taken}
-use Rattle.session.specs.declared.Idling.{Idling}
-use Rattle.session.specs.declared.Idling.TheVariants.{Stays, TimesOut}
 use Rattle.session.proofs.Idles.{idle_right}
 use Rattle.run.specs.Area.{run_of}
 use Rattle.head.specs.Head.{head_of}
@@ -97,34 +95,30 @@ module _ (read : Reading) where
   -- ==== a tick
 
   module _ (r : List ℕ) (x : Session) (ex : x ≡ head_of (head_area r)) (few : x.idle < idle_limit) where
-    ticked : (g : Shared) (i : Idling) → i ≡ idled x
+    ticked : (g : Shared) (i : Option Session) → i ≡ idled x
         → step g tick (session_of read r) ≡ ticked_so g.settings (run_of (run_area r)) (subscriptions_in read r) i
     ticked g i e =
         ap (step g tick) (means_so r x ex) ∙ idle_right g (run_of (run_area r)) (subscriptions_in read r) x few
         ∙ ap (ticked_so g.settings (run_of (run_area r)) (subscriptions_in read r)) (sym e)
 
-    pub tick_stays : (i : Idling) (y : Session) (due : List Bool) (r' : List ℕ) → i ≡ idled x → i ≡ Stays y → TickStays read y r due r'
+    pub tick_stays : {y : Session} {due : List Bool} {r' : List ℕ} → Some y ≡ idled x → TickStays read y r due r'
         → Ticks read r (Some due) r'
-    tick_stays i y due r' ei ey w = record {
+    tick_stays {y} e w = record {
       good = w.good;
       size = w.size;
       ready = w.ready;
-      steps = λ g.
-          ticked g i ei ∙ ap (ticked_so g.settings (run_of (run_area r)) (subscriptions_in read r)) ey ∙ w.steps g.settings;
+      steps = λ g. ticked g (Some y) e ∙ w.steps g.settings;
     }
 
-    pub tick_closes : (i : Idling) (r' : List ℕ) → i ≡ idled x → i ≡ TimesOut
-        → Changes read r cleared (run_of (run_area r)) (subscriptions_in read r) r'
+    pub tick_closes : {r' : List ℕ} → None ≡ idled x → Changes read r cleared (run_of (run_area r)) (subscriptions_in read r) r'
         → Ticks read r None r'
-    tick_closes i r' ei ey c =
+    tick_closes e c =
         let b = c.becomes in
         record {
           good = b.good;
           size = b.size;
           ready = tt;
-          steps = λ g.
-              ticked g i ei ∙ ap (ticked_so g.settings (run_of (run_area r)) (subscriptions_in read r)) ey
-              ∙ ap (λ (m : model.Session). (m, close ∷ [])) (sym (means read b));
+          steps = λ g. ticked g None e ∙ ap (λ (m : model.Session). (m, close ∷ [])) (sym (means read b));
         }
 
   -- ==== an event

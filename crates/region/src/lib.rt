@@ -28,7 +28,7 @@ ghost use Rattle.region.specs.Said.{StandsSo, Ruled, CarryingOut, CarriesOut, en
 
 use message::{Common, Standing};
 use model::{IDENTIFIER_LENGTH, KIND_COUNT, KINDS, Kind};
-use session::{Decision, Deed, Idling, Phase, Reply, Session, Take, Taken};
+use session::{Decision, Deed, Phase, Reply, Session, Take, Taken};
 
 // How many bytes it has.
 pub const SIZE: usize = 288;
@@ -139,15 +139,12 @@ fn clear_run(region: &mut [u8])
     run::clear(&mut region[RUN_AT..RUN_END]);
 }
 
-// What is done to the notices of one kind: whether a copy of the one that is then open is due.
-#[tactic(auto, using(model::proofs::Named::place_within, crate::proofs::Areas::lane_lent, crate::proofs::Walks::dealt_to, crate::proofs::Ends::nothing_dealt))]
+// A deed to the notices of one kind: whether a copy of the one that is then open is due.
+#[tactic(auto, using(model::proofs::Named::place_within, crate::proofs::Areas::lane_lent))]
 fn deal(region: &mut [u8], kind: Kind, deed: Deed) -> bool
     requires { Good region.old }
     ensures { (read : Reading) → DealtTo read (place_of kind) (deed_of deed) region.old result region.new }
 {
-    if let Deed::Nothing = deed {
-        return false;
-    }
     let a = lane_at(kind);
     let e = a + lane::size(kind);
     lane::deal(&mut region[a..e], kind, deed)
@@ -229,8 +226,8 @@ pub fn tick(region: &mut [u8]) -> Option<[bool; KIND_COUNT]>
     ensures { (read : Reading) → Ticks read region.old result region.new }
 {
     match session::idled(load(region)) {
-        Idling::Stays(x) => Some(tick_stays(region, x)),
-        Idling::TimesOut => {
+        Some(x) => Some(tick_stays(region, x)),
+        None => {
             store(region, Session::cleared());
             None
         }
@@ -316,25 +313,39 @@ fn standing(region: &[u8], x: Session, common: Common) -> Standing
     }
 }
 
-// An identifier is made known: what a data field says, padded right with spaces, is put in its place.
-fn announce(place: &mut [u8], data_field: &[u8])
-    requires { (length place.old ≡ identifier_length) × (length data_field.now ≤ identifier_length) }
-    ensures { place.new ≡ padded identifier_length data_field.now }
+// An identifier: what a data field says, padded right with spaces.
+fn announce(data_field: &[u8]) -> [u8; IDENTIFIER_LENGTH]
+    requires { length data_field.now ≤ identifier_length }
+    ensures { result ≡ padded identifier_length data_field.now }
 {
-    text::fill(place, 0, IDENTIFIER_LENGTH, b' ');
-    text::copy(data_field, place, 0);
+    let mut identifier = [b' '; IDENTIFIER_LENGTH];
+    identifier[..data_field.len()].copy_from_slice(data_field);
+    identifier
 }
 
-// The decision on a run of so many bytes, of which `run` are kept, to one that stands so.
-fn rule(x: Session, standing: Standing, run: &[u8], count: usize, place: &mut [u8]) -> Decision
-    requires { (length run.now ≤ run_kept) × (length place.old ≡ identifier_length) }
-    ensures { Ruled x standing (record { kept = run.now; count = count }) place.old result place.new }
+// What is ruled on a run: the decision, and the identifier that is made known, if one is.
+#[derive(Clone, Copy)]
+struct Ruling {
+    decision: Decision,
+    identified: Option<[u8; IDENTIFIER_LENGTH]>,
+}
+
+// On a run of so many bytes, of which `run` are kept, to one that stands so.
+#[tactic(auto, using(crate::proofs::Rulings::data_few))]
+fn rule(x: Session, standing: Standing, run: &[u8], count: usize) -> Ruling
+    requires { length run.now ≤ run_kept }
+    ensures { Ruled x standing (record { kept = run.now; count = count }) result }
 {
-    let d = session::decide(x, standing, run, count);
-    if d.identifies {
-        announce(place, frame::data_field(run));
+    let decision = session::decide(x, standing, run, count);
+    let identified = if decision.identifies {
+        Some(announce(frame::data_field(run)))
+    } else {
+        None
+    };
+    Ruling {
+        decision,
+        identified,
     }
-    d
 }
 
 // What it held is gone, where it begins.
@@ -344,97 +355,82 @@ fn let_go(region: &mut [u8], begins: bool)
         (run_of (run_area region.old)) (cond begins no_subscriptions (subscriptions_in read region.old))
         region.new }
 {
-    if !begins {
-        return;
+    if begins {
+        clear_lanes(region);
     }
-    clear_lanes(region);
 }
 
-// What a decision does to the session: whether a copy of the notice of its kind that is then open is due.
-fn carry_out(region: &mut [u8], d: Decision) -> bool
+// What a decision does to the session: the kind of which a copy of the notice that is then open is due, if one is.
+fn carry_out(region: &mut [u8], d: Decision) -> Option<Kind>
     requires { CarryingOut d region.old }
     ensures { (read : Reading) → CarriesOut read d region.old result region.new }
 {
     clear_run(region);
     let_go(region, d.begins);
-    let next = d.next;
-    store(region, next);
-    let deed = d.deed;
-    deal(region, KINDS[d.kind], deed)
+    store(region, d.next);
+    let (kind, deed) = d.deed?;
+    deal(region, kind, deed).then_some(kind)
 }
 
-// What the end of a run leaves to say: the reply, whose header, if it is one that was received, stands in the slice that is lent or in the
-// region; of that kind a copy of the open notice, where it is due; and the identifier that is made known, if one is, to all.
+// What the end of a run leaves to say: the reply, if there is one, whose header, if it is one that was received, stands in the slice that is
+// lent or in the region; the kind of which a copy of the open notice is due, if one is; and the identifier that is made known to all, if one
+// is.
 #[derive(Clone, Copy)]
 pub struct Ended {
     pub whole: bool,
-    pub reply: Reply,
-    pub kind: usize,
-    pub sends: bool,
-    pub identified: bool,
+    pub reply: Option<Reply>,
+    pub due: Option<Kind>,
+    pub identified: Option<[u8; IDENTIFIER_LENGTH]>,
 }
 
-fn left_to_say(d: Decision, whole: bool, sends: bool) -> Ended
-    ensures { result ≡ ended_by d «whole» «sends» }
+fn left_to_say(ruling: Ruling, whole: bool, due: Option<Kind>) -> Ended
+    ensures { result ≡ ended_by ruling «whole» due }
 {
-    let reply = d.reply;
     Ended {
         whole,
-        reply,
-        kind: d.kind,
-        sends,
-        identified: d.identifies,
+        reply: ruling.decision.reply,
+        due,
+        identified: ruling.identified,
     }
 }
 
 // A run ends that stands whole in the slice: it is read there.
-fn end_whole(region: &mut [u8], common: Common, bytes: &[u8], place: &mut [u8]) -> Ended
-    requires { EndingWhole region.old place.old }
-    ensures { (read : Reading) → RunEnds read common bytes.now region.old place.old result
-        region.new place.new }
+fn end_whole(region: &mut [u8], common: Common, bytes: &[u8]) -> Ended
+    requires { EndingWhole region.old }
+    ensures { (read : Reading) → RunEnds read common bytes.now region.old result region.new }
 {
     let x = load(region);
-    let d = rule(
+    let ruling = rule(
         x,
         standing(region, x, common),
         run::kept_of(bytes),
         run::count_of(bytes),
-        place,
     );
-    let sends = carry_out(region, d);
-    left_to_say(d, true, sends)
-}
-
-// The decision on a run that is kept.
-fn rule_kept(region: &[u8], x: Session, standing: Standing, place: &mut [u8]) -> Decision
-    requires { Good region.now × (length place.old ≡ identifier_length) }
-    ensures { Ruled x standing (run_of (run_area region.now)) place.old result place.new }
-{
-    let area = &region[RUN_AT..RUN_END];
-    rule(x, standing, run::kept(area), run::count(area), place)
+    let due = carry_out(region, ruling.decision);
+    left_to_say(ruling, true, due)
 }
 
 // A run ends that began in earlier slices: it is read where it is kept.
-fn end_kept(region: &mut [u8], common: Common, place: &mut [u8]) -> Ended
-    requires { Good region.old × (length place.old ≡ identifier_length) }
-    ensures { (read : Reading) → KeptEnds read common region.old place.old result region.new
-        place.new }
+fn end_kept(region: &mut [u8], common: Common) -> Ended
+    requires { Good region.old }
+    ensures { (read : Reading) → KeptEnds read common region.old result region.new }
 {
     let x = load(region);
-    let d = rule_kept(region, x, standing(region, x, common), place);
-    let sends = carry_out(region, d);
-    left_to_say(d, false, sends)
+    let standing = standing(region, x, common);
+    let area = &region[RUN_AT..RUN_END];
+    let ruling = rule(x, standing, run::kept(area), run::count(area));
+    let due = carry_out(region, ruling.decision);
+    left_to_say(ruling, false, due)
 }
 
-// The bytes end a run; what all sessions share is told as far as the tests look at it. An identifier that is made known is put in `place`.
-pub fn end_run(region: &mut [u8], common: Common, bytes: &[u8], place: &mut [u8]) -> Ended
-    requires { Good region.old × (length place.old ≡ identifier_length) }
-    ensures { (read : Reading) → RunEnds read common bytes.now region.old place.old result
-        region.new place.new }
+// The bytes end a run; what all sessions share is told as far as the tests look at it.
+pub fn end_run(region: &mut [u8], common: Common, bytes: &[u8]) -> Ended
+    requires { Good region.old }
+    ensures { (read : Reading) → RunEnds read common bytes.now region.old result region.new }
 {
     if run::count(&region[RUN_AT..RUN_END]) == 0 {
-        return end_whole(region, common, bytes, place);
+        return end_whole(region, common, bytes);
     }
     lengthen(region, bytes);
-    end_kept(region, common, place)
+    end_kept(region, common)
 }

@@ -1,5 +1,5 @@
 -- `region::hang_up`: what is stored is a closed session, whatever the run and the lanes are.
-use Rattle.std.proofs.Common.{◌∙◌, ap, arith}
+use Rattle.std.proofs.Common.{◌∙◌, ap}
 use Rattle.session.specs.declared.Session.{Session}
 use Rattle.run.specs.Area.{run_of}
 use Rattle.region.specs.Region.{run_area, subscriptions_in, meaning}
