@@ -4,6 +4,7 @@ use Rattle.model.specs.Records.{Item, values, settings_items, tightening_items, 
 use Rattle.model.specs.Layouts.{Sources, Row, unreported, Layout, label, data_from, data_of, data_length, rows_length, layout_at}
 use Rattle.model.specs.Layouts.{layout_0002, layout_0004, layout_0005, layout_0065, kept_rows, result_rows, later_rows, later_count}
 use Rattle.model.specs.Kinds.{kind_at}
+use Rattle.model.specs.Named.{place_of}
 use Rattle.text.specs.Put.{Put, Written}
 use Rattle.frame.specs.Places.{place_items}
 use Rattle.frame.specs.declared.Content.{Content}
@@ -16,14 +17,14 @@ layout_of Started = layout_0002
 layout_of (Refused mid error) = layout_0004 mid error
 layout_of (Accepted mid) = layout_0005 mid
 layout_of (Kept n) = layout_0065 n
-layout_of (Notice asked) = layout_at (kind_at asked.kind).layouts asked.revision
+layout_of (Notice asked) = layout_at (kind_at (place_of asked.kind)).layouts asked.revision
 
 abbrev pub items_told : Content → List Item
 items_told Started = []
 items_told (Refused mid error) = []
 items_told (Accepted mid) = []
 items_told (Kept n) = tightening_items
-items_told (Notice asked) = place_items asked.kind
+items_told (Notice asked) = place_items (place_of asked.kind)
 
 -- ==== what a frame is made of, as bytes: a settings record's payload, and what it tells
 

@@ -9,7 +9,8 @@ ghost use Rattle.model.specs.Records.{record_head, payload_length, settings_of, 
 ghost use Rattle.model.specs.Records.{limit_of, tightening_items, tightening_length, result_items, alarm_items, alarm_length};
 ghost use Rattle.model.specs.Layouts.{limit_characters, controller_rows, identifier_rows, layout_0065, torque_rows, angle_rows};
 ghost use Rattle.model.specs.Layouts.{result_rows, alarm_rows};
-ghost use Rattle.model.specs.Kinds.{kinds, kind_at, copy_most, reply_most};
+ghost use Rattle.model.specs.Kinds.{kind_at, copy_most, reply_most};
+ghost use Rattle.model.specs.Named.{place_of};
 ghost use Rattle.model.specs.Events.{result_as};
 ghost use Rattle.model.specs.Frames.{frame_0002, frame_0004, frame_0005, frame_0065, event_frame, frame_record, close_record};
 ghost use Rattle.text.specs.Put.{Written, WrittenUpTo};
@@ -72,102 +73,76 @@ const REVISION_AT: usize = NUMBER_AT + NUMBER_DIGITS;
 
 const FLAG_AT: usize = REVISION_AT + REVISION_DIGITS;
 
-use model::IDENTIFIER_LENGTH;
+use model::{IDENTIFIER_LENGTH, Kind};
 
 // ---- the header of a received run
 
 // A message has no more bytes.
 const MESSAGE_LONGEST: usize = 9999;
 
-// What a run is: no message, or a message with what its header says.
-#[derive(Drop)]
-pub enum Header {
-    Dropped,
-    Message {
-        size: usize,
-        mid: u64,
-        revision: u64,
-        no_acknowledge: bool,
-    },
+// What the header of a message says.
+#[derive(Clone, Copy)]
+pub struct Header {
+    pub size: usize,
+    pub mid: u64,
+    pub revision: u64,
+    pub no_acknowledge: bool,
 }
 
 // Whether byte 12 is one that a header may have.
 fn is_flag(b: u8) -> bool
     ensures { result ≡ is_flag_byte b }
 {
-    match b {
-        b'0' => true,
-        b'1' => true,
-        b' ' => true,
-        _ => false,
-    }
+    matches!(b, b'0' | b'1' | b' ')
 }
 
 // Whether bytes 9 to 11 are digits or spaces.
 fn is_revision(s: &[u8]) -> bool
     ensures { result ≡ (all is_digit s.now || all is_space s.now) }
 {
-    if text::is_digits(s) {
-        return true;
-    }
-    text::is_spaces(s)
+    text::is_digits(s) || text::is_spaces(s)
 }
 
-// The revision that they give.
+// The revision that they give: 1 where they give none, or 0.
 fn revision(s: &[u8]) -> u64
     requires s_len_bound { length s.now ≤ 19 }
     requires s_value { (all is_digit s.now || all is_space s.now) ≡ true }
     ensures { result ≡ revision_of s.now }
 {
     if text::is_spaces(s) {
-        return 1;
+        1
+    } else {
+        text::decimal(s).max(1)
     }
-    let n = text::decimal(s);
-    if n == 0 {
-        return 1;
-    }
-    n
 }
 
 // Whether a run of count bytes, whose first are these, is a message.
 fn is_message(run: &[u8], count: usize) -> bool
     ensures { result ≡ is_message_run (record { kept = run.now; count = «count» }) }
 {
-    if run.len() < HEADER_LENGTH {
-        return false;
-    }
-    if count > MESSAGE_LONGEST {
-        return false;
-    }
-    let length = &run[0..NUMBER_AT];
-    if !text::is_digits(length) {
-        return false;
-    }
-    if text::decimal(length) != count as u64 {
-        return false;
-    }
-    if !text::is_digits(&run[NUMBER_AT..REVISION_AT]) {
-        return false;
-    }
-    if !is_revision(&run[REVISION_AT..FLAG_AT]) {
-        return false;
-    }
-    is_flag(run[FLAG_AT])
+    run.len() >= HEADER_LENGTH
+        && count <= MESSAGE_LONGEST
+        && text::is_digits(&run[..NUMBER_AT])
+        && text::decimal(&run[..NUMBER_AT]) == count as u64
+        && text::is_digits(&run[NUMBER_AT..REVISION_AT])
+        && is_revision(&run[REVISION_AT..FLAG_AT])
+        && is_flag(run[FLAG_AT])
 }
 
-// What a run of count bytes, whose first are these, is.
-fn header_in(run: &[u8], count: usize) -> Header
+// The header of a run of count bytes, whose first are these, if it is a message.
+#[tactic(auto, unfolding(crate::specs::Header::header_of, model::specs::Runs::read_run))]
+fn header_in(run: &[u8], count: usize) -> Option<Header>
     ensures { result ≡ header_of run.now «count» }
 {
     if !is_message(run, count) {
-        return Header::Dropped;
+        return None;
     }
-    Header::Message {
+    Some(Header {
         size: count,
         mid: text::decimal(&run[NUMBER_AT..REVISION_AT]),
         revision: revision(&run[REVISION_AT..FLAG_AT]),
         no_acknowledge: run[FLAG_AT] == b'1',
-    }
+    })
 }
 
 // The data field: what stands behind the header, as part of the caller's bytes.
@@ -177,10 +152,10 @@ pub fn data_field(run: &[u8]) -> &[u8]
     text::rest(run, HEADER_LENGTH)
 }
 
-// A run that was read: what it is, and its data field.
+// A run that was read: its header, if it is a message, and its data field.
 #[derive(Drop)]
 pub struct RunRead<'a> {
-    pub header: Header,
+    pub header: Option<Header>,
     pub field: &'a [u8],
 }
 
@@ -188,9 +163,10 @@ pub struct RunRead<'a> {
 pub fn read_header<'a>(run: &'a [u8], count: usize) -> RunRead<'a>
     ensures { RunReads run.now «count» result.header result.field.now }
 {
-    let header = header_in(run, count);
-    let field = data_field(run);
-    RunRead { header, field }
+    RunRead {
+        header: header_in(run, count),
+        field: data_field(run),
+    }
 }
 
 // ---- what frames say
@@ -198,7 +174,7 @@ pub fn read_header<'a>(run: &'a [u8], count: usize) -> RunRead<'a>
 // How a session is subscribed to a kind of notice, as far as a copy shows it.
 #[derive(Clone, Copy)]
 pub struct Asked {
-    pub kind: usize,
+    pub kind: Kind,
     pub revision: u64,
     pub no_acknowledge: bool,
 }
@@ -581,20 +557,16 @@ fn put_notice(out: &mut [u8], at: usize, asked: Asked, settings: &[u8], told: &[
     ensures { DataPut (Notice asked) (payloads settings.now told.now) out.old at result
         out.new }
 {
-    if asked.kind == model::IDENTIFIERS {
-        if asked.revision < 2 {
-            return text::copy_few(told, out, at);
+    match asked.kind {
+        Kind::Identifiers if asked.revision < 2 => text::copy_few(told, out, at),
+        Kind::Identifiers => put_parts(out, at, told),
+        Kind::Tightenings if asked.revision < 2 => put_result(out, at, settings, told),
+        Kind::Tightenings => {
+            let at = put_later(out, at, settings, told);
+            put_added(out, at, asked.revision)
         }
-        return put_parts(out, at, told);
+        Kind::Alarms => put_alarm(out, at, told),
     }
-    if asked.kind == model::ALARMS {
-        return put_alarm(out, at, told);
-    }
-    if asked.revision < 2 {
-        return put_result(out, at, settings, told);
-    }
-    let at = put_later(out, at, settings, told);
-    put_added(out, at, asked.revision)
 }
 
 // Any frame.
@@ -646,14 +618,13 @@ fn reply_heading(size: usize, mid: u64) -> Heading
 }
 
 // The message number of a notice.
-fn notice_mid(kind: usize) -> u64
-    requires { kind < length kinds }
-    ensures { result ≡ (kind_at kind).notice }
+fn notice_mid(kind: Kind) -> u64
+    ensures { result ≡ (kind_at (place_of kind)).notice }
 {
     match kind {
-        model::IDENTIFIERS => 52,
-        model::TIGHTENINGS => 61,
-        _ => 71,
+        Kind::Identifiers => 52,
+        Kind::Tightenings => 61,
+        Kind::Alarms => 71,
     }
 }
 
@@ -807,9 +778,9 @@ pub fn put_9999(out: &mut [u8], to: To, run: &[u8]) -> usize
 // A copy of the notice in a place, to a session that subscribed so.
 pub fn put_copy(out: &mut [u8], to: To, asked: Asked, settings: &[u8], place: &[u8]) -> usize
     requires { Lent out.old to asked settings.now place.now }
-    ensures { WrittenUpTo out.old to.at (copy_most (kind_at asked.kind)) (frame_record to.session
+    ensures { WrittenUpTo out.old to.at (copy_most (kind_at (place_of asked.kind))) (frame_record to.session
         (event_frame (settings_of settings.now) asked.revision asked.no_acknowledge
-        (event_in asked.kind place.now))) result out.new }
+        (event_in (place_of asked.kind) place.now))) result out.new }
 {
     put_frame(out, to, Content::Notice(asked), settings, place)
 }

@@ -1,4 +1,2 @@
-pub mod AtEach
 pub mod Rule
-pub mod Tests
 pub mod Order

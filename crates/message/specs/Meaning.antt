@@ -1,40 +1,46 @@
 -- 01, "What a message does": what each case of this crate's enums, and its record, is among the model's definitions. The contracts of
 -- the public functions speak through these.
-use Rattle.std.specs.Prelude.{ℕ, ◌-◌, ◌≡◌, Bool, true, false, cond, ◌&&◌, List, leb, ltb, eqb, get_or}
-use Rattle.std.proofs.Math.Option.{Option, none, some}
+use Rattle.std.specs.Prelude.{ℕ, ◌-◌, ◌≡◌, Bool, true, false, cond, ◌&&◌, List, leb, ltb, eqb, get_or, ⊤}
+use Rattle.std.specs.Prelude.{Option, Some, None, Result as Found, Ok, Err}
+use Rattle.std.proofs.Math.Option.{Option as Maybe, none, some}
 use Rattle.model.specs.Events.{Result}
 use Rattle.model.specs.Memory.{numbered, asked_for, is_there}
 use Rattle.model.specs.Messages as model
+use Rattle.model.specs.Named.{place_of}
 use Rattle.model.specs.Messages.{Entry, starts, stops, identifies, subscribes, unsubscribes, acknowledges, fetches, mirrors}
 use Rattle.model.specs.Messages.{gets_reply, Error, unknown_message, already_started, wrong_length, wrong_revision, wrong_data, own, code}
 use Rattle.message.specs.declared.Effect.{Effect}
 use Rattle.message.specs.declared.Effect.TheVariants as effect
 use Rattle.message.specs.declared.Common.{Common}
 use Rattle.message.specs.declared.Standing.{Standing}
-use Rattle.message.specs.declared.Verdict.{Verdict}
-use Rattle.message.specs.declared.Verdict.TheVariants as verdict
+use Rattle.message.specs.declared.Error as by_value
+use Rattle.message.specs.declared.Error.TheVariants as error
 
 -- ==== the table's column of own errors and effects
 
--- the model's effect, its own error's number with it; none for a message that is not listed
-abbrev pub effect_in : Effect → Option model.Effect
-effect_in effect.Unknown = none
-effect_in effect.Starts = some starts
-effect_in effect.Stops = some stops
-effect_in (effect.Identifies error) = some (identifies error)
-effect_in (effect.Subscribes kind error) = some (subscribes kind error)
-effect_in (effect.Unsubscribes kind error) = some (unsubscribes kind error)
-effect_in (effect.Acknowledges kind) = some (acknowledges kind)
-effect_in (effect.Fetches error) = some (fetches error)
-effect_in effect.Mirrors = some mirrors
+-- the model's effect, its own error's number with it
+abbrev pub effect_in : Effect → model.Effect
+effect_in effect.Starts = starts
+effect_in effect.Stops = stops
+effect_in (effect.Identifies error) = identifies error
+effect_in (effect.Subscribes kind error) = subscribes (place_of kind) error
+effect_in (effect.Unsubscribes kind error) = unsubscribes (place_of kind) error
+effect_in (effect.Acknowledges kind) = acknowledges (place_of kind)
+effect_in (effect.Fetches error) = fetches error
+effect_in effect.Mirrors = mirrors
+
+-- none for a message that is not listed
+abbrev pub effect_found : Option Effect → Maybe model.Effect
+effect_found None = none
+effect_found (Some e) = some (effect_in e)
 
 -- the effect that an entry has, where there is one
-abbrev pub effect_listed : Option Entry → Option model.Effect
+abbrev pub effect_listed : Maybe Entry → Maybe model.Effect
 effect_listed none = none
 effect_listed (some e) = some e.effect
 
 -- whether a message of that effect is ever answered; one that is not listed is, with 99
-abbrev pub answered : Option model.Effect → Bool
+abbrev pub answered : Maybe model.Effect → Bool
 answered none = true
 answered (some e) = gets_reply e
 
@@ -75,16 +81,16 @@ standing_with x number = record {
 }
 
 -- the model's error; none where every test is met
-abbrev pub error_in : Verdict → Option Error
-error_in verdict.Fine = none
-error_in verdict.Unknown = some unknown_message
-error_in verdict.AlreadyStarted = some already_started
-error_in verdict.Length = some wrong_length
-error_in verdict.Revision = some wrong_revision
-error_in verdict.Data = some wrong_data
-error_in (verdict.Own n) = some (own n)
+abbrev pub error_in : Found ⊤ by_value.Error → Maybe Error
+error_in (Ok _) = none
+error_in (Err error.Unknown) = some unknown_message
+error_in (Err error.AlreadyStarted) = some already_started
+error_in (Err error.Length) = some wrong_length
+error_in (Err error.Revision) = some wrong_revision
+error_in (Err error.Data) = some wrong_data
+error_in (Err (error.Own n)) = some (own n)
 
 -- the number that 0004 carries for an error, and 0 where there is none
-abbrev pub error_number : Option Error → ℕ
+abbrev pub error_number : Maybe Error → ℕ
 error_number none = 0
 error_number (some error) = code error

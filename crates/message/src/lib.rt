@@ -1,171 +1,205 @@
 // What a message does, and the error that it has (01, "What a message does"; 02, P2 and P5): decided by value, whatever the numbers are.
 #![tactic(auto)]
 
-ghost use Rattle.std.specs.Prelude.{◌≡◌, true, cond, ◌&&◌, eqb};
+ghost use Rattle.std.specs.Prelude.{◌≡◌, true, cond, ◌&&◌, eqb, ℕ, List};
 ghost use Rattle.std.proofs.Math.Option.{none, some};
 ghost use Rattle.model.specs.Bytes.{within as is_within};
 ghost use Rattle.model.specs.Messages.{entry_of, number_asked as number_asked_in, own, error_of};
-ghost use Rattle.message.specs.Meaning.{effect_in, effect_listed, answered, meant as meant_by, is_among, standing_of};
+ghost use Rattle.model.specs.Messages.{good_among, in_digits as in_digits_so, good_data};
+ghost use Rattle.model.specs.Named.{place_of};
+ghost use Rattle.message.specs.Meaning.{effect_in, effect_found, effect_listed, answered, meant as meant_by, is_among, standing_of};
 ghost use Rattle.message.specs.Meaning.{standing_with, error_in, error_number};
-ghost use Rattle.message.specs.Inner.{read, ListsAll, wants_digits, wanted, OwnError};
+ghost use Rattle.message.specs.Inner.{revision_in, row_found, own_error_in};
 
-use model::{ALARMS, IDENTIFIERS, KIND_COUNT, NUMBER_DIGITS, TIGHTENINGS};
+use model::{KIND_COUNT, Kind, NUMBER_DIGITS};
 
 // ---- what a message does
 
-// What a message does when it has no error; the number is that of its own error.
-#[derive(Clone, Copy)]
+// What a message that is known does when it has no error; the number is that of its own error.
+#[derive(Clone, Copy, PartialEq, Eq)]
 pub enum Effect {
-    Unknown,
     Starts,
     Stops,
     Identifies { error: u64 },
-    Subscribes { kind: usize, error: u64 },
-    Unsubscribes { kind: usize, error: u64 },
-    Acknowledges { kind: usize },
+    Subscribes { kind: Kind, error: u64 },
+    Unsubscribes { kind: Kind, error: u64 },
+    Acknowledges { kind: Kind },
     Fetches { error: u64 },
     Mirrors,
 }
 
-// Whether a message is ever answered: an acknowledge is not, and an unknown one is.
-pub fn gets_reply(e: Effect) -> bool
-    ensures { result ≡ answered (effect_in e) }
+// Whether a message is ever answered: an acknowledge is not, and one that is unknown, and has no effect, is.
+pub fn gets_reply(effect: Option<Effect>) -> bool
+    ensures { result ≡ answered (effect_found effect) }
 {
-    match e {
-        Effect::Unknown => true,
-        Effect::Starts => true,
-        Effect::Stops => true,
-        Effect::Identifies { error: _ } => true,
-        Effect::Subscribes { kind: _, error: _ } => true,
-        Effect::Unsubscribes { kind: _, error: _ } => true,
-        Effect::Acknowledges { kind: _ } => false,
-        Effect::Fetches { error: _ } => true,
-        Effect::Mirrors => true,
+    !matches!(effect, Some(Effect::Acknowledges { .. }))
+}
+
+// ---- each message's length and revision
+
+// From the first number to the second.
+#[derive(Clone, Copy)]
+struct Span(u64, u64);
+
+impl Span {
+    fn contains(self, n: u64) -> bool
+        ensures { result ≡ is_within self.0 self.1 n }
+    {
+        (self.0..=self.1).contains(&n)
     }
 }
 
-// ---- each message's lengths and revisions
-
-// The greatest revision of a message whose revision is not read.
-const ANY: u64 = 0xFFFF_FFFF_FFFF_FFFF;
-
-// A message's number, its least and greatest length, its least and greatest revision.
-const MESSAGES: [[u64; 5]; 14] = [
-    [1, 20, 20, 1, 1],
-    [3, 20, 20, 0, ANY],
-    [50, 21, 45, 1, 1],
-    [51, 20, 20, 1, 2],
-    [53, 20, 20, 0, ANY],
-    [54, 20, 20, 0, ANY],
-    [60, 20, 20, 1, 6],
-    [62, 20, 20, 0, ANY],
-    [63, 20, 20, 0, ANY],
-    [70, 20, 20, 1, 1],
-    [72, 20, 20, 0, ANY],
-    [73, 20, 20, 0, ANY],
-    [64, 30, 30, 1, 1],
-    [9999, 20, 20, 0, ANY],
-];
-
-// What the table has for a message number.
+// A message: its number, how long it is, its revision, if that is read, and what it does.
 #[derive(Clone, Copy)]
 struct Row {
-    least: u64,
-    greatest: u64,
-    oldest: u64,
-    newest: u64,
-}
-
-fn read_row(row: [u64; 5]) -> Row
-    ensures { result ≡ read row }
-{
-    Row {
-        least: row[1],
-        greatest: row[2],
-        oldest: row[3],
-        newest: row[4],
-    }
-}
-
-// What is listed for a message number: what the message does, and its row.
-#[derive(Clone, Copy)]
-struct Listed {
+    mid: u64,
+    length: Span,
+    revision: Option<Span>,
     effect: Effect,
-    row: Row,
 }
 
-fn with_row(effect: Effect, row: [u64; 5]) -> Listed
-    ensures { result ≡ record { effect = effect; row = read row } }
-{
-    let row = read_row(row);
-    Listed { effect, row }
-}
+// The length of a message that is its header alone.
+const HEADER_ALONE: Span = Span(20, 20);
 
-// The decision over message numbers. A number of the closing arm has no row that anything reads.
-fn listed_of(mid: u64) -> Listed
-    ensures { ListsAll mid result (entry_of mid) }
+static MESSAGES: [Row; 14] = [
+    Row {
+        mid: 1,
+        length: HEADER_ALONE,
+        revision: Some(Span(1, 1)),
+        effect: Effect::Starts,
+    },
+    Row {
+        mid: 3,
+        length: HEADER_ALONE,
+        revision: None,
+        effect: Effect::Stops,
+    },
+    Row {
+        mid: 50,
+        length: Span(21, 45),
+        revision: Some(Span(1, 1)),
+        effect: Effect::Identifies { error: 8 },
+    },
+    Row {
+        mid: 51,
+        length: HEADER_ALONE,
+        revision: Some(Span(1, 2)),
+        effect: Effect::Subscribes {
+            kind: Kind::Identifiers,
+            error: 6,
+        },
+    },
+    Row {
+        mid: 53,
+        length: HEADER_ALONE,
+        revision: None,
+        effect: Effect::Acknowledges {
+            kind: Kind::Identifiers,
+        },
+    },
+    Row {
+        mid: 54,
+        length: HEADER_ALONE,
+        revision: None,
+        effect: Effect::Unsubscribes {
+            kind: Kind::Identifiers,
+            error: 7,
+        },
+    },
+    Row {
+        mid: 60,
+        length: HEADER_ALONE,
+        revision: Some(Span(1, 6)),
+        effect: Effect::Subscribes {
+            kind: Kind::Tightenings,
+            error: 9,
+        },
+    },
+    Row {
+        mid: 62,
+        length: HEADER_ALONE,
+        revision: None,
+        effect: Effect::Acknowledges {
+            kind: Kind::Tightenings,
+        },
+    },
+    Row {
+        mid: 63,
+        length: HEADER_ALONE,
+        revision: None,
+        effect: Effect::Unsubscribes {
+            kind: Kind::Tightenings,
+            error: 10,
+        },
+    },
+    Row {
+        mid: 70,
+        length: HEADER_ALONE,
+        revision: Some(Span(1, 1)),
+        effect: Effect::Subscribes {
+            kind: Kind::Alarms,
+            error: 11,
+        },
+    },
+    Row {
+        mid: 72,
+        length: HEADER_ALONE,
+        revision: None,
+        effect: Effect::Acknowledges { kind: Kind::Alarms },
+    },
+    Row {
+        mid: 73,
+        length: HEADER_ALONE,
+        revision: None,
+        effect: Effect::Unsubscribes {
+            kind: Kind::Alarms,
+            error: 12,
+        },
+    },
+    Row {
+        mid: 64,
+        length: Span(30, 30),
+        revision: Some(Span(1, 1)),
+        effect: Effect::Fetches { error: 15 },
+    },
+    Row {
+        mid: 9999,
+        length: HEADER_ALONE,
+        revision: None,
+        effect: Effect::Mirrors,
+    },
+];
+
+// The row of a message, by its number.
+#[tactic(auto, unfolding(model::specs::Messages::entry_of))]
+fn listed_of(mid: u64) -> Option<Row>
+    ensures { row_found result ≡ entry_of mid }
 {
+    // A `match`, since a search in the table would store the table on the stack at each message.
     match mid {
-        1 => with_row(Effect::Starts, MESSAGES[0]),
-        3 => with_row(Effect::Stops, MESSAGES[1]),
-        50 => with_row(Effect::Identifies { error: 8 }, MESSAGES[2]),
-        51 => with_row(
-            Effect::Subscribes {
-                kind: IDENTIFIERS,
-                error: 6,
-            },
-            MESSAGES[3],
-        ),
-        53 => with_row(Effect::Acknowledges { kind: IDENTIFIERS }, MESSAGES[4]),
-        54 => with_row(
-            Effect::Unsubscribes {
-                kind: IDENTIFIERS,
-                error: 7,
-            },
-            MESSAGES[5],
-        ),
-        60 => with_row(
-            Effect::Subscribes {
-                kind: TIGHTENINGS,
-                error: 9,
-            },
-            MESSAGES[6],
-        ),
-        62 => with_row(Effect::Acknowledges { kind: TIGHTENINGS }, MESSAGES[7]),
-        63 => with_row(
-            Effect::Unsubscribes {
-                kind: TIGHTENINGS,
-                error: 10,
-            },
-            MESSAGES[8],
-        ),
-        70 => with_row(
-            Effect::Subscribes {
-                kind: ALARMS,
-                error: 11,
-            },
-            MESSAGES[9],
-        ),
-        72 => with_row(Effect::Acknowledges { kind: ALARMS }, MESSAGES[10]),
-        73 => with_row(
-            Effect::Unsubscribes {
-                kind: ALARMS,
-                error: 12,
-            },
-            MESSAGES[11],
-        ),
-        64 => with_row(Effect::Fetches { error: 15 }, MESSAGES[12]),
-        9999 => with_row(Effect::Mirrors, MESSAGES[13]),
-        _ => with_row(Effect::Unknown, [0; 5]),
+        1 => Some(MESSAGES[0]),
+        3 => Some(MESSAGES[1]),
+        50 => Some(MESSAGES[2]),
+        51 => Some(MESSAGES[3]),
+        53 => Some(MESSAGES[4]),
+        54 => Some(MESSAGES[5]),
+        60 => Some(MESSAGES[6]),
+        62 => Some(MESSAGES[7]),
+        63 => Some(MESSAGES[8]),
+        70 => Some(MESSAGES[9]),
+        72 => Some(MESSAGES[10]),
+        73 => Some(MESSAGES[11]),
+        64 => Some(MESSAGES[12]),
+        9999 => Some(MESSAGES[13]),
+        _ => None,
     }
 }
 
 // What a message of that number does.
-pub fn effect_of(mid: u64) -> Effect
-    ensures { effect_in result ≡ effect_listed (entry_of mid) }
+pub fn effect_of(mid: u64) -> Option<Effect>
+    ensures { effect_found result ≡ effect_listed (entry_of mid) }
 {
-    let l = listed_of(mid);
-    l.effect
+    listed_of(mid).map(|row| row.effect)
 }
 
 // ---- the tests
@@ -187,10 +221,9 @@ pub struct Standing {
     pub subscribed: [bool; KIND_COUNT],
 }
 
-// What the tests find; an own error has its number.
-#[derive(Clone, Copy)]
-pub enum Verdict {
-    Fine,
+// What the tests may find; an own error has its number.
+#[derive(Clone, Copy, PartialEq, Eq)]
+pub enum Error {
     Unknown,
     AlreadyStarted,
     Length,
@@ -200,17 +233,17 @@ pub enum Verdict {
 }
 
 // The number that a reply gives for what the tests found, and 0 for no error.
-pub fn error_code(v: Verdict) -> u64
-    ensures { result ≡ error_number (error_in v) }
+pub fn error_code(found: Result<(), Error>) -> u64
+    ensures { result ≡ error_number (error_in found) }
 {
-    match v {
-        Verdict::Fine => 0,
-        Verdict::Unknown => 99,
-        Verdict::AlreadyStarted => 96,
-        Verdict::Length => 1,
-        Verdict::Revision => 97,
-        Verdict::Data => 1,
-        Verdict::Own(error) => error,
+    match found {
+        Ok(()) => 0,
+        Err(Error::Unknown) => 99,
+        Err(Error::AlreadyStarted) => 96,
+        Err(Error::Length) => 1,
+        Err(Error::Revision) => 97,
+        Err(Error::Data) => 1,
+        Err(Error::Own(error)) => error,
     }
 }
 
@@ -221,40 +254,31 @@ fn starts_again(started: bool, mid: u64) -> bool
     started && mid == 1
 }
 
-fn within(least: u64, greatest: u64, n: u64) -> bool
-    ensures { result ≡ is_within least greatest n }
+// Whether the revision is one that the message has.
+fn is_revision(revisions: Option<Span>, revision: u64) -> bool
+    ensures { result ≡ good_among (revision_in revisions) revision }
 {
-    least <= n && n <= greatest
+    revisions.is_none_or(|span| span.contains(revision))
 }
 
-// There is no kind past the last to be subscribed to.
-fn subscribed(x: Standing, kind: usize) -> bool
-    ensures { result ≡ (standing_of x).subscribed kind }
+fn subscribed(x: Standing, kind: Kind) -> bool
+    ensures { result ≡ (standing_of x).subscribed (place_of kind) }
 {
-    if kind >= KIND_COUNT {
-        return false;
-    }
-    x.subscribed[kind]
+    x.subscribed[kind.place()]
 }
 
 // The number that a data field asks for.
 fn number_asked(data_field: &[u8]) -> u64
     ensures { result ≡ number_asked_in data_field.now }
 {
-    if data_field.len() > NUMBER_DIGITS {
-        return text::number(&data_field[0..NUMBER_DIGITS]);
-    }
-    text::number(data_field)
+    text::number(&data_field[..data_field.len().min(NUMBER_DIGITS)])
 }
 
 // The number of the tightening that is meant by the one that is asked for: 0 asks for the newest.
 fn meant(x: Common, asked: u64) -> u64
     ensures { result ≡ meant_by x asked }
 {
-    if asked == 0 {
-        return x.newest;
-    }
-    asked
+    if asked == 0 { x.newest } else { asked }
 }
 
 // That of a message with that data field.
@@ -268,64 +292,48 @@ pub fn number_meant(x: Standing, data_field: &[u8]) -> u64
 fn is_kept(x: Common, n: u64) -> bool
     ensures { result ≡ is_among x n }
 {
-    if n > x.newest {
-        return false;
-    }
-    x.newest - n < x.kept
+    n <= x.newest && x.newest - n < x.kept
 }
 
 // Whether the data of a message have to be digits.
-fn in_digits(e: Effect) -> bool
-    ensures { result ≡ wants_digits (effect_in e) }
+fn in_digits(effect: Effect) -> bool
+    ensures { result ≡ in_digits_so (effect_in effect) }
 {
-    match e {
-        Effect::Unknown => false,
-        Effect::Starts => false,
-        Effect::Stops => false,
-        Effect::Identifies { error: _ } => false,
-        Effect::Subscribes { kind: _, error: _ } => false,
-        Effect::Unsubscribes { kind: _, error: _ } => false,
-        Effect::Acknowledges { kind: _ } => false,
-        Effect::Fetches { error: _ } => true,
-        Effect::Mirrors => false,
-    }
+    matches!(effect, Effect::Fetches { .. })
 }
 
 // Whether the data are what they have to be.
-fn is_good(e: Effect, data_field: &[u8]) -> bool
-    ensures { result ≡ wanted (effect_in e) data_field.now }
+fn is_good(effect: Effect, data_field: &[u8]) -> bool
+    ensures { result ≡ good_data (effect_in effect) data_field.now }
 {
-    if in_digits(e) {
-        return text::is_digits(data_field);
+    if in_digits(effect) {
+        text::is_digits(data_field)
+    } else {
+        text::is_text(data_field)
     }
-    text::is_text(data_field)
 }
 
 // An own error, where its test applies.
-fn own_if(applies: bool, error: u64) -> Verdict
+fn own_if(applies: bool, error: u64) -> Result<(), Error>
     ensures { error_in result ≡ cond applies (some (own error)) none }
 {
     if applies {
-        Verdict::Own(error)
+        Err(Error::Own(error))
     } else {
-        Verdict::Fine
+        Ok(())
     }
 }
 
 // The message's own test; whatever its data are, the number is that of the tightening that they mean.
-fn own_error(x: Standing, e: Effect, number: u64) -> Verdict
-    ensures { OwnError x (effect_in e) number (error_in result) }
+fn own_error(x: Standing, effect: Effect, number: u64) -> Result<(), Error>
+    ensures { (bs : List ℕ) → error_in result ≡ own_error_in (standing_with x number) (effect_in effect) bs }
 {
-    match e {
-        Effect::Unknown => Verdict::Unknown,
-        Effect::Starts => Verdict::Fine,
-        Effect::Stops => Verdict::Fine,
+    match effect {
         Effect::Identifies { error } => own_if(!x.common.granted, error),
         Effect::Subscribes { kind, error } => own_if(subscribed(x, kind), error),
         Effect::Unsubscribes { kind, error } => own_if(!subscribed(x, kind), error),
-        Effect::Acknowledges { kind: _ } => Verdict::Fine,
         Effect::Fetches { error } => own_if(!is_kept(x.common, number), error),
-        Effect::Mirrors => Verdict::Fine,
+        Effect::Starts | Effect::Stops | Effect::Acknowledges { .. } | Effect::Mirrors => Ok(()),
     }
 }
 
@@ -336,28 +344,30 @@ pub struct Outline {
     pub size: usize,
 }
 
-// The error of a message of that revision and data: the tests in order. The first is the decision over message numbers: what comes to its
-// closing arm is unknown. The number is that of the tightening that the data mean.
-pub fn judge(x: Standing, m: Outline, revision: u64, number: u64, data_field: &[u8]) -> Verdict
+// The error of a message of that revision and data: the tests in order, the first of which is that it is listed. The number is that of the
+// tightening that the data mean.
+#[tactic(auto, unfolding(model::specs::Messages::error_of))]
+pub fn judge(
+    x: Standing,
+    m: Outline,
+    revision: u64,
+    number: u64,
+    data_field: &[u8],
+) -> Result<(), Error>
     ensures { error_in result ≡ error_of (standing_with x number) m.mid m.size revision data_field.now }
 {
-    let l = listed_of(m.mid);
-    let e = l.effect;
-    if let Effect::Unknown = e {
-        return Verdict::Unknown;
+    let row = listed_of(m.mid).ok_or(Error::Unknown)?;
+    if starts_again(x.started, row.mid) {
+        return Err(Error::AlreadyStarted);
     }
-    let row = l.row;
-    if starts_again(x.started, m.mid) {
-        return Verdict::AlreadyStarted;
+    if !row.length.contains(m.size as u64) {
+        return Err(Error::Length);
     }
-    if !within(row.least, row.greatest, m.size as u64) {
-        return Verdict::Length;
+    if !is_revision(row.revision, revision) {
+        return Err(Error::Revision);
     }
-    if !within(row.oldest, row.newest, revision) {
-        return Verdict::Revision;
+    if !is_good(row.effect, data_field) {
+        return Err(Error::Data);
     }
-    if !is_good(e, data_field) {
-        return Verdict::Data;
-    }
-    own_error(x, e, number)
+    own_error(x, row.effect, number)
 }

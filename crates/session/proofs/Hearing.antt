@@ -2,22 +2,26 @@
 use mathlib.Core.Path.{◌≡◌, refl, sym, ◌∙◌, ap}
 use mathlib.Core.Bool.{Bool, true, false, cond}
 use mathlib.Core.List.{List, [], ◌∷◌, ◌++◌, map, append-nil}
-use mathlib.Core.Option.{Option, none, some}
+use mathlib.Core.Option.{Option as Maybe, none, some}
+use Rattle.std.specs.Prelude.{Some, None}
 use Prim.Native.Nat.{ℕ, suc}
-use lib.Dec.{eqb}
-use lib.ListN.{take, drop}
-use borrow.Author.Tests.{eqb-true}
+use lib.Dec.{ltb, eqb}
+use lib.ListN.{length, take, drop}
+use borrow.Author.Tests.{eqb-true, ltb-true}
 use Rattle.model.specs.Limits.{header_length}
 use Rattle.model.specs.Records.{Settings}
 use Rattle.model.specs.Runs.{Run, empty_run, longer, Piece, message_of, is_message, read_run}
 use Rattle.model.specs.Runs as runs
-use Rattle.model.specs.Kinds.{Room, room_of}
+use Rattle.model.specs.Kinds.{kinds}
+use Rattle.model.specs.Named.{place_of, named}
+use Rattle.model.proofs.Named.{place_named}
+use Rattle.model.proofs.Clean.{entry_at}
 use Rattle.model.specs.Messages as model
 use Rattle.model.specs.Messages.{Entry, entry_of, starts, stops, identifies, subscribes, unsubscribes, acknowledges, fetches, mirrors}
 use Rattle.model.specs.Messages.{gets_reply, number_asked, code, error_of}
 use Rattle.model.specs.Memory.{numbered}
 use Rattle.model.specs.Frames.{frame_0004}
-use Rattle.model.specs.Notices.{Subscription, nothing, act}
+use Rattle.model.specs.Notices.{Subscription, nothing}
 use Rattle.model.specs.Session as sessions
 use Rattle.model.specs.Session.{closed, opened, started, no_subscriptions, Emission, reply, copy, deal, only}
 use Rattle.model.specs.Row.{row, said}
@@ -25,64 +29,57 @@ use Rattle.model.specs.Hearing.{started_standing, opened_standing, message_error
 use Rattle.model.specs.Hearing.{identifier_judged}
 use Rattle.model.specs.Local.{end_run, end_run_opened, receives, step, identifier_run, announces}
 use Rattle.model.specs.Sharing.{Shared}
-use Rattle.message.specs.Meaning.{meant, Remembers, standing_of, standing_with, effect_listed, error_number}
-use Rattle.message.proofs.Order.{by_number}
+use Rattle.message.specs.Meaning.{meant, Remembers, standing_of, effect_listed, error_number}
 use Rattle.message.specs.declared.Common.{Common}
 use Rattle.message.specs.declared.Standing.{Standing}
 use Rattle.frame.specs.Header.{shown, header_of}
-use Rattle.frame.specs.declared.Header.{Header}
-use Rattle.frame.specs.declared.Header.TheVariants.{Message}
 use Rattle.session.specs.Meaning.{session_as}
 use Rattle.session.specs.Control.{session}
-use Rattle.session.specs.Decisions.{begun, replied, start, no_error, accepted, decided_started, decided, decision}
+use Rattle.session.specs.Decisions.{begun, replied, start, no_error, accepted, decided_started, decision}
 use Rattle.session.specs.Effects.{standing_in, decision_on, carried_out, announced}
 use Rattle.session.specs.declared.Phase.{Phase}
 use Rattle.session.specs.declared.Phase.TheVariants.{Closed, Opened, Started}
 use Rattle.session.specs.declared.Session.{Session}
-use Rattle.session.specs.declared.Reply.TheVariants.{Nothing, Error}
+use Rattle.session.specs.declared.Reply.TheVariants.{Error}
 use Rattle.session.specs.declared.Decision.{Decision}
-
--- ==== a decision from its parts
-
-module _ (x : Session) (standing : Standing) (bs : List ℕ) where
-  pub in_phase : {h : Header} {size mid revision number : ℕ} {no_acknowledge : Bool} {error : Option model.Error} {p : Phase} {d : Decision}
-      → h ≡ Message size mid revision no_acknowledge
-      → number ≡ meant standing.common (number_asked bs)
-      → error ≡ error_of (standing_with standing number) mid size revision bs
-      → x.phase ≡ p
-      → d ≡ decided p x mid revision no_acknowledge number error
-      → d ≡ decision x standing h bs
-  unfolding decision
-  in_phase {h} {size} {mid} {revision} {no_acknowledge = no_acknowledge} eh en ee ep ed =
-      let right = rw en at ee ∙ by_number standing bs mid size revision in
-      ed ∙ rw (← ep, right, en, eh)
 
 -- ==== where nothing is done to any kind, the subscriptions are as they were, and nothing is sent
 
-module _ (st : Settings) (kind : ℕ) where
-  passed_over : (b : Bool) (room : Room) (s : Subscription) → act room (cond b nothing nothing) s ≡ (s, [])
-  passed_over true room s = refl
-  passed_over false room s = refl
-
-  pub row_still : (i : ℕ) (subs : List Subscription) → row (deal st (only kind nothing)) i subs ≡ subs
+module _ (st : Settings) where
+  pub row_still : (i : ℕ) (subs : List Subscription) → row (deal st (λ kind. nothing)) i subs ≡ subs
   row_still i [] = refl
-  row_still i (s ∷ subs) = rw (passed_over (eqb i kind) (room_of i) s, row_still (suc i) subs)
+  row_still i (s ∷ subs) = rw (row_still (suc i) subs)
 
-  pub said_still : (i : ℕ) (subs : List Subscription) → said (deal st (only kind nothing)) i subs ≡ []
+  pub said_still : (i : ℕ) (subs : List Subscription) → said (deal st (λ kind. nothing)) i subs ≡ []
   said_still i [] = refl
-  said_still i (s ∷ subs) = rw (passed_over (eqb i kind) (room_of i) s) (said_still (suc i) subs)
+  said_still i (s ∷ subs) = said_still (suc i) subs
 
 module _ (st : Settings) (p : Phase) (idle : ℕ) (subs : List Subscription) where
   -- so the session is as it is named, and sends what is said besides
   alone : (es : List Emission)
       → ◌≡◌ {A = sessions.Session × List Emission} (session_as p idle empty_run subs, es ++ [])
-      (session_as p idle empty_run (row (deal st (only 0 nothing)) 0 subs), es ++ map copy (said (deal st (only 0 nothing)) 0 subs))
-  alone es = rw (row_still st 0 0 subs, said_still st 0 0 subs)
+      (session_as p idle empty_run (row (deal st (λ kind. nothing)) 0 subs), es ++ map copy (said (deal st (λ kind. nothing)) 0 subs))
+  alone es = rw (row_still st 0 subs, said_still st 0 subs)
 
 -- ==== what is to be shown: the model does what the decision does, and tells of the identifier that the decision makes known
 
-abbrev Right : Shared → List ℕ → List ℕ → List Subscription → sessions.Session × List Emission → Option (List ℕ) → Decision → Type 0
+abbrev Right : Shared → List ℕ → List ℕ → List Subscription → sessions.Session × List Emission → Maybe (List ℕ) → Decision → Type 0
 Right g header field subs did told d = (did ≡ carried_out g header d subs) × (told ≡ announced d.identifies field)
+
+-- ==== the kinds that the table of messages names are those that there are, by one computed test
+
+abbrev kind_known : model.Effect → Bool
+kind_known starts = true
+kind_known stops = true
+kind_known (identifies n) = true
+kind_known (subscribes kind n) = ltb kind (length kinds)
+kind_known (unsubscribes kind n) = ltb kind (length kinds)
+kind_known (acknowledges kind) = ltb kind (length kinds)
+kind_known (fetches n) = true
+kind_known mirrors = true
+
+named_known : (kind : ℕ) → ltb kind (length kinds) ≡ true → place_of (named kind) ≡ kind
+named_known kind known = place_named kind (ltb-true kind (length kinds) known)
 
 -- ==== to one that is started
 
@@ -93,33 +90,33 @@ module _ (g : Shared) (x : Common) (remembers : Remembers x g.kept) (m : runs.Me
   abbrev number : ℕ
   number = meant x (number_asked m.data_field)
 
-  by_effect : (e : model.Effect) → Right g m.header m.data_field subs (carry_out g subs m e) (identifier_told m e)
+  by_effect : (e : model.Effect) → kind_known e ≡ true → Right g m.header m.data_field subs (carry_out g subs m e) (identifier_told m e)
       (accepted m.mid m.revision m.no_acknowledge number (some e))
-  by_effect starts = (alone st Started 0 subs [], refl)
-  by_effect stops = (alone st Opened 0 subs (_ ∷ []), refl)
-  by_effect (identifies n) = (alone st Started 0 subs (_ ∷ []), refl)
-  by_effect (subscribes kind n) = (refl, refl)
-  by_effect (unsubscribes kind n) = (refl, refl)
-  by_effect (acknowledges kind) = (refl, refl)
-  by_effect (fetches n) =
+  by_effect starts known = (alone st Started 0 subs [], refl)
+  by_effect stops known = (alone st Opened 0 subs (_ ∷ []), refl)
+  by_effect (identifies n) known = (alone st Started 0 subs (_ ∷ []), refl)
+  by_effect (subscribes kind n) known = rw (named_known kind known) (refl, refl)
+  by_effect (unsubscribes kind n) known = rw (named_known kind known) (refl, refl)
+  by_effect (acknowledges kind) known = rw (named_known kind known) (refl, refl)
+  by_effect (fetches n) known =
       let o = numbered number g.kept in
       let said = ap fetched (remembers.asked_for (number_asked m.data_field)) ∙ sym (append-nil (fetched o)) in
       (ap (λ es. (started 0 empty_run subs, es)) said ∙ alone st Started 0 subs (fetched o), refl)
-  by_effect mirrors = (alone st Started 0 subs (_ ∷ []), refl)
+  by_effect mirrors known = (alone st Started 0 subs (_ ∷ []), refl)
 
   by_answer : (n : ℕ) (answers : Bool)
       → (started 0 empty_run subs, cond answers (reply (frame_0004 m.mid n) ∷ []) [])
-      ≡ carried_out g m.header (replied (cond answers (Error m.mid n) Nothing) begun) subs
+      ≡ carried_out g m.header (replied (cond answers (Some (Error m.mid n)) None) begun) subs
   by_answer n true = alone st Started 0 subs (_ ∷ [])
   by_answer n false = alone st Started 0 subs []
 
-  by_error : (entry : Option Entry) (error : Option model.Error)
+  by_error : (entry : Maybe Entry) → entry_of m.mid ≡ entry → (error : Maybe model.Error)
       → Right g m.header m.data_field subs (judged g subs m entry error) (identifier_judged m entry error)
       (decided_started m.mid m.revision m.no_acknowledge number (effect_listed entry) error)
-  by_error none none = (alone st Started 0 subs [], refl)
-  by_error none (some error) = (alone st Started 0 subs (_ ∷ []), refl)
-  by_error (some e) none = by_effect e.effect
-  by_error (some e) (some error) = (by_answer (code error) (gets_reply e.effect), refl)
+  by_error none q none = (alone st Started 0 subs [], refl)
+  by_error none q (some error) = (alone st Started 0 subs (_ ∷ []), refl)
+  by_error (some e) q none = by_effect e.effect (entry_at (λ e. kind_known e.effect) refl m.mid e q).1
+  by_error (some e) q (some error) = (by_answer (code error) (gets_reply e.effect), refl)
 
 -- ==== to one that is not started
 
@@ -133,18 +130,18 @@ module _ (g : Shared) (m : runs.Message) (idle : ℕ) (subs : List Subscription)
   abbrev x : Session
   x = session Opened idle
 
-  begins : (error : Option model.Error) → Right g m.header m.data_field subs (begin g idle m error) none
-      (cond (no_error error) start (replied (Error m.mid (error_number error)) x))
+  begins : (error : Maybe model.Error) → Right g m.header m.data_field subs (begin g idle m error) none
+      (cond (no_error error) start (replied (Some (Error m.mid (error_number error))) x))
   begins none = (alone g.settings Started 0 no_subscriptions (_ ∷ []), refl)
   begins (some error) = (alone g.settings Opened idle subs (_ ∷ []), refl)
 
   module _ (s : model.Standing) (unstarted : s.started ≡ false) where
-    abbrev found : Option model.Error
+    abbrev found : Maybe model.Error
     found = error_of s m.mid m.size m.revision m.data_field
 
     by_mid : (b : Bool) → eqb m.mid 1 ≡ b → Right g m.header m.data_field subs
         (cond b (begin g idle m (message_error (opened_standing g) m)) (opened idle empty_run, [])) none
-        (cond b (cond (no_error found) start (replied (Error m.mid (error_number found)) x)) (replied Nothing x))
+        (cond b (cond (no_error found) start (replied (Some (Error m.mid (error_number found))) x)) (replied None x))
     by_mid false e = (alone g.settings Opened idle subs [], refl)
     by_mid true e =
         rw (same_error (opened_standing g) s m.mid m.size m.revision m.data_field refl unstarted
@@ -153,10 +150,10 @@ module _ (g : Shared) (m : runs.Message) (idle : ℕ) (subs : List Subscription)
 -- ==== a run at its end
 
 module _ (g : Shared) (idle : ℕ) (subs : List Subscription) (standing : Standing) (r : Run) where
-  abbrev read_if : Bool → Option runs.Message
+  abbrev read_if : Bool → Maybe runs.Message
   read_if b = cond b (some (message_of r)) none
 
-  abbrev Ends : Phase → Bool → sessions.Session × List Emission → Option (List ℕ) → Type 0
+  abbrev Ends : Phase → Bool → sessions.Session × List Emission → Maybe (List ℕ) → Type 0
   Ends p b did told =
       let field = drop header_length r.kept in
       Right g (take header_length r.kept) field subs did told (decision (session p idle) standing (shown (read_if b)) field)
@@ -166,7 +163,7 @@ module _ (g : Shared) (idle : ℕ) (subs : List Subscription) (standing : Standi
   unfolding decision
   started_run stands remembers false = (alone g.settings Started idle subs [], refl)
   started_run stands remembers true =
-      rw stands (by_error g standing.common remembers (message_of r) subs (entry_of (message_of r).mid)
+      rw stands (by_error g standing.common remembers (message_of r) subs (entry_of (message_of r).mid) refl
       (message_error (started_standing g subs) (message_of r)))
 
   opened_run : standing_of standing ≡ standing_in g Opened subs → (b : Bool)

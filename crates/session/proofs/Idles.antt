@@ -17,8 +17,7 @@ use Rattle.session.specs.Effects.{ticked_in, ticked_so}
 use Rattle.session.specs.declared.Phase.{Phase}
 use Rattle.session.specs.declared.Phase.TheVariants.{Closed, Opened, Started}
 use Rattle.session.specs.declared.Session.{Session}
-use Rattle.session.specs.declared.Idling.{Idling}
-use Rattle.session.specs.declared.Idling.TheVariants.{Stays, TimesOut}
+use Rattle.std.specs.Prelude.{Option, Some, None}
 use Rattle.session.proofs.Tests.{chosen}
 
 module _ (g : Shared) (run : Run) (subs : List Subscription) where
@@ -45,9 +44,9 @@ module _ (g : Shared) (run : Run) (subs : List Subscription) where
 
 -- ==== the idle count of one that stays
 
-abbrev Few : Idling → Type 0
-Few TimesOut = Unit {0}
-Few (Stays y) = y.idle < idle_limit
+abbrev Few : Option Session → Type 0
+Few None = Unit {0}
+Few (Some y) = y.idle < idle_limit
 
 few_open : (p : Phase) (idle : ℕ) → Few (idled_open (session p idle))
 few_open p idle = chosen Few (leb idle_limit (idle + 1)) (λ e. tt) (leb-false idle_limit (idle + 1))
@@ -58,5 +57,5 @@ few_idled Closed idle few = few
 few_idled Opened idle few = few_open Opened idle
 few_idled Started idle few = few_open Started idle
 
-pub idled_few : (x y : Session) → x.idle < idle_limit → idled x ≡ Stays y → y.idle < idle_limit
+pub idled_few : (x y : Session) → x.idle < idle_limit → idled x ≡ Some y → y.idle < idle_limit
 idled_few x y few e = rw e at (few_idled x.phase x.idle few)

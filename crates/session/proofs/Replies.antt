@@ -1,6 +1,7 @@
 -- The reply to a message, and what else goes out to one session, as output records.
 use mathlib.Core.Path.{◌≡◌, refl, sym, ap, ◌∙◌}
 use Prim.Native.Nat.{ℕ}
+use Rattle.std.specs.Prelude.{Option}
 use mathlib.Core.List.{List, [], ◌∷◌, ◌++◌, append-nil}
 use Rattle.model.specs.Records.{Settings}
 use Rattle.model.specs.Frames.{frame_record}
@@ -14,7 +15,7 @@ use Rattle.frame.specs.declared.To.{To}
 use Rattle.session.specs.Effects.{written, out_bytes}
 use Rattle.session.specs.declared.Reply.{Reply}
 
-module _ (to : To) (st : Settings) (told : List ℕ) {r r' : Reply} (e : r ≡ r') where
+module _ (to : To) (st : Settings) (told : List ℕ) {r r' : Option Reply} (e : r ≡ r') where
   pub no_reply : {o : List ℕ} → written st told r' ≡ []
       → Put o to.at (out_bytes to.session (written st told r)) to.at o
   no_reply {o} n = put_as (ap (out_bytes to.session) (sym (ap (written st told) e ∙ n))) (put_nothing o to.at)

@@ -1,6 +1,6 @@
 -- 01, "Notices and the clock": what the functions of this crate answer, over the values that they are given. proofs/ ties each to
 -- the model, for whatever notices are held.
-use Rattle.std.specs.Prelude.{◌≡◌, ℕ, ◌+◌, ◌-◌, ◌%◌, Bool, true, false, cond, ltb, leb, eqb}
+use Rattle.std.specs.Prelude.{◌≡◌, ℕ, ◌+◌, ◌-◌, ◌%◌, Bool, true, false, cond, ltb, leb, eqb, Option, Some, None}
 use Rattle.model.specs.Limits.{idle_limit, copy_every, given_up_at}
 use Rattle.model.specs.Kinds.{Room, the_newest, up_to}
 use Rattle.session.specs.Meaning.{most_held}
@@ -17,12 +17,10 @@ use Rattle.session.specs.declared.Due.{Due}
 use Rattle.session.specs.declared.Due.TheVariants as due
 use Rattle.session.specs.declared.Step.{Step}
 use Rattle.session.specs.declared.Deed.{Deed}
-use Rattle.session.specs.declared.Deed.TheVariants.{Nothing, Beats, Acks, Asks, Drops}
+use Rattle.session.specs.declared.Deed.TheVariants.{Beats, Acks, Asks, Drops}
 use Rattle.session.specs.declared.Take.{Take}
 use Rattle.session.specs.declared.Take.TheVariants as take
 use Rattle.session.specs.declared.Taken.{Taken}
-use Rattle.session.specs.declared.Idling.{Idling}
-use Rattle.session.specs.declared.Idling.TheVariants.{Stays, TimesOut}
 
 -- ==== subscribing
 
@@ -65,13 +63,13 @@ clock_after (Runs clock) = record { ticks = clock }
 clock_after (Copy clock) = record { ticks = clock }
 clock_after GivenUp = record { ticks = 0 }
 
-abbrev pub due_by : Beat → Due
-due_by (Runs clock) = due.Nothing
-due_by (Copy clock) = due.Copy
-due_by GivenUp = due.GivenUp
+abbrev pub due_by : Beat → Option Due
+due_by (Runs clock) = None
+due_by (Copy clock) = Some due.Copy
+due_by GivenUp = Some due.GivenUp
 
 -- a clock that is lent goes on by a beat
-pub record Advances (before : Clock) (due : Due) (after : Clock) : Type 0 where
+pub record Advances (before : Clock) (due : Option Due) (after : Clock) : Type 0 where
   pub clock : after ≡ clock_after (beat_at before.ticks)
   pub time : due ≡ due_by (beat_at before.ticks)
 
@@ -91,10 +89,10 @@ abbrev pub next_goes_out : Subscription → Step
 next_goes_out x = cond (eqb x.held 0) (still x) (step (holding x 0 (x.held - 1)) true (ltb 1 x.held))
 
 -- by where its clock has come, and what it is time for
-abbrev pub step_at : Subscription → ℕ → Due → Step
-step_at x clock due.Nothing = step (holding x clock x.held) false false
-step_at x clock due.Copy = step (holding x clock x.held) false true
-step_at x clock due.GivenUp = next_goes_out x
+abbrev pub step_at : Subscription → ℕ → Option Due → Step
+step_at x clock None = step (holding x clock x.held) false false
+step_at x clock (Some due.Copy) = step (holding x clock x.held) false true
+step_at x clock (Some due.GivenUp) = next_goes_out x
 
 abbrev pub by_beat : Subscription → Beat → Step
 by_beat x b = step_at x (clock_after b).ticks (due_by b)
@@ -118,7 +116,6 @@ acknowledged x = acknowledged_from x.form x
 -- ==== a deed, an event aside
 
 abbrev pub dealt : Subscription → Deed → Step
-dealt x Nothing = still x
 dealt x Beats = ticked x
 dealt x Acks = acknowledged x
 dealt x (Asks revision no_acknowledge) = still (subscribed x revision no_acknowledge)
@@ -148,13 +145,14 @@ taken room x = take_or x (taken_busy room x)
 
 -- ==== the idle count
 
-abbrev pub idled_open : Session → Idling
-idled_open x = cond (leb idle_limit (x.idle + 1)) TimesOut (Stays (session x.phase (x.idle + 1)))
+-- the session after a tick; none where it times out
+abbrev pub idled_open : Session → Option Session
+idled_open x = cond (leb idle_limit (x.idle + 1)) None (Some (session x.phase (x.idle + 1)))
 
-abbrev pub idled_from : Phase → Session → Idling
-idled_from phase.Closed x = Stays x
+abbrev pub idled_from : Phase → Session → Option Session
+idled_from phase.Closed x = Some x
 idled_from phase.Opened x = idled_open x
 idled_from phase.Started x = idled_open x
 
-unfoldable pub idled : Session → Idling
+unfoldable pub idled : Session → Option Session
 idled x = idled_from x.phase x

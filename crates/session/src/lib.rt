@@ -9,14 +9,12 @@ ghost use Rattle.model.specs.Kinds.{reply_most};
 ghost use Rattle.model.specs.Messages.{entry_of};
 ghost use Rattle.text.specs.Put.{WrittenUpTo};
 ghost use Rattle.frame.specs.Header.{header_of};
-ghost use Rattle.message.specs.Meaning.{effect_in, effect_listed, error_in};
+ghost use Rattle.message.specs.Meaning.{effect_found, effect_listed, error_in};
 ghost use Rattle.session.specs.Control.{
   fresh as fresh_session,
   cleared as cleared_session,
   beat_at,
-  clock_after,
   Advances,
-  due_by,
   step_at,
   still as still_one,
   next_goes_out,
@@ -36,7 +34,6 @@ ghost use Rattle.session.specs.Decisions.{
   start as start_so,
   identify as identify_so,
   deal as deal_so,
-  no_error,
   refused as refused_with,
   accepted as accepted_as,
   decided_started,
@@ -46,20 +43,21 @@ ghost use Rattle.session.specs.Decisions.{
 ghost use Rattle.session.specs.Effects.{written, out_bytes, ReplyLent};
 
 use frame::{Header, To};
-use message::{Effect, Outline, Standing, Verdict};
-use model::IDENTIFIERS;
+use message::{Effect, Error, Outline, Standing};
+use model::Kind;
 
 // ---- a session
 
-#[derive(Clone, Copy)]
+#[derive(Clone, Copy, PartialEq, Eq)]
 pub enum Phase {
     Closed,
     Opened,
     Started,
 }
 
-// How a session is subscribed to a kind of notice: not at all, with no acknowledge asked, with acknowledges.
-#[derive(Clone, Copy)]
+// How a session is subscribed to a kind of notice: not at all, with no acknowledge asked, with acknowledges. (Not at all is a form as well:
+// the table that is lent has a place for the rest of the subscription whatever the form is.)
+#[derive(Clone, Copy, PartialEq, Eq)]
 pub enum Form {
     Not,
     Plain,
@@ -140,32 +138,30 @@ fn form_asked(no_acknowledge: bool) -> Form
     ensures { result ≡ cond no_acknowledge Form.Plain Form.Acknowledged }
 {
     if no_acknowledge {
-        return Form::Plain;
+        Form::Plain
+    } else {
+        Form::Acknowledged
     }
-    Form::Acknowledged
 }
 
 // One that is subscribed already stays as it is.
 pub fn subscribed(x: Subscription, revision: u64, no_acknowledge: bool) -> Subscription
     ensures { result ≡ subscribed_to x revision no_acknowledge }
 {
-    let form = x.form;
-    match form {
+    match x.form {
         Form::Not => Subscription {
             form: form_asked(no_acknowledge),
             revision,
-            clock: 0,
-            held: 0,
+            ..unsubscribed()
         },
-        Form::Plain => x,
-        Form::Acknowledged => x,
+        Form::Plain | Form::Acknowledged => x,
     }
 }
 
 // ---- the clock of an open notice
 
 // What a tick does to an open notice: its clock runs; it runs, and it is time for another copy; or the notice is given up.
-#[derive(Clone, Copy)]
+#[derive(Clone, Copy, PartialEq, Eq)]
 pub enum Beat {
     Runs(u64),
     Copy(u64),
@@ -173,6 +169,7 @@ pub enum Beat {
 }
 
 // The clock is handed in, and out in the answer.
+#[tactic(auto, unfolding(crate::specs::Control::beat_at))]
 pub fn beat_of(clock: u64) -> Beat
     ensures { result ≡ beat_at clock }
 {
@@ -192,42 +189,24 @@ pub struct Clock {
     pub ticks: u64,
 }
 
-// What it is time for, once a clock is advanced: nothing; another copy; to give the notice up.
-#[derive(Clone, Copy)]
+// What it is time for, once a clock is advanced, if it is for anything: another copy; to give the notice up.
+#[derive(Clone, Copy, PartialEq, Eq)]
 pub enum Due {
-    Nothing,
     Copy,
     GivenUp,
 }
 
-// Where a beat leaves the clock. The notice after one that is given up begins with a new clock.
-fn ticks_after(b: Beat) -> u64
-    ensures { result ≡ (clock_after b).ticks }
-{
-    match b {
-        Beat::Runs(clock) => clock,
-        Beat::Copy(clock) => clock,
-        Beat::GivenUp => 0,
-    }
-}
-
-fn due_after(b: Beat) -> Due
-    ensures { result ≡ due_by b }
-{
-    match b {
-        Beat::Runs(_) => Due::Nothing,
-        Beat::Copy(_) => Due::Copy,
-        Beat::GivenUp => Due::GivenUp,
-    }
-}
-
-// The same as `beat_of`, in place: the clock is lent.
-pub fn advance(clock: &mut Clock) -> Due
+// The same as `beat_of`, in place: the clock is lent. The notice after one that is given up begins with a new clock.
+pub fn advance(clock: &mut Clock) -> Option<Due>
     ensures { Advances clock.old result clock.new }
 {
-    let beat = beat_of(clock.ticks);
-    clock.ticks = ticks_after(beat);
-    due_after(beat)
+    let (ticks, due) = match beat_of(clock.ticks) {
+        Beat::Runs(ticks) => (ticks, None),
+        Beat::Copy(ticks) => (ticks, Some(Due::Copy)),
+        Beat::GivenUp => (0, Some(Due::GivenUp)),
+    };
+    clock.ticks = ticks;
+    due
 }
 
 // ---- a tick and an acknowledge, to a subscription
@@ -252,50 +231,35 @@ fn still(x: Subscription) -> Step
 }
 
 // The same subscription, so many notices held and the open one's clock at `clock`.
-fn holding(x: Subscription, clock: u64, held: u64) -> Subscription
+pub fn holding(x: Subscription, clock: u64, held: u64) -> Subscription
     ensures { result ≡ holding_so x clock held }
 {
-    let form = x.form;
-    Subscription {
-        form,
-        revision: x.revision,
-        clock,
-        held,
-    }
+    Subscription { clock, held, ..x }
 }
 
 // The open one is gone, and the next, if there is one, goes out with a new clock.
 fn next_one(x: Subscription) -> Step
     ensures { result ≡ next_goes_out x }
 {
-    let held = x.held;
-    if held == 0 {
+    if x.held == 0 {
         return still(x);
     }
     Step {
-        next: holding(x, 0, held - 1),
+        next: holding(x, 0, x.held - 1),
         shift: true,
-        send: held > 1,
+        send: x.held > 1,
     }
 }
 
 // What is done where the open one's clock came to `clock`.
-fn done_at(x: Subscription, clock: u64, due: Due) -> Step
+fn done_at(x: Subscription, clock: u64, due: Option<Due>) -> Step
     ensures { result ≡ step_at x clock due }
 {
-    let held = x.held;
+    let same = still(Subscription { clock, ..x });
     match due {
-        Due::Nothing => Step {
-            next: holding(x, clock, held),
-            shift: false,
-            send: false,
-        },
-        Due::Copy => Step {
-            next: holding(x, clock, held),
-            shift: false,
-            send: true,
-        },
-        Due::GivenUp => next_one(x),
+        None => same,
+        Some(Due::Copy) => Step { send: true, ..same },
+        Some(Due::GivenUp) => next_one(x),
     }
 }
 
@@ -312,16 +276,9 @@ fn beaten(x: Subscription) -> Step
 pub fn ticked(x: Subscription) -> Step
     ensures { result ≡ ticked_to x }
 {
-    let form = x.form;
-    match form {
-        Form::Not => still(x),
-        Form::Plain => still(x),
-        Form::Acknowledged => {
-            if x.held == 0 {
-                return still(x);
-            }
-            beaten(x)
-        }
+    match x.form {
+        Form::Acknowledged if x.held > 0 => beaten(x),
+        Form::Not | Form::Plain | Form::Acknowledged => still(x),
     }
 }
 
@@ -329,20 +286,17 @@ pub fn ticked(x: Subscription) -> Step
 pub fn acknowledged(x: Subscription) -> Step
     ensures { result ≡ acknowledged_to x }
 {
-    let form = x.form;
-    match form {
-        Form::Not => still(x),
-        Form::Plain => still(x),
+    match x.form {
+        Form::Not | Form::Plain => still(x),
         Form::Acknowledged => next_one(x),
     }
 }
 
 // ---- a deed, to a subscription
 
-// What is done to a subscription, an event aside: nothing; a tick; an acknowledge; it is subscribed to; it is unsubscribed from.
-#[derive(Clone, Copy)]
+// What is done to a subscription, an event aside: a tick; an acknowledge; it is subscribed to; it is unsubscribed from.
+#[derive(Clone, Copy, PartialEq, Eq)]
 pub enum Deed {
-    Nothing,
     Beats,
     Acks,
     Asks { revision: u64, no_acknowledge: bool },
@@ -353,7 +307,6 @@ pub fn dealt(x: Subscription, deed: Deed) -> Step
     ensures { result ≡ dealt_to x deed }
 {
     match deed {
-        Deed::Nothing => still(x),
         Deed::Beats => ticked(x),
         Deed::Acks => acknowledged(x),
         Deed::Asks {
@@ -367,8 +320,8 @@ pub fn dealt(x: Subscription, deed: Deed) -> Step
 // ---- an event, to a subscription
 
 // What becomes of its notice: it is not taken; sent once, and not held; held at place 0 as the open one, and sent; held at the
-// place that is named, and not sent yet.
-#[derive(Clone, Copy)]
+// place that is named, and not sent yet. (Not taken is no `None` beside the others: of one that is sent once the subscription stays, too.)
+#[derive(Clone, Copy, PartialEq, Eq)]
 pub enum Take {
     Not,
     Once,
@@ -385,46 +338,36 @@ pub struct Taken {
 
 // ---- the idle count
 
-// What a tick does to a session's idle count: the session stays, or times out.
-#[derive(Clone, Copy)]
-pub enum Idling {
-    Stays(Session),
-    TimesOut,
-}
-
-fn idled_open(x: Session) -> Idling
+fn idled_open(x: Session) -> Option<Session>
     ensures { result ≡ idled_open_to x }
 {
-    let idle = x.idle;
-    if idle >= Session::IDLE_LIMIT - 1 {
-        return Idling::TimesOut;
+    if x.idle < Session::IDLE_LIMIT - 1 {
+        Some(Session {
+            idle: x.idle + 1,
+            ..x
+        })
+    } else {
+        None
     }
-    let phase = x.phase;
-    Idling::Stays(Session {
-        phase,
-        idle: idle + 1,
-    })
 }
 
+// The session after a tick, or none: it times out.
 #[tactic(auto, unfolding(crate::specs::Control::idled))]
-pub fn idled(x: Session) -> Idling
+pub fn idled(x: Session) -> Option<Session>
     ensures { result ≡ idled_to x }
 {
-    let phase = x.phase;
-    match phase {
-        Phase::Closed => Idling::Stays(x),
-        Phase::Opened => idled_open(x),
-        Phase::Started => idled_open(x),
+    match x.phase {
+        Phase::Closed => Some(x),
+        Phase::Opened | Phase::Started => idled_open(x),
     }
 }
 
 // ---- a message, to a session
 
-// What goes back to whom a message came from: nothing; 0002; 0005, with the message's number; 0004, with that and the error's; 0065, with
-// the number of a tightening that is kept; its own header.
-#[derive(Clone, Copy)]
+// What goes back to whom a message came from: 0002; 0005, with the message's number; 0004, with that and the error's; 0065, with the number
+// of a tightening that is kept; its own header.
+#[derive(Clone, Copy, PartialEq, Eq)]
 pub enum Reply {
-    Nothing,
     Started,
     Accepted { mid: u64 },
     Error { mid: u64, code: u64 },
@@ -435,14 +378,14 @@ pub enum Reply {
 // What a run does.
 #[derive(Clone, Copy)]
 pub struct Decision {
-    pub reply: Reply,
+    // If there is one.
+    pub reply: Option<Reply>,
     // The session after it, but for its subscriptions.
     pub next: Session,
     // What it was subscribed to, and held, is gone.
     pub begins: bool,
-    // Then the deed is done to its notices of that kind.
-    pub kind: usize,
-    pub deed: Deed,
+    // Then a deed is done, if there is one, to its notices of that kind.
+    pub deed: Option<(Kind, Deed)>,
     // The data field is made known as an identifier.
     pub identifies: bool,
 }
@@ -457,16 +400,15 @@ fn begun() -> Session
     }
 }
 
-// A reply, and nothing is done to its notices.
-fn replied(reply: Reply, next: Session) -> Decision
+// A reply, if there is one, and nothing is done to its notices.
+fn replied(reply: Option<Reply>, next: Session) -> Decision
     ensures { result ≡ replied_so reply next }
 {
     Decision {
         reply,
         next,
         begins: false,
-        kind: IDENTIFIERS,
-        deed: Deed::Nothing,
+        deed: None,
         identifies: false,
     }
 }
@@ -476,12 +418,8 @@ fn start() -> Decision
     ensures { result ≡ start_so }
 {
     Decision {
-        reply: Reply::Started,
-        next: begun(),
         begins: true,
-        kind: IDENTIFIERS,
-        deed: Deed::Nothing,
-        identifies: false,
+        ..replied(Some(Reply::Started), begun())
     }
 }
 
@@ -490,168 +428,131 @@ fn identify(mid: u64) -> Decision
     ensures { result ≡ identify_so mid }
 {
     Decision {
-        reply: Reply::Accepted { mid },
-        next: begun(),
-        begins: false,
-        kind: IDENTIFIERS,
-        deed: Deed::Nothing,
         identifies: true,
+        ..replied(Some(Reply::Accepted { mid }), begun())
     }
 }
 
 // A message for one kind of notice is accepted.
-fn deal(reply: Reply, kind: usize, deed: Deed) -> Decision
+fn deal(reply: Option<Reply>, kind: Kind, deed: Deed) -> Decision
     ensures { result ≡ deal_so reply kind deed }
 {
     Decision {
-        reply,
-        next: begun(),
-        begins: false,
-        kind,
-        deed,
-        identifies: false,
-    }
-}
-
-// Whether the tests found no error.
-fn is_fine(v: Verdict) -> bool
-    ensures { result ≡ no_error (error_in v) }
-{
-    match v {
-        Verdict::Fine => true,
-        Verdict::Unknown => false,
-        Verdict::AlreadyStarted => false,
-        Verdict::Length => false,
-        Verdict::Revision => false,
-        Verdict::Data => false,
-        Verdict::Own(_) => false,
+        deed: Some((kind, deed)),
+        ..replied(reply, begun())
     }
 }
 
 // A message with an error, to a session that is started.
-fn refused(mid: u64, e: Effect, v: Verdict) -> Decision
-    ensures { result ≡ refused_with mid (effect_in e) (error_in v) }
+fn refused(mid: u64, effect: Option<Effect>, error: Error) -> Decision
+    ensures { result ≡ refused_with mid (effect_found effect) (error_in (Err error)) }
 {
-    if message::gets_reply(e) {
-        let code = message::error_code(v);
-        return replied(Reply::Error { mid, code }, begun());
+    if message::gets_reply(effect) {
+        let code = message::error_code(Err(error));
+        replied(Some(Reply::Error { mid, code }), begun())
+    } else {
+        replied(None, begun())
     }
-    replied(Reply::Nothing, begun())
 }
 
 // A message with no error, to a session that is started; the number is that of the tightening that it asks for, if it asks for one.
-fn accepted(mid: u64, revision: u64, no_acknowledge: bool, number: u64, e: Effect) -> Decision
-    ensures { result ≡ accepted_as mid revision no_acknowledge number (effect_in e) }
+fn accepted(h: Header, number: u64, effect: Option<Effect>) -> Decision
+    ensures { result ≡ accepted_as h.mid h.revision h.no_acknowledge number (effect_found effect) }
 {
-    match e {
-        Effect::Unknown => replied(Reply::Nothing, begun()),
-        Effect::Starts => replied(Reply::Nothing, begun()),
-        Effect::Stops => replied(Reply::Accepted { mid }, Session::fresh()),
-        Effect::Identifies { error: _ } => identify(mid),
-        Effect::Subscribes { kind, error: _ } => {
+    let reply = Some(Reply::Accepted { mid: h.mid });
+    match effect {
+        None | Some(Effect::Starts) => replied(None, begun()),
+        Some(Effect::Stops) => replied(reply, Session::fresh()),
+        Some(Effect::Identifies { .. }) => identify(h.mid),
+        Some(Effect::Subscribes { kind, .. }) => {
             let asks = Deed::Asks {
-                revision,
-                no_acknowledge,
+                revision: h.revision,
+                no_acknowledge: h.no_acknowledge,
             };
-            deal(Reply::Accepted { mid }, kind, asks)
+            deal(reply, kind, asks)
         }
-        Effect::Unsubscribes { kind, error: _ } => deal(Reply::Accepted { mid }, kind, Deed::Drops),
-        Effect::Acknowledges { kind } => deal(Reply::Nothing, kind, Deed::Acks),
-        Effect::Fetches { error: _ } => replied(Reply::Kept { number }, begun()),
-        Effect::Mirrors => replied(Reply::Mirrored, begun()),
+        Some(Effect::Unsubscribes { kind, .. }) => deal(reply, kind, Deed::Drops),
+        Some(Effect::Acknowledges { kind }) => deal(None, kind, Deed::Acks),
+        Some(Effect::Fetches { .. }) => replied(Some(Reply::Kept { number }), begun()),
+        Some(Effect::Mirrors) => replied(Some(Reply::Mirrored), begun()),
     }
 }
 
-fn decide_started(
-    mid: u64,
-    revision: u64,
-    no_acknowledge: bool,
-    number: u64,
-    v: Verdict,
-) -> Decision
-    ensures { result ≡ decided_started mid revision no_acknowledge number (effect_listed (entry_of mid)) (error_in v) }
+fn decide_started(h: Header, number: u64, found: Result<(), Error>) -> Decision
+    ensures { result ≡ decided_started h.mid h.revision h.no_acknowledge number (effect_listed (entry_of h.mid)) (error_in found) }
 {
-    let e = message::effect_of(mid);
-    if is_fine(v) {
-        return accepted(mid, revision, no_acknowledge, number, e);
+    let effect = message::effect_of(h.mid);
+    match found {
+        Ok(()) => accepted(h, number, effect),
+        Err(error) => refused(h.mid, effect, error),
     }
-    refused(mid, e, v)
 }
 
 // 0001 alone counts.
-fn decide_opened(x: Session, mid: u64, v: Verdict) -> Decision
-    ensures { result ≡ decided_opened x mid (error_in v) }
+fn decide_opened(x: Session, mid: u64, found: Result<(), Error>) -> Decision
+    ensures { result ≡ decided_opened x mid (error_in found) }
 {
-    match mid {
-        1 => {
-            if is_fine(v) {
-                return start();
-            }
-            let code = message::error_code(v);
-            replied(Reply::Error { mid, code }, x)
-        }
-        _ => replied(Reply::Nothing, x),
+    if mid != 1 {
+        return replied(None, x);
     }
-}
-
-// What a run does whose header is h.
-#[tactic(auto, unfolding(crate::specs::Decisions::decision))]
-fn decide_read(x: Session, standing: Standing, h: Header, data_field: &[u8]) -> Decision
-    ensures { result ≡ decision x standing h data_field.now }
-{
-    let Header::Message {
-        size,
-        mid,
-        revision,
-        no_acknowledge,
-    } = h
-    else {
-        return replied(Reply::Nothing, x);
-    };
-    let number = message::number_meant(standing, data_field);
-    let v = message::judge(
-        standing,
-        Outline { mid, size },
-        revision,
-        number,
-        data_field,
-    );
-    let phase = x.phase;
-    match phase {
-        Phase::Closed => replied(Reply::Nothing, x),
-        Phase::Opened => decide_opened(x, mid, v),
-        Phase::Started => decide_started(mid, revision, no_acknowledge, number, v),
+    match found {
+        Ok(()) => start(),
+        Err(_) => {
+            let code = message::error_code(found);
+            replied(Some(Reply::Error { mid, code }), x)
+        }
     }
 }
 
 // What a run of count bytes does, whose first are these.
+#[tactic(auto, using(message::proofs::Order::by_number), unfolding(crate::specs::Decisions::decision))]
 pub fn decide(x: Session, standing: Standing, run: &[u8], count: usize) -> Decision
     ensures { result ≡ decision x standing (header_of run.now «count») (drop header_length run.now) }
 {
     let read = frame::read_header(run, count);
-    decide_read(x, standing, read.header, read.field)
+    let Some(h) = read.header else {
+        return replied(None, x);
+    };
+    let number = message::number_meant(standing, read.field);
+    let outline = Outline {
+        mid: h.mid,
+        size: h.size,
+    };
+    let found = message::judge(standing, outline, h.revision, number, read.field);
+    match x.phase {
+        Phase::Closed => replied(None, x),
+        Phase::Opened => decide_opened(x, h.mid, found),
+        Phase::Started => decide_started(h, number, found),
+    }
 }
 
 // ---- the reply, as an output record
 
 // What it tells, besides the settings: of a 9999 the run that was decided on, whose header goes back as it came; of a tightening that is
 // kept its payload.
-pub fn put_reply(out: &mut [u8], to: To, settings: &[u8], told: &[u8], reply: Reply) -> usize
+pub fn put_reply(
+    out: &mut [u8],
+    to: To,
+    settings: &[u8],
+    told: &[u8],
+    reply: Option<Reply>,
+) -> usize
     requires { ReplyLent out.old settings.now told.now to reply }
     ensures { WrittenUpTo out.old to.at reply_most
         (out_bytes to.session (written (settings_of settings.now) told.now reply)) result out.new }
 {
     match reply {
-        Reply::Nothing => to.at,
-        Reply::Started => frame::put_0002(out, to, settings),
-        Reply::Accepted { mid } => frame::put_0005(out, to, mid),
-        Reply::Error { mid, code } => frame::put_0004(out, to, mid, code),
-        Reply::Kept { number } => frame::put_0065(out, to, number, told),
-        Reply::Mirrored => frame::put_9999(out, to, told),
+        None => to.at,
+        Some(Reply::Started) => frame::put_0002(out, to, settings),
+        Some(Reply::Accepted { mid }) => frame::put_0005(out, to, mid),
+        Some(Reply::Error { mid, code }) => frame::put_0004(out, to, mid, code),
+        Some(Reply::Kept { number }) => frame::put_0065(out, to, number, told),
+        Some(Reply::Mirrored) => frame::put_9999(out, to, told),
     }
 }
 
 // Whether identifiers are taken over the net.
+#[tactic(auto, unfolding(model::specs::Records::settings_of))]
 pub fn is_granted(settings: &[u8]) -> bool
     requires { length settings.now ≡ settings_length }
     ensures { result ≡ (settings_of settings.now).granted }
