@@ -172,7 +172,7 @@ pub fn read_header<'a>(run: &'a [u8], count: usize) -> RunRead<'a>
 // ---- what frames say
 
 // How a session is subscribed to a kind of notice, as far as a copy shows it.
-#[derive(Clone, Copy)]
+#[derive(Clone, Copy, PartialEq, Eq)]
 pub struct Asked {
     pub kind: Kind,
     pub revision: u64,
