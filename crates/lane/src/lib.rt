@@ -294,7 +294,7 @@ pub fn taking(lane: &[u8], kind: Kind) -> Taken
 pub fn is_taken(t: Take) -> bool
     ensures { result ≡ is_taken_so t }
 {
-    !matches!(t, Take::Not)
+    t != Take::Not
 }
 
 pub fn is_told(t: Take) -> bool
