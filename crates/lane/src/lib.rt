@@ -3,17 +3,17 @@
 #![tactic(auto)]
 
 ghost use Rattle.std.specs.Prelude.{◌≡◌, true, List, ℕ, ◌≤◌, ◌<◌, length};
-ghost use Rattle.model.specs.Kinds.{kinds, room_of, tightenings};
+ghost use Rattle.model.specs.Kinds.{room_of, tightenings};
+ghost use Rattle.model.specs.Named.{place_of};
 ghost use Rattle.model.specs.Bytes.{all};
 ghost use Rattle.model.specs.Events.{Notice};
 ghost use Rattle.places.specs.Places.{is_place};
 ghost use Rattle.model.specs.Notices.{is_subscribed as is_subscribed_so, beats};
 ghost use Rattle.session.specs.Meaning.{deed_of, is_taken as is_taken_so};
-ghost use Rattle.session.specs.Control.{taken, taken_busy, holding as holding_so};
+ghost use Rattle.session.specs.Control.{taken, taken_busy};
 ghost use Rattle.lane.specs.Kinds.{row_of as row_so, slot_size as slot_size_of, control_size, lane_size};
 ghost use Rattle.lane.specs.Lane.{
   form_of,
-  form_greatest,
   control_of,
   first_in,
   lane_by,
@@ -32,12 +32,11 @@ ghost use Rattle.lane.specs.Lane.{
   is_held as is_held_so,
   Pushing,
   Pushes,
-  Keeping,
-  Keeps,
   Taking,
   TakesSo,
 };
 
+use model::Kind;
 use session::{Deed, Form, Session, Subscription, Take, Taken};
 
 // ---- the kinds
@@ -55,25 +54,24 @@ struct Row {
 // A place, by its number.
 const PLACE_NUMBER_SIZE: usize = 1;
 
-// The one function that has a case for each kind; the last kind has the last arm.
-fn row_of(kind: usize) -> Row
-    requires { kind < length kinds }
-    ensures { result ≡ row_so kind }
+// The one function that has a case for each kind.
+fn row_of(kind: Kind) -> Row
+    ensures { result ≡ row_so (place_of kind) }
 {
     match kind {
-        model::IDENTIFIERS => Row {
+        Kind::Identifiers => Row {
             most: Session::IDENTIFIERS_HELD,
             size: model::IDENTIFIER_LENGTH,
             newest: true,
             placed: false,
         },
-        model::TIGHTENINGS => Row {
+        Kind::Tightenings => Row {
             most: Session::TIGHTENINGS_HELD,
             size: PLACE_NUMBER_SIZE,
             newest: false,
             placed: true,
         },
-        _ => Row {
+        Kind::Alarms => Row {
             most: Session::ALARMS_HELD,
             size: model::ALARM_LENGTH,
             newest: false,
@@ -83,12 +81,10 @@ fn row_of(kind: usize) -> Row
 }
 
 // How many bytes the slot of a notice of that kind takes.
-fn slot_size(kind: usize) -> usize
-    requires { kind < length kinds }
-    ensures { result ≡ slot_size_of kind }
+fn slot_size(kind: Kind) -> usize
+    ensures { result ≡ slot_size_of (place_of kind) }
 {
-    let row = row_of(kind);
-    row.size
+    row_of(kind).size
 }
 
 // The control is before the slots.
@@ -98,9 +94,8 @@ const CONTROL_SIZE: usize = 16;
 const REVISION_AT: usize = 8;
 
 // How many bytes a lane of that kind takes.
-pub fn size(kind: usize) -> usize
-    requires { kind < length kinds }
-    ensures { result ≡ lane_size kind }
+pub fn size(kind: Kind) -> usize
+    ensures { result ≡ lane_size (place_of kind) }
 {
     let row = row_of(kind);
     CONTROL_SIZE + row.most as usize * row.size
@@ -112,12 +107,6 @@ const FORM_GREATEST: u8 = 2;
 
 const PLACE_GREATEST: u8 = 31;
 
-fn wide(x: u8) -> u64
-    ensures { result ≡ x }
-{
-    x as u64
-}
-
 fn form_from(b: u8) -> Form
     ensures { result ≡ form_of b }
 {
@@ -128,47 +117,32 @@ fn form_from(b: u8) -> Form
     }
 }
 
-fn form_byte(f: Form) -> u8
-    ensures { (form_of result ≡ f) × (result ≤ form_greatest) }
-{
-    match f {
-        Form::Not => 0,
-        Form::Plain => 1,
-        Form::Acknowledged => FORM_GREATEST,
-    }
-}
-
 // Whether each of the first so many slots is one of the places that there are, where they are places.
-fn slots_formed(lane: &[u8], kind: usize, held: usize, placed: bool) -> bool
-    requires { SlotsTested kind held «placed» lane.now }
-    ensures { result ≡ slots_formed kind held lane.now }
+#[tactic(auto, using(crate::proofs::Slots::not_tested, crate::proofs::Slots::in_lane, crate::proofs::Slots::is_tested))]
+fn slots_formed(lane: &[u8], kind: Kind, held: usize) -> bool
+    requires { SlotsTested (place_of kind) held lane.now }
+    ensures { result ≡ slots_formed (place_of kind) held lane.now }
 {
-    if !placed {
+    if !row_of(kind).placed {
         return true;
     }
     text::all_within(&lane[CONTROL_SIZE..CONTROL_SIZE + held], 0, PLACE_GREATEST)
 }
 
 // Whether the control is that of a subscription to that kind, and what it holds can be held.
-pub fn is_formed(lane: &[u8], kind: usize) -> bool
-    requires { (kind < length kinds) × (length lane.now ≡ lane_size kind) }
-    ensures { result ≡ lane_formed kind lane.now }
+#[tactic(auto, unfolding(crate::specs::Lane::lane_formed))]
+pub fn is_formed(lane: &[u8], kind: Kind) -> bool
+    requires { length lane.now ≡ lane_size (place_of kind) }
+    ensures { result ≡ lane_formed (place_of kind) lane.now }
 {
-    if lane[0] > FORM_GREATEST {
-        return false;
-    }
-    if wide(lane[1]) >= Session::GIVEN_UP_AT {
-        return false;
-    }
-    let row = row_of(kind);
-    let held = wide(lane[2]);
-    if held > row.most {
-        return false;
-    }
-    slots_formed(lane, kind, held as usize, row.placed)
+    lane[0] <= FORM_GREATEST
+        && u64::from(lane[1]) < Session::GIVEN_UP_AT
+        && u64::from(lane[2]) <= row_of(kind).most
+        && slots_formed(lane, kind, usize::from(lane[2]))
 }
 
 // The subscription.
+#[tactic(auto, unfolding(crate::specs::Lane::control_of))]
 pub fn load(lane: &[u8]) -> Subscription
     requires { control_size ≤ length lane.now }
     ensures { result ≡ control_of lane.now }
@@ -176,30 +150,30 @@ pub fn load(lane: &[u8]) -> Subscription
     Subscription {
         form: form_from(lane[0]),
         revision: text::little(lane, REVISION_AT, 8),
-        clock: wide(lane[1]),
-        held: wide(lane[2]),
+        clock: u64::from(lane[1]),
+        held: u64::from(lane[2]),
     }
 }
 
-fn store(lane: &mut [u8], kind: usize, x: Subscription)
-    requires { Storing kind x lane.old }
-    ensures { Stored kind x lane.old lane.new }
+fn store(lane: &mut [u8], kind: Kind, x: Subscription)
+    requires { Storing (place_of kind) x lane.old }
+    ensures { Stored (place_of kind) x lane.old lane.new }
 {
-    let form = x.form;
-    let bytes = [form_byte(form), x.clock as u8, x.held as u8];
-    text::copy(&bytes, lane, 0);
+    lane[..3].copy_from_slice(&[x.form as u8, x.clock as u8, x.held as u8]);
     text::put_little(lane, REVISION_AT, 8, x.revision);
 }
 
 // Whatever the bytes were: a lane that is not subscribed.
-pub fn clear(lane: &mut [u8], kind: usize)
-    requires { (kind < length kinds) × (length lane.old ≡ lane_size kind) }
-    ensures { Cleared kind lane.new }
+#[tactic(auto, using(crate::proofs::Controls::cleared))]
+pub fn clear(lane: &mut [u8], kind: Kind)
+    requires { length lane.old ≡ lane_size (place_of kind) }
+    ensures { Cleared (place_of kind) lane.new }
 {
-    text::fill(lane, 0, REVISION_AT, 0);
+    lane[..REVISION_AT].fill(0);
 }
 
 // Whatever the kind, and whatever is held.
+#[tactic(auto, using(crate::proofs::Controls::subscribed_byte))]
 pub fn is_subscribed(lane: &[u8]) -> bool
     requires { control_size ≤ length lane.now }
     ensures { (read : List ℕ → Notice) (kind : ℕ) → result ≡ is_subscribed_so (lane_by read kind lane.now) }
@@ -208,46 +182,47 @@ pub fn is_subscribed(lane: &[u8]) -> bool
 }
 
 // The first slot, as it stands: the open notice is there, where one is open.
-pub fn first(lane: &[u8], kind: usize) -> &[u8]
-    requires { (kind < length kinds) × (length lane.now ≡ lane_size kind) }
-    ensures { result.now ≡ first_in kind lane.now }
+pub fn first(lane: &[u8], kind: Kind) -> &[u8]
+    requires { length lane.now ≡ lane_size (place_of kind) }
+    ensures { result.now ≡ first_in (place_of kind) lane.now }
 {
-    let end = CONTROL_SIZE + slot_size(kind);
-    &lane[CONTROL_SIZE..end]
+    &lane[CONTROL_SIZE..CONTROL_SIZE + slot_size(kind)]
 }
 
 // ---- a deed
 
-// The first notice is gone, and those that wait shift down, where they do.
-fn shift_down(lane: &mut [u8], kind: usize, held: u64, shift: bool)
-    requires { Shifting kind held «shift» lane.old }
-    ensures { Shifts kind held «shift» lane.old lane.new }
+// The first notice is gone, and those that wait shift down.
+fn shift_down(lane: &mut [u8], kind: Kind, held: u64)
+    requires { Shifting (place_of kind) held lane.old }
+    ensures { Shifts (place_of kind) held true lane.old lane.new }
 {
-    if !shift {
-        return;
-    }
     let size = slot_size(kind);
     let others = (held - 1) as usize * size;
-    text::shift(lane, CONTROL_SIZE, CONTROL_SIZE + size, others);
+    lane.copy_within(
+        CONTROL_SIZE + size..CONTROL_SIZE + size + others,
+        CONTROL_SIZE,
+    );
 }
 
 // Any deed but an event: whether a copy of what is then the open notice is to be sent.
-pub fn deal(lane: &mut [u8], kind: usize, deed: Deed) -> bool
-    requires { (kind < length kinds) × Lane kind lane.old }
-    ensures { (read : List ℕ → Notice) → Deals read kind (deed_of deed) lane.old result lane.new }
+pub fn deal(lane: &mut [u8], kind: Kind, deed: Deed) -> bool
+    requires { Lane (place_of kind) lane.old }
+    ensures { (read : List ℕ → Notice) → Deals read (place_of kind) (deed_of deed) lane.old result lane.new }
 {
     let x = load(lane);
     let step = session::dealt(x, deed);
-    shift_down(lane, kind, x.held, step.shift);
-    let next = step.next;
-    store(lane, kind, next);
+    if step.shift {
+        shift_down(lane, kind, x.held);
+    }
+    store(lane, kind, step.next);
     step.send
 }
 
 // A second passes: where none is held there is nothing to do.
-pub fn beat(lane: &mut [u8], kind: usize) -> bool
-    requires { (kind < length kinds) × Lane kind lane.old }
-    ensures { (read : List ℕ → Notice) → Deals read kind beats lane.old result lane.new }
+#[tactic(auto, using(crate::proofs::Controls::none_beats))]
+pub fn beat(lane: &mut [u8], kind: Kind) -> bool
+    requires { Lane (place_of kind) lane.old }
+    ensures { (read : List ℕ → Notice) → Deals read (place_of kind) beats lane.old result lane.new }
 {
     if lane[2] == 0 {
         return false;
@@ -257,52 +232,41 @@ pub fn beat(lane: &mut [u8], kind: usize) -> bool
 
 // ---- an event
 
-// The same subscription, so many notices held and the open one's clock at `clock`.
-fn holding(x: Subscription, clock: u64, held: u64) -> Subscription
-    ensures { result ≡ holding_so x clock held }
-{
-    let form = x.form;
-    Subscription {
-        form,
-        revision: x.revision,
-        clock,
-        held,
-    }
-}
-
 // Where one is open: the newest waits alone; or it waits behind the others, where there is room.
-fn busy(x: Subscription, kind: usize) -> Taken
-    requires { kind < length kinds }
-    ensures { result ≡ taken_busy (room_of kind) x }
+fn busy(x: Subscription, kind: Kind) -> Taken
+    ensures { result ≡ taken_busy (room_of (place_of kind)) x }
 {
     let row = row_of(kind);
     if row.newest {
         return Taken {
             take: Take::Waits(1),
-            next: holding(x, x.clock, row.most),
+            next: Subscription {
+                held: row.most,
+                ..x
+            },
         };
     }
-    let held = x.held;
-    if held >= row.most {
+    if x.held >= row.most {
         return Taken {
             take: Take::Not,
             next: x,
         };
     }
     Taken {
-        take: Take::Waits(held),
-        next: holding(x, x.clock, held + 1),
+        take: Take::Waits(x.held),
+        next: Subscription {
+            held: x.held + 1,
+            ..x
+        },
     }
 }
 
 // What becomes of its notice, and the subscription after it.
 #[tactic(auto, unfolding(session::specs::Control::taken))]
-fn taken_by(x: Subscription, kind: usize) -> Taken
-    requires { kind < length kinds }
-    ensures { result ≡ taken (room_of kind) x }
+fn taken_by(x: Subscription, kind: Kind) -> Taken
+    ensures { result ≡ taken (room_of (place_of kind)) x }
 {
-    let form = x.form;
-    match form {
+    match x.form {
         Form::Not => Taken {
             take: Take::Not,
             next: x,
@@ -311,22 +275,22 @@ fn taken_by(x: Subscription, kind: usize) -> Taken
             take: Take::Once,
             next: x,
         },
-        Form::Acknowledged => {
-            if x.held == 0 {
-                return Taken {
-                    take: Take::Opens,
-                    next: holding(x, 0, 1),
-                };
-            }
-            busy(x, kind)
-        }
+        Form::Acknowledged if x.held == 0 => Taken {
+            take: Take::Opens,
+            next: Subscription {
+                clock: 0,
+                held: 1,
+                ..x
+            },
+        },
+        Form::Acknowledged => busy(x, kind),
     }
 }
 
 // The same, by what stands in the lane.
-pub fn taking(lane: &[u8], kind: usize) -> Taken
-    requires { (kind < length kinds) × Lane kind lane.now }
-    ensures { result ≡ taken (room_of kind) (control_of lane.now) }
+pub fn taking(lane: &[u8], kind: Kind) -> Taken
+    requires { Lane (place_of kind) lane.now }
+    ensures { result ≡ taken (room_of (place_of kind)) (control_of lane.now) }
 {
     taken_by(load(lane), kind)
 }
@@ -335,74 +299,48 @@ pub fn taking(lane: &[u8], kind: usize) -> Taken
 pub fn is_taken(t: Take) -> bool
     ensures { result ≡ is_taken_so t }
 {
-    match t {
-        Take::Not => false,
-        Take::Once => true,
-        Take::Opens => true,
-        Take::Waits(_) => true,
-    }
+    !matches!(t, Take::Not)
 }
 
 pub fn is_told(t: Take) -> bool
     ensures { result ≡ is_told_so t }
 {
-    match t {
-        Take::Not => false,
-        Take::Once => true,
-        Take::Opens => true,
-        Take::Waits(_) => false,
-    }
+    matches!(t, Take::Once | Take::Opens)
 }
 
 pub fn is_held(t: Take) -> bool
     ensures { result ≡ is_held_so t }
 {
-    match t {
-        Take::Not => false,
-        Take::Once => false,
-        Take::Opens => true,
-        Take::Waits(_) => true,
-    }
+    matches!(t, Take::Opens | Take::Waits(_))
 }
 
 // What is to be held of a notice goes to slot i, as the last of those held, and the subscription that holds it to the control.
-fn put(lane: &mut [u8], kind: usize, i: u64, slot: &[u8], next: Subscription)
-    requires { Pushing kind i slot.now next lane.old }
-    ensures { Pushes kind i slot.now next lane.old lane.new }
+fn put(lane: &mut [u8], kind: Kind, i: u64, slot: &[u8], next: Subscription)
+    requires { Pushing (place_of kind) i slot.now next lane.old }
+    ensures { Pushes (place_of kind) i slot.now next lane.old lane.new }
 {
     let at = CONTROL_SIZE + i as usize * slot_size(kind);
-    text::copy(slot, lane, at);
+    lane[at..at + slot.len()].copy_from_slice(slot);
     store(lane, kind, next);
 }
 
-// It goes to its slot, where it has one; where it has none, the lane is as it was.
-fn hold(lane: &mut [u8], kind: usize, take: Take, slot: &[u8], next: Subscription)
-    requires { Keeping kind take slot.now next lane.old }
-    ensures { (read : List ℕ → Notice) → Keeps read kind take slot.now next lane.old lane.new }
+// An event of which that becomes; `slot` is what is held of its notice.
+pub fn take(lane: &mut [u8], kind: Kind, taken: Taken, slot: &[u8])
+    requires { Taking (place_of kind) taken slot.now lane.old }
+    ensures { TakesSo (place_of kind) taken.take slot.now lane.old lane.new }
 {
-    match take {
-        Take::Not => {}
-        Take::Once => {}
-        Take::Opens => put(lane, kind, 0, slot, next),
-        Take::Waits(i) => put(lane, kind, i, slot, next),
+    match taken.take {
+        Take::Not | Take::Once => {}
+        Take::Opens => put(lane, kind, 0, slot, taken.next),
+        Take::Waits(i) => put(lane, kind, i, slot, taken.next),
     }
 }
 
-// An event of which that becomes; `slot` is what is held of its notice.
-pub fn take(lane: &mut [u8], kind: usize, taken: Taken, slot: &[u8])
-    requires { Taking kind taken slot.now lane.old }
-    ensures { TakesSo kind taken.take slot.now lane.old lane.new }
-{
-    let take = taken.take;
-    let next = taken.next;
-    hold(lane, kind, take, slot, next);
-}
-
 // The places of the notices that are held, where the slots are places.
+#[tactic(auto, using(crate::proofs::Controls::places_fit, crate::proofs::Controls::places_held, crate::proofs::Controls::held_are_places))]
 pub fn places(lane: &[u8]) -> &[u8]
     requires { Lane tightenings lane.now }
     ensures { (result.now ≡ places_in lane.now) × (all is_place result.now ≡ true) }
 {
-    let end = CONTROL_SIZE + wide(lane[2]) as usize;
-    &lane[CONTROL_SIZE..end]
+    &lane[CONTROL_SIZE..CONTROL_SIZE + usize::from(lane[2])]
 }
