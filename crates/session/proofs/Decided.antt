@@ -1,5 +1,5 @@
--- What is true of every decision: it leaves an idle count that a session can have, it mirrors only what is a message, and it tells only of a
--- tightening that is kept.
+-- What is true of every decision: it leaves an idle count that a session can have, it mirrors only what is a message, and it tells only of
+-- a tightening that is kept.
 use mathlib.Core.Path.{◌≡◌, refl}
 use mathlib.Core.Bool.{Bool, true, false, not, cond}
 use mathlib.Core.List.{List, [], ◌∷◌}
@@ -71,11 +71,12 @@ accepted_fair mid revision no_acknowledge number (some (acknowledges kind)) = om
 accepted_fair mid revision no_acknowledge number (some (fetches n)) = omega arith
 accepted_fair mid revision no_acknowledge number (some mirrors) = omega arith
 
-pub decided_fair : (x : Session) → x.idle < idle_limit → (standing : Standing) (h : Option Header) (bs : List ℕ) → Fair (decision x standing h bs)
+pub decided_fair : (x : Session) → x.idle < idle_limit → (standing : Standing) (h : Option Header) (bs : List ℕ)
+    → Fair (decision x standing h bs)
 decided_fair x few standing h bs =
+    let number = meant standing.common (number_asked bs) in
     on_any Fair x (λ b mid n. few) (omega arith) standing bs (λ size mid revision no_acknowledge error e.
-    either Fair (no_error error) (accepted_fair mid revision no_acknowledge (meant standing.common (number_asked bs)) (effect_listed (entry_of mid)))
-    (omega arith)) h
+    either Fair (no_error error) (accepted_fair mid revision no_acknowledge number (effect_listed (entry_of mid))) (omega arith)) h
 
 -- ==== what is mirrored is a message, so that there are 20 bytes to send back
 

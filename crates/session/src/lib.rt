@@ -320,7 +320,8 @@ pub fn dealt(x: Subscription, deed: Deed) -> Step
 // ---- an event, to a subscription
 
 // What becomes of its notice: it is not taken; sent once, and not held; held at place 0 as the open one, and sent; held at the
-// place that is named, and not sent yet. (Not taken is no `None` beside the others: of one that is sent once the subscription stays, too.)
+// place that is named, and not sent yet. (Not taken is a case beside the others, and no `None`: of one that is sent once the subscription
+// stays as it is, too.)
 #[derive(Clone, Copy, PartialEq, Eq)]
 pub enum Take {
     Not,
