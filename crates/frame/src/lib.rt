@@ -93,64 +93,40 @@ pub struct Header {
 fn is_flag(b: u8) -> bool
     ensures { result ≡ is_flag_byte b }
 {
-    match b {
-        b'0' => true,
-        b'1' => true,
-        b' ' => true,
-        _ => false,
-    }
+    matches!(b, b'0' | b'1' | b' ')
 }
 
 // Whether bytes 9 to 11 are digits or spaces.
 fn is_revision(s: &[u8]) -> bool
     ensures { result ≡ (all is_digit s.now || all is_space s.now) }
 {
-    if text::is_digits(s) {
-        return true;
-    }
-    text::is_spaces(s)
+    text::is_digits(s) || text::is_spaces(s)
 }
 
-// The revision that they give.
+// The revision that they give: 1 where they give none, or 0.
 fn revision(s: &[u8]) -> u64
     requires s_len_bound { length s.now ≤ 19 }
     requires s_value { (all is_digit s.now || all is_space s.now) ≡ true }
     ensures { result ≡ revision_of s.now }
 {
     if text::is_spaces(s) {
-        return 1;
+        1
+    } else {
+        text::decimal(s).max(1)
     }
-    let n = text::decimal(s);
-    if n == 0 {
-        return 1;
-    }
-    n
 }
 
 // Whether a run of count bytes, whose first are these, is a message.
 fn is_message(run: &[u8], count: usize) -> bool
     ensures { result ≡ is_message_run (record { kept = run.now; count = «count» }) }
 {
-    if run.len() < HEADER_LENGTH {
-        return false;
-    }
-    if count > MESSAGE_LONGEST {
-        return false;
-    }
-    let length = &run[0..NUMBER_AT];
-    if !text::is_digits(length) {
-        return false;
-    }
-    if text::decimal(length) != count as u64 {
-        return false;
-    }
-    if !text::is_digits(&run[NUMBER_AT..REVISION_AT]) {
-        return false;
-    }
-    if !is_revision(&run[REVISION_AT..FLAG_AT]) {
-        return false;
-    }
-    is_flag(run[FLAG_AT])
+    run.len() >= HEADER_LENGTH
+        && count <= MESSAGE_LONGEST
+        && text::is_digits(&run[..NUMBER_AT])
+        && text::decimal(&run[..NUMBER_AT]) == count as u64
+        && text::is_digits(&run[NUMBER_AT..REVISION_AT])
+        && is_revision(&run[REVISION_AT..FLAG_AT])
+        && is_flag(run[FLAG_AT])
 }
 
 // The header of a run of count bytes, whose first are these, if it is a message.
@@ -196,7 +172,7 @@ pub fn read_header<'a>(run: &'a [u8], count: usize) -> RunRead<'a>
 // ---- what frames say
 
 // How a session is subscribed to a kind of notice, as far as a copy shows it.
-#[derive(Clone, Copy)]
+#[derive(Clone, Copy, PartialEq, Eq)]
 pub struct Asked {
     pub kind: Kind,
     pub revision: u64,

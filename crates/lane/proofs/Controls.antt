@@ -29,11 +29,6 @@ use Rattle.lane.specs.Lane.{Cleared}
 use Rattle.lane.specs.Lane.{Storable, Stored, any, Deals}
 use Rattle.lane.proofs.Slots.{same_formed, none_formed, places_there}
 
-pub form_else : (b : ℕ) → (b ≡ 0 → ⊥) → (b ≡ 1 → ⊥) → Acknowledged ≡ form_of b
-form_else zero h g = absurd (h refl)
-form_else (suc zero) h g = absurd (g refl)
-form_else (suc (suc b)) h g = refl
-
 byte_of : (l : List ℕ) (n : ℕ) {bs : List ℕ} → take n l ≡ bs → (i : ℕ) → i < n → get_or l i 0 ≡ get_or bs i 0
 byte_of l n e i h = sym (get_or-take n l i 0 h) ∙ ap (λ (z : List ℕ). get_or z i 0) e
 

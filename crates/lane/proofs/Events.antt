@@ -213,7 +213,8 @@ module _ (read : List ℕ → Notice) (kind : ℕ) (l : List ℕ) (known : kind 
       }
 
   -- it is held
-  takes_pushed : (p l' : List ℕ) → is_held t.take ≡ true → Pushes kind (place_of t.take) p t.next l l' → Takes read kind (read p) l t.take l'
+  takes_pushed : (p l' : List ℕ) → is_held t.take ≡ true → Pushes kind (place_of t.take) p t.next l l'
+      → Takes read kind (read p) l t.take l'
   takes_pushed p l' held q =
       let i = place_of t.take in
       let pre = prefix read kind i x.held l (fair (room_of kind) x).there in

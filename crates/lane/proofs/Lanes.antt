@@ -151,7 +151,8 @@ module _ (kind : ℕ) (l : List ℕ) (d : Deed) (x : Subscription) (r : Step) (l
     one = (feasible x d).gone (rw er at e);
   }
 
-  did : (read : List ℕ → Notice) → let ns = notices_in read kind x.held l in Goes (act (room_of kind) (deed_of d) (subscription_in x ns)) ns r
+  did : (read : List ℕ → Notice)
+      → (let ns = notices_in read kind x.held l in Goes (act (room_of kind) (deed_of d) (subscription_in x ns)) ns r)
   did read =
       let ns = notices_in read kind x.held l in
       let h : Holds (room_of kind) x ns = rw ex (holds read kind l lane) in

@@ -1,5 +1,8 @@
 // A lane: a session's subscription to one kind of notice and the notices that it holds, in one part of the lent table. Its functions
 // change it and say whether a copy is to be sent; what is sent is written elsewhere.
+//
+// It is lent as bare bytes, with its kind beside them, and that they are a lane is a clause: no proof closes with a struct around them,
+// since of a part of the table that a struct holds, as in `Lane { kind, bytes: &mut region[a..e] }`, its length alone is known afterwards.
 #![tactic(auto)]
 
 ghost use Rattle.std.specs.Prelude.{◌≡◌, true, List, ℕ, ◌≤◌, ◌<◌, length};
@@ -103,10 +106,11 @@ pub fn size(kind: Kind) -> usize
 
 // ---- the control
 
-const FORM_GREATEST: u8 = 2;
+const FORM_GREATEST: u8 = Form::Acknowledged as u8;
 
-const PLACE_GREATEST: u8 = 31;
+const PLACE_GREATEST: u8 = places::COUNT as u8 - 1;
 
+// No `From`, since neither type is this crate's; and of the bytes that none of them is stored as each is read as the last.
 fn form_from(b: u8) -> Form
     ensures { result ≡ form_of b }
 {
@@ -123,10 +127,8 @@ fn slots_formed(lane: &[u8], kind: Kind, held: usize) -> bool
     requires { SlotsTested (place_of kind) held lane.now }
     ensures { result ≡ slots_formed (place_of kind) held lane.now }
 {
-    if !row_of(kind).placed {
-        return true;
-    }
-    text::all_within(&lane[CONTROL_SIZE..CONTROL_SIZE + held], 0, PLACE_GREATEST)
+    !row_of(kind).placed
+        || text::all_within(&lane[CONTROL_SIZE..CONTROL_SIZE + held], 0, PLACE_GREATEST)
 }
 
 // Whether the control is that of a subscription to that kind, and what it holds can be held.
@@ -155,6 +157,7 @@ pub fn load(lane: &[u8]) -> Subscription
     }
 }
 
+// Here and in `clear` the kind is asked for by the contract alone.
 fn store(lane: &mut [u8], kind: Kind, x: Subscription)
     requires { Storing (place_of kind) x lane.old }
     ensures { Stored (place_of kind) x lane.old lane.new }
@@ -198,10 +201,8 @@ fn shift_down(lane: &mut [u8], kind: Kind, held: u64)
 {
     let size = slot_size(kind);
     let others = (held - 1) as usize * size;
-    lane.copy_within(
-        CONTROL_SIZE + size..CONTROL_SIZE + size + others,
-        CONTROL_SIZE,
-    );
+    let second = CONTROL_SIZE + size;
+    lane.copy_within(second..second + others, CONTROL_SIZE);
 }
 
 // Any deed but an event: whether a copy of what is then the open notice is to be sent.
@@ -263,9 +264,11 @@ fn busy(x: Subscription, kind: Kind) -> Taken
 
 // What becomes of its notice, and the subscription after it.
 #[tactic(auto, unfolding(session::specs::Control::taken))]
-fn taken_by(x: Subscription, kind: Kind) -> Taken
-    ensures { result ≡ taken (room_of (place_of kind)) x }
+pub fn taking(lane: &[u8], kind: Kind) -> Taken
+    requires { Lane (place_of kind) lane.now }
+    ensures { result ≡ taken (room_of (place_of kind)) (control_of lane.now) }
 {
+    let x = load(lane);
     match x.form {
         Form::Not => Taken {
             take: Take::Not,
@@ -285,14 +288,6 @@ fn taken_by(x: Subscription, kind: Kind) -> Taken
         },
         Form::Acknowledged => busy(x, kind),
     }
-}
-
-// The same, by what stands in the lane.
-pub fn taking(lane: &[u8], kind: Kind) -> Taken
-    requires { Lane (place_of kind) lane.now }
-    ensures { result ≡ taken (room_of (place_of kind)) (control_of lane.now) }
-{
-    taken_by(load(lane), kind)
 }
 
 // Whether its notice is taken, whether a copy of it is to be sent now, and whether it is held.

@@ -1,5 +1,5 @@
 -- The areas of a region: what is known of each, and what the region means after one of them was replaced.
-use mathlib.Core.Path.{◌≡◌, refl, sym, ap, ap₂, ◌∙◌}
+use mathlib.Core.Path.{◌≡◌, refl, sym, ap, ap₂, subst, ◌∙◌}
 use Prim.Native.Nat.{ℕ, ◌+◌, ◌-◌, ◌≤◌, ◌<◌}
 use native.Mathlib.Nat.{add-sub_cancel_left}
 use native.Mathlib.Omega.{arith}
@@ -9,11 +9,13 @@ use lib.Dec.{leb, lit≤}
 use lib.ListN.{length, get_or, set}
 use borrow.Author.Tests.{leb-true}
 use borrow.Rule.Slice.PartMut.{put_mid, mid_of, mid_len, same_len_mid}
+use Rattle.model.specs.Limits.{idle_limit}
 use Rattle.model.specs.Bytes.{all}
 use Rattle.model.specs.Runs.{Run}
 use Rattle.model.specs.Kinds.{kinds}
 use Rattle.model.specs.Notices.{Subscription, unsubscribed}
 use Rattle.model.specs.Session.{no_subscriptions}
+use Rattle.model.proofs.Named.{place_within}
 use Rattle.text.specs.Areas.{Apart}
 use Rattle.text.proofs.Cells.{area_same, area_before, area_after}
 use Rattle.text.proofs.Areas.{each_below, apart, areas_at, areas_put, areas_same, length_areas, all_set, passes}
@@ -22,6 +24,8 @@ use Rattle.run.specs.Area.{run_size, run_of, run_formed, bytes_of}
 use Rattle.run.specs.Area as run
 use Rattle.head.specs.Head.{head_size, head_of, head_formed}
 use Rattle.head.specs.Head as head
+use Rattle.head.proofs.Bytes.{storable}
+use Rattle.frame.specs.Places.{notice_in}
 use Rattle.lane.specs.Kinds.{lane_size}
 use Rattle.lane.specs.Lane.{Reading, lane_of, lane_formed, Lane}
 use Rattle.region.specs.Region.{region_size, head_area, run_area, lane_at, lanes, lane_in, subscriptions_in, subscription_in}
@@ -57,6 +61,15 @@ parts r g =
       run = record { size = mid_len 8 (8 + run_size) r (omega arith); formed = f.0 };
       lanes = f.1;
     }
+
+pub head_there : (r : List ℕ) → Good r → head.Area (head_area r)
+head_there r g = (parts r g).head
+
+pub run_there : (r : List ℕ) → Good r → run.Area (run_area r)
+run_there r g = (parts r g).run
+
+pub head_few : (r : List ℕ) (x : Session) → Good r → x ≡ head_of (head_area r) → x.idle < idle_limit
+head_few r x g e = (subst head.Storable (sym e) (storable (head_area r) (parts r g).head.formed))
 
 pub good_of : (r : List ℕ) → length r ≡ region_size → head_formed (head_area r) ≡ true → run_formed (run_area r) ≡ true
     → all (λ (formed : Bool). formed) (lanes lane_formed r) ≡ true → Good r
@@ -258,3 +271,11 @@ module _ (read : Reading) where
         };
         bytes = b.bytes ∙ a.bytes;
       }
+
+-- whatever the slots mean it is well formed
+pub still_good : {r r' : List ℕ} {x : Session} {n : Run} {subs : Reading → List Subscription}
+    → ((read : Reading) → Changes read r x n (subs read) r') → Good r'
+still_good c = (c notice_in).becomes.good
+
+-- a lane is lent
+pub ruleset lent = (place_within, lane_lent)

@@ -1,18 +1,26 @@
 -- The end of a run, to a session in its region.
 use mathlib.Core.Path.{◌≡◌, refl, sym, ap, ap₂, ◌∙◌, fun_ext}
 use mathlib.Core.Bool.{Bool, true, false, cond}
+use Rattle.std.specs.Prelude.{Option, Some, None}
+use Rattle.std.specs.Bool.{then_some}
 use mathlib.Core.List.{List, [], ◌++◌, append-nil}
 use Prim.Native.Nat.{ℕ, ◌≤◌, ◌<◌, min}
 use native.Mathlib.Omega.{arith}
 use lib.Dec.{lit≤}
 use lib.ListN.{length, take, drop, length-take, length-drop}
-use lib.Seq.{set-get_or, take-take, take_all}
+use lib.Seq.{take-take, take_all}
 use Rattle.model.specs.Limits.{header_length, run_kept, idle_limit}
 use Rattle.model.specs.Bytes.{little}
 use Rattle.model.specs.Runs.{Run, empty_run, longer}
-use Rattle.model.specs.Kinds.{kinds, room_of}
-use Rattle.model.specs.Notices.{Subscription, unsubscribed}
-use Rattle.model.specs.Notices as notices
+use Rattle.model.specs.Kinds.{room_of}
+use Rattle.model.specs.Named.{place_of}
+use Rattle.model.specs.declared.Kind.{Kind}
+use Rattle.model.specs.Records.{Settings}
+use Rattle.model.proofs.Named.{place_within}
+use Rattle.session.specs.declared.Deed as by_value
+use Rattle.session.proofs.Hearing.{row_still, said_still}
+use Rattle.region.specs.declared.Ruling.{Ruling}
+use Rattle.model.specs.Notices.{Subscription}
 use Rattle.model.specs.Session.{no_subscriptions, subscribed_to, Emission}
 use Rattle.model.specs.Session as model
 use Rattle.model.specs.Local.{step, receives, announces}
@@ -27,7 +35,7 @@ use Rattle.message.specs.declared.Standing.{Standing}
 use Rattle.session.specs.Meaning.{deed_of, session_as}
 use Rattle.session.specs.Control.{cleared}
 use Rattle.session.specs.Decisions.{is_started}
-use Rattle.session.specs.Effects.{standing_in, replies, announced}
+use Rattle.session.specs.Effects.{standing_in, replies}
 use Rattle.session.specs.declared.Phase.{Phase}
 use Rattle.session.specs.declared.Phase.TheVariants.{Closed, Opened, Started}
 use Rattle.session.specs.declared.Session.{Session}
@@ -35,7 +43,7 @@ use Rattle.session.specs.declared.Decision.{Decision}
 use Rattle.session.specs.declared.Reply.{Reply}
 use Rattle.session.specs.declared.Reply.TheVariants as reply
 use Rattle.session.proofs.Hearing.{decide_right, identify_right}
-use Rattle.session.proofs.Decided.{Fair, decided_fair, mirrored_whole, told_kept}
+use Rattle.session.proofs.Decided.{decided_fair, mirrored_whole, told_kept}
 use Rattle.run.specs.Area.{run_size, run_of, run_formed, bytes_of}
 use Rattle.run.specs.Area as run
 use Rattle.run.proofs.Areas.{counted}
@@ -45,10 +53,12 @@ use Rattle.lane.specs.Lane.{Reading}
 use Rattle.lane.proofs.Sayings.{quiet_of, after}
 use Rattle.region.specs.Region.{region_size, head_area, run_area, subscriptions_in, subscription_in, session_of, meaning, Good}
 use Rattle.region.specs.Region.{Becomes, Changes, LanesCleared}
-use Rattle.region.specs.Said.{DealtTo, ending, is_known, stood, Shows, Ruled, CarriesOut, ended_by, ended_in}
+use Rattle.region.specs.Said.{DealtTo, Ready, ending, stood, Shows, StandsSo, Ruled, due_copy, copy_due, IsReady, CarriesOut}
+use Rattle.region.specs.Said.{ended_by, ended_in}
 use Rattle.region.specs.Said.{RunEnds}
 use Rattle.region.specs.declared.Ended.{Ended}
-use Rattle.region.proofs.Areas.{good_of, replaced_size, subscription_at, means, unchanged, changes_then}
+use Rattle.region.proofs.Rulings.{ruled_as}
+use Rattle.region.proofs.Areas.{good_of, replaced_size, means, changes_then}
 use Rattle.region.proofs.Says.{sent, now_is, row_one, said_one}
 use Rattle.region.proofs.Ticks.{means_so}
 
@@ -70,23 +80,25 @@ started_there r {h} {n} {r'} s e g k c =
     )
 
 -- of a header only one that is mirrored is read
-replies_same : (g : Shared) (h h' : List ℕ) (r : Reply) → (r ≡ reply.Mirrored → h ≡ h') → replies g h r ≡ replies g h' r
-replies_same g h h' reply.Nothing e = refl
-replies_same g h h' reply.Started e = refl
-replies_same g h h' (reply.Accepted mid) e = refl
-replies_same g h h' (reply.Error mid code) e = refl
-replies_same g h h' (reply.Kept number) e = refl
-replies_same g h h' reply.Mirrored e = ap (λ (z : List ℕ). replies g z reply.Mirrored) (e refl)
-
-known_by : (b : Bool) (bs : List ℕ) → b ≡ is_known (announced b bs)
-known_by false bs = refl
-known_by true bs = refl
+replies_same : (g : Shared) (h h' : List ℕ) (r : Option Reply) → (r ≡ Some reply.Mirrored → h ≡ h') → replies g h r ≡ replies g h' r
+replies_same g h h' None e = refl
+replies_same g h h' (Some reply.Started) e = refl
+replies_same g h h' (Some (reply.Accepted mid)) e = refl
+replies_same g h h' (Some (reply.Error mid code)) e = refl
+replies_same g h h' (Some (reply.Kept number)) e = refl
+replies_same g h h' (Some reply.Mirrored) e = ap (λ (z : List ℕ). replies g z (Some reply.Mirrored)) (e refl)
 
 -- ==== where its bytes are
 
 -- whole in the slice
 pub taken_few : (bs : List ℕ) → length (longer empty_run bs).kept ≤ run_kept
 taken_few bs = rw (length-take run_kept bs) (omega arith)
+
+-- so the run is
+pub whole_run : {kept : List ℕ} {count : ℕ} (bs : List ℕ) {run : Run} → run ≡ empty_run → kept ≡ (longer empty_run bs).kept
+    → count ≡ (longer empty_run bs).count
+    → (kept ≡ (longer run bs).kept) × (count ≡ (longer run bs).count)
+whole_run bs e ek ec = rw e (ek, ec)
 
 -- kept in the region
 pub kept_few : (a : List ℕ) → length (run_of a).kept ≤ run_kept
@@ -100,6 +112,12 @@ module _ (a : List ℕ) (area : run.Area a) where
       let c = counted a area in
       ap₂ {C = Run} (λ (bs : List ℕ) (n : ℕ). record { kept = bs; count = n }) (ap (take run_kept) (append-nil (run_of a).kept)
       ∙ take_all run_kept (run_of a).kept (omega (arith, length-take (min run_kept (little (take 2 a))) (drop 2 a)))) (omega arith)
+
+  -- what is ruled on the run is ruled on it with no more bytes
+  pub ruled_kept : {x : Session} {standing : Standing} {ruling : Ruling} {kept : List ℕ} {count : ℕ} → kept ≡ (run_of a).kept
+      → count ≡ (run_of a).count → Ruled x standing (record { kept = kept; count = count }) ruling
+      → Ruled x standing (longer (run_of a) []) ruling
+  ruled_kept ek ec w = rw longer_none (ruled_as (run_of a) ek ec w)
 
   pub kept_header : header_length ≤ length (run_of a).kept → take header_length (run_of a).kept ≡ take header_length (bytes_of a)
   unfolding run_of
@@ -118,28 +136,43 @@ run_empty a e = ap (λ (n : ℕ). record { kept = take (min run_kept n) (drop 2 
 -- ==== by what the slots mean
 
 module _ (read : Reading) where
-  -- ==== nothing is done
-
-  pub nothing_dealt : (r : List ℕ) (kind : ℕ) → kind < length kinds → Good r → DealtTo read kind notices.nothing r false r
-  nothing_dealt r kind few g = record {
-    changes =
-        rw (← subscription_at read r kind few, set-get_or (subscriptions_in read r) kind unsubscribed) (unchanged read r g);
-    sends = refl;
-  }
-
   -- ==== a decision is carried out
 
   -- what it held, where it is not gone
   abbrev pub held : Decision → List ℕ → List Subscription
   held d r = cond d.begins no_subscriptions (subscriptions_in read r)
 
-  module _ (d : Decision) {r r₁ r₂ : List ℕ} {sends : Bool} (few : d.kind < length kinds)
-      (c : Changes read r d.next empty_run (held d r) r₁) (e : DealtTo read d.kind (deed_of d.deed) r₁ sends r₂) where
-    pub carries_out : CarriesOut read d r sends r₂
-    carries_out =
-        let deed = deed_of d.deed in
-        let x = subscription_in read d.kind r₁ in
-        let q = quiet_of d.deed in
+  -- the copy that is due of a kind, if one is
+  ready_due : (kind : Kind) (b : Bool) (r : List ℕ) → Ready b (subscription_in read (place_of kind) r)
+      → IsReady read (then_some b kind) r
+  ready_due kind true r h = h refl
+  ready_due kind false r h = tt
+
+  copy_of : (st : Settings) (kind : Kind) (b : Bool) (r : List ℕ)
+      → due_copy st (place_of kind) b (subscription_in read (place_of kind) r) ≡ copy_due read st (then_some b kind) r
+  copy_of st kind true r = refl
+  copy_of st kind false r = refl
+
+  module _ (d : Decision) {r r₁ : List ℕ} (c : Changes read r d.next empty_run (held d r) r₁) where
+    -- with no deed
+    pub carries_none : d.deed ≡ None → CarriesOut read d r None r₁
+    carries_none e =
+        let now = rw c.becomes.runs at (means_so read r₁ d.next (sym c.becomes.head)) in
+        record {
+          good = c.becomes.good;
+          size = c.becomes.size;
+          bytes = c.bytes;
+          ready = tt;
+          carries = λ st. rw (e, row_still st, said_still st, now, c.becomes.subscriptions);
+        }
+
+    -- with a deed
+    pub carries_one : (kind : Kind) (deed : by_value.Deed) {sends : Bool} {r₂ : List ℕ} → d.deed ≡ Some (kind, deed)
+        → DealtTo read (place_of kind) (deed_of deed) r₁ sends r₂ → CarriesOut read d r (then_some sends kind) r₂
+    carries_one kind deed {sends} {r₂} q e =
+        let few = place_within kind in
+        let x = subscription_in read (place_of kind) r₁ in
+        let quiet = quiet_of deed in
         let f = e.changes.becomes in
         let is = now_is read few e in
         let now = rw (f.runs ∙ c.becomes.runs) at (means_so read r₂ d.next (sym (f.head ∙ c.becomes.head))) in
@@ -147,10 +180,12 @@ module _ (read : Reading) where
           good = f.good;
           size = f.size ∙ c.becomes.size;
           bytes = e.changes.bytes ∙ c.bytes;
-          ready = λ b. rw is ((after (room_of d.kind) deed x q).there (sym e.sends ∙ b));
+          ready = ready_due kind sends r₂
+              (λ b. rw is ((after (room_of (place_of kind)) (deed_of deed) x quiet).there (sym e.sends ∙ b)));
           carries = λ st.
-              rw (← c.becomes.subscriptions, row_one read few e st, said_one read few e st, now, is, e.sends)
-              (rw (sent (room_of d.kind) deed x q st d.kind));
+              rw (q, ← c.becomes.subscriptions, row_one read few e st, said_one read few e st, now)
+              (rw (← (copy_of st kind sends r₂), is, e.sends)
+              (rw (sent (room_of (place_of kind)) (deed_of deed) x quiet st (place_of kind))));
         }
 
   -- step by step: the run is over, what it held is gone or not, and it is then as the decision says
@@ -163,26 +198,41 @@ module _ (read : Reading) where
 
   -- ==== the run is over
 
-  -- the decision on a run that is over: whose it is, how that one stands, and what is ruled
-  pub record Judged (common : Common) (bs r place : List ℕ) (d : Decision) (place' : List ℕ) : Type 0 where
+  -- what is ruled on a run that is over: whose it is, how that one stands, and the ruling
+  pub record Judged (common : Common) (bs r : List ℕ) (ruling : Ruling) : Type 0 where
     pub who : Session
     pub here : who ≡ head_of (head_area r)
     pub idle : who.idle < idle_limit
     pub standing : Standing
     pub stands : (standing_of standing ≡ stood who common (subscriptions_in read r)) × (standing.common ≡ common)
-    pub ruled : Ruled who standing (longer (run_of (run_area r)) bs) place d place'
+    pub ruled : Ruled who standing (longer (run_of (run_area r)) bs) ruling
 
-  module _ {common : Common} {bs r place : List ℕ} {d : Decision} {place' : List ℕ} (o : Judged common bs r place d place') where
+  pub judged : {x : Session} {standing : Standing} {common : Common} {bs r : List ℕ} {ruling : Ruling}
+      → (x ≡ head_of (head_area r)) × (x.idle < idle_limit) → StandsSo x common r standing
+      → Ruled x standing (longer (run_of (run_area r)) bs) ruling → Judged common bs r ruling
+  judged {x} {standing} loaded stands ruled = record {
+    who = x;
+    here = loaded.0;
+    idle = loaded.1;
+    standing = standing;
+    stands = (stands.tests read, stands.shares);
+    ruled = ruled;
+  }
+
+  module _ {common : Common} {bs r : List ℕ} {ruling : Ruling} (o : Judged common bs r ruling) where
     abbrev n : Run
     n = longer (run_of (run_area r)) bs
 
-    pub fair : Fair d
+    abbrev d : Decision
+    d = ruling.decision
+
+    pub fair : d.next.idle < idle_limit
     fair = rw o.ruled.decides (decided_fair o.who o.idle o.standing _ _)
 
-    header_there : d.reply ≡ reply.Mirrored → header_length ≤ length n.kept
+    header_there : d.reply ≡ Some reply.Mirrored → header_length ≤ length n.kept
     header_there q = mirrored_whole o.who o.standing n (ap (λ (z : Decision). z.reply) (sym o.ruled.decides) ∙ q)
 
-    told_of_kept : (number : ℕ) → d.reply ≡ reply.Kept number → is_among common number ≡ true
+    told_of_kept : (number : ℕ) → d.reply ≡ Some (reply.Kept number) → is_among common number ≡ true
     told_of_kept number q =
         rw (← o.stands.1)
         (told_kept o.who o.standing _ number _ (ap (λ (z : Decision). z.reply) (sym o.ruled.decides) ∙ q))
@@ -200,14 +250,13 @@ module _ (read : Reading) where
       remembers : Remembers o.standing.common g.kept
       remembers = rw o.stands.1 shows.remembers
 
-    module _ {sends : Bool} {r' : List ℕ} (c : CarriesOut read d r sends r') where
-      run_ends : (whole : Bool) → (d.reply ≡ reply.Mirrored → take header_length n.kept ≡ take header_length (ended_in whole bs r'))
-          → (d.reply ≡ reply.Mirrored → header_length ≤ length (ended_in whole bs r'))
-          → RunEnds read common bs r place (ended_by d whole sends) r' place'
+    module _ {due : Option Kind} {r' : List ℕ} (c : CarriesOut read d r due r') where
+      run_ends : (whole : Bool) → (d.reply ≡ Some reply.Mirrored → take header_length n.kept ≡ take header_length (ended_in whole bs r'))
+          → (d.reply ≡ Some reply.Mirrored → header_length ≤ length (ended_in whole bs r'))
+          → RunEnds read common bs r (ended_by ruling whole due) r'
       run_ends whole same long = record {
         good = c.good;
         size = c.size;
-        kind = fair.0;
         ready = c.ready;
         whole = long;
         kept = told_of_kept;
@@ -221,23 +270,23 @@ module _ (read : Reading) where
         knows = λ g e.
             let identified = identify_right g (run_of (run_area r)) (subscriptions_in read r) (ending bs) refl o.standing (remembers g e)
             o.who (so g e) in
-            rw (means_so read r o.who o.here, identified, ← o.ruled.decides) (known_by d.identifies _, o.ruled.knows);
+            rw (means_so read r o.who o.here, identified, ← o.ruled.decides) o.ruled.knows;
       }
 
   -- ==== it is over, and what is decided on it is carried out
 
-  module _ {common : Common} {bs r place : List ℕ} {d : Decision} {place' : List ℕ} (o : Judged common bs r place d place') {sends : Bool}
-      {r' : List ℕ} (c : CarriesOut read d r sends r') where
+  module _ {common : Common} {bs r : List ℕ} {ruling : Ruling} (o : Judged common bs r ruling) {due : Option Kind} {r' : List ℕ}
+      (c : CarriesOut read ruling.decision r due r') where
     -- where it stands whole in the slice
-    pub ends_whole : run_of (run_area r) ≡ empty_run → RunEnds read common bs r place (ended_by d true sends) r' place'
+    pub ends_whole : run_of (run_area r) ≡ empty_run → RunEnds read common bs r (ended_by ruling true due) r'
     ends_whole e =
         run_ends o c true (λ q. rw (e, take-take header_length run_kept bs (lit≤ tt)))
         (λ q. omega (arith, length-take run_kept bs, rw e at (header_there o q)))
 
-  module _ {common : Common} {r place : List ℕ} {d : Decision} {place' : List ℕ} (o : Judged common [] r place d place') {sends : Bool}
-      {r' : List ℕ} (c : CarriesOut read d r sends r') where
+  module _ {common : Common} {r : List ℕ} {ruling : Ruling} (o : Judged common [] r ruling) {due : Option Kind} {r' : List ℕ}
+      (c : CarriesOut read ruling.decision r due r') where
     -- where it is kept
-    pub ends_kept : run.Area (run_area r) → RunEnds read common [] r place (ended_by d false sends) r' place'
+    pub ends_kept : run.Area (run_area r) → RunEnds read common [] r (ended_by ruling false due) r'
     ends_kept area =
         let n = ap (λ (z : Run). z.kept) (longer_none (run_area r) area) in
         run_ends o c false (λ q. rw (n, c.bytes) (kept_header (run_area r) area (rw n at (header_there o q))))
@@ -270,13 +319,12 @@ module _ (read : Reading) where
     tells_same g Opened = refl
     tells_same g Started = rw again
 
-    pub ends_longer : {common : Common} {place : List ℕ} {e : Ended} {r' place' : List ℕ} → e.whole ≡ false
-        → RunEnds read common [] r₁ place e r' place' → RunEnds read common bs r place e r' place'
+    pub ends_longer : {common : Common} {e : Ended} {r' : List ℕ} → e.whole ≡ false → RunEnds read common [] r₁ e r'
+        → RunEnds read common bs r e r'
     ends_longer kept w =
         record {
           good = w.good;
           size = w.size ∙ b.size;
-          kind = w.kind;
           ready = w.ready;
           whole = λ q. rw kept (rw kept at (w.whole q));
           kept = w.kept;

@@ -19,7 +19,7 @@ use Rattle.places.specs.Free.{lacks}
 use Rattle.run.specs.Area.{run_of}
 use Rattle.head.specs.Head.{head_of}
 use Rattle.lane.specs.Kinds.{most, control_size, lane_size}
-use Rattle.lane.specs.Lane.{Reading, control_of, lane_of, lane_by, places_in, is_held}
+use Rattle.lane.specs.Lane.{Reading, control_of, lane_of, lane_by, places_in, is_held, Lane}
 use Rattle.lane.proofs.Controls.{storable}
 use Rattle.lane.proofs.Slots.{same_but}
 use Rattle.lane.proofs.Events.{fewer_held}
@@ -66,6 +66,10 @@ module _ (q : ℕ) (read other : Reading) (a : Agree q read other) (r : List ℕ
       go Started e =
           ap (session_as Started (head_of (head_area r)).idle (run_of (run_area r)))
           (areas_alike (lane_of read) (lane_of other) lane_at lane_size r 0 (length kinds) (λ j k. lane_same e j (omega arith)))
+
+-- the lane whose slots are places, as it was read
+pub tightenings_good : (r : List ℕ) {l : List ℕ} → Good r → l ≡ lane_in tightenings r → Lane tightenings l
+tightenings_good r g e = rw e (lane_good r tightenings (omega arith) g)
 
 -- ==== how many it holds
 

@@ -1,7 +1,9 @@
 -- A tick and an event, to a session in its region.
 use mathlib.Core.Path.{◌≡◌, refl, sym, ap, subst, ◌∙◌}
-use mathlib.Core.Bool.{Bool, true, false, true≢false}
+use mathlib.Core.Bool.{Bool, false, true≢false}
+use mathlib.Core.Logic.{◌⊎◌, ⊎_elim}
 use mathlib.Core.List.{List, [], ◌∷◌}
+use Rattle.std.specs.Prelude.{Option, Some, None}
 use Prim.Native.Nat.{ℕ, ◌+◌, ◌-◌, ◌<◌}
 use lib.Dec.{eqb}
 use lib.ListN.{length, replicate}
@@ -18,6 +20,7 @@ use Rattle.model.specs.Session.{close}
 use Rattle.model.specs.Session as model
 use Rattle.model.specs.Local.{step, tick, event, takes}
 use Rattle.model.specs.Sharing.{Shared, shared_begun}
+use Rattle.model.proofs.Named.{place_within}
 use Rattle.text.proofs.Areas.{each_below}
 use Rattle.frame.specs.Places.{event_in, notice_in}
 use Rattle.session.specs.Meaning.{session_as, is_taken}
@@ -29,8 +32,6 @@ use Rattle.session.specs.declared.Session.{Session}
 use Rattle.session.specs.declared.Take.{Take}
 use Rattle.session.specs.declared.Take.TheVariants.{Not}
 use Rattle.session.specs.declared.Taken.{Taken}
-use Rattle.session.specs.declared.Idling.{Idling}
-use Rattle.session.specs.declared.Idling.TheVariants.{Stays, TimesOut}
 use Rattle.session.proofs.Idles.{idle_right}
 use Rattle.run.specs.Area.{run_of}
 use Rattle.head.specs.Head.{head_of}
@@ -43,7 +44,7 @@ use Rattle.region.specs.Region.{head_area, run_area, lane_at, lane_in, subscript
 use Rattle.region.specs.Region.{places_held, Good, Changes}
 use Rattle.region.specs.Said.{DealtTo, DealtToAll, TickStays, Ticks}
 use Rattle.region.specs.Said.{Answers, Taking, Holds, Takes}
-use Rattle.region.proofs.Areas.{lane_good, lane_part, lane_now, head_kept, length_subscriptions}
+use Rattle.region.proofs.Areas.{lane_good, lane_lent, lane_part, lane_now, head_kept, length_subscriptions}
 use Rattle.region.proofs.Areas.{subscription_at, means, unchanged}
 use Rattle.region.proofs.Walks.{dealt_to}
 use Rattle.region.proofs.Says.{sent_itself, row_acting, said_due, all_ready, now_is, row_one, said_one, none_due}
@@ -64,7 +65,7 @@ module _ (read : Reading) where
 
   module _ {x : Session} {r r₁ : List ℕ} (c : Changes read r x (run_of (run_area r)) (subscriptions_in read r) r₁) where
     -- it is not started: nothing more is done
-    pub stays_quiet : {p : Phase} → x.phase ≡ p
+    stays_quiet : {p : Phase} → x.phase ≡ p
         → ((st : Settings) → ticked_in p st x.idle (run_of (run_area r)) (subscriptions_in read r)
         ≡ (session_as p x.idle (run_of (run_area r)) (subscriptions_in read r), []))
         → TickStays read x r (replicate (length kinds) false) r₁
@@ -74,6 +75,9 @@ module _ (read : Reading) where
       ready = none_ready (length kinds) (subscriptions_in read r₁) (length_subscriptions read r₁);
       steps = λ st. rw (none_due st 0 (length kinds) (subscriptions_in read r₁), means read c.becomes, e) (quiet st);
     }
+
+    pub stays_unstarted : (x.phase ≡ Closed) ⊎ (x.phase ≡ Opened) → TickStays read x r (replicate (length kinds) false) r₁
+    stays_unstarted = ⊎_elim (λ e. stays_quiet e (λ st. refl)) (λ e. stays_quiet e (λ st. refl))
 
     pub stays_started : {due : List Bool} {r₂ : List ℕ} → x.phase ≡ Started → DealtToAll read (λ kind. beats) r₁ due r₂
         → TickStays read x r due r₂
@@ -92,34 +96,30 @@ module _ (read : Reading) where
   -- ==== a tick
 
   module _ (r : List ℕ) (x : Session) (ex : x ≡ head_of (head_area r)) (few : x.idle < idle_limit) where
-    ticked : (g : Shared) (i : Idling) → i ≡ idled x
+    ticked : (g : Shared) (i : Option Session) → i ≡ idled x
         → step g tick (session_of read r) ≡ ticked_so g.settings (run_of (run_area r)) (subscriptions_in read r) i
     ticked g i e =
         ap (step g tick) (means_so r x ex) ∙ idle_right g (run_of (run_area r)) (subscriptions_in read r) x few
         ∙ ap (ticked_so g.settings (run_of (run_area r)) (subscriptions_in read r)) (sym e)
 
-    pub tick_stays : (i : Idling) (y : Session) (due : List Bool) (r' : List ℕ) → i ≡ idled x → i ≡ Stays y → TickStays read y r due r'
-        → Ticks read r (record { closes = false; due = due }) r'
-    tick_stays i y due r' ei ey w = record {
+    pub tick_stays : {y : Session} {due : List Bool} {r' : List ℕ} → Some y ≡ idled x → TickStays read y r due r'
+        → Ticks read r (Some due) r'
+    tick_stays {y} e w = record {
       good = w.good;
       size = w.size;
       ready = w.ready;
-      steps = λ g.
-          ticked g i ei ∙ ap (ticked_so g.settings (run_of (run_area r)) (subscriptions_in read r)) ey ∙ w.steps g.settings;
+      steps = λ g. ticked g (Some y) e ∙ w.steps g.settings;
     }
 
-    pub tick_closes : (i : Idling) (r' : List ℕ) → i ≡ idled x → i ≡ TimesOut
-        → Changes read r cleared (run_of (run_area r)) (subscriptions_in read r) r'
-        → Ticks read r (record { closes = true; due = replicate (length kinds) false }) r'
-    tick_closes i r' ei ey c =
+    pub tick_closes : {r' : List ℕ} → None ≡ idled x → Changes read r cleared (run_of (run_area r)) (subscriptions_in read r) r'
+        → Ticks read r None r'
+    tick_closes e c =
         let b = c.becomes in
         record {
           good = b.good;
           size = b.size;
-          ready = none_ready (length kinds) (subscriptions_in read r') (length_subscriptions read r');
-          steps = λ g.
-              ticked g i ei ∙ ap (ticked_so g.settings (run_of (run_area r)) (subscriptions_in read r)) ey
-              ∙ ap (λ (m : model.Session). (m, close ∷ [])) (sym (means read b));
+          ready = tt;
+          steps = λ g. ticked g None e ∙ ap (λ (m : model.Session). (m, close ∷ [])) (sym (means read b));
         }
 
   -- ==== an event
@@ -197,16 +197,16 @@ module _ {kind : ℕ} {r : List ℕ} (g : Good r) (few : kind < length kinds) {x
   }
 
 -- its notice is held
-module _ {kind : ℕ} {t : Taken} {slot r : List ℕ} {a z : ℕ} {ys : List ℕ} (k : Taking kind t slot r) (ea : a ≡ lane_at kind)
-    (ez : z ≡ lane_size kind) (w : lane.TakesSo kind t.take slot (mid_of a (a + z - a) r) ys) where
+module _ {kind : ℕ} {t : Taken} {slot r : List ℕ} {a z : ℕ} {ys : List ℕ} (few : kind < length kinds) (k : Taking kind t slot r)
+    (ea : a ≡ lane_at kind) (ez : z ≡ lane_size kind) (w : lane.TakesSo kind t.take slot (mid_of a (a + z - a) r) ys) where
   abbrev r₁ : List ℕ
   r₁ = put_mid a (a + z - a) r ys
 
   holds_takes : (read : Reading) (p : List ℕ) → read kind slot ≡ notice_in kind p → Takes read kind p r t.take r₁
   holds_takes read p e =
       let v = rw e at (w.means (read kind)) in
-      takes_one read p r k.known refl (k.answers.started k.holds) (dealt_to read k.known k.good ea ez v.deals)
-      (v.takes ∙ ap (λ l. notices.takes (room_of kind) (lane_of read kind l)) (lane_part r k.known ea ez))
+      takes_one read p r few refl (k.answers.started k.holds) (dealt_to read few k.good ea ez v.deals)
+      (v.takes ∙ ap (λ l. notices.takes (room_of kind) (lane_of read kind l)) (lane_part r few ea ez))
 
   pub takes_held : Holds kind t.take slot r r₁
   unfolding places_held
@@ -215,7 +215,12 @@ module _ {kind : ℕ} {t : Taken} {slot r : List ℕ} {a z : ℕ} {ys : List ℕ
     adds = λ e.
         let lane = (w.means (notice_in kind)).deals.lane in
         let started = k.answers.started k.holds in
-        let now = subst (λ (n : ℕ). lane_in n r₁ ≡ ys) e (lane_now r k.known ea ez k.good.size lane) in
-        let was = subst (λ (n : ℕ). mid_of a (a + z - a) r ≡ lane_in n r) e (lane_part r k.known ea ez) in
-        rw (head_kept r k.known ea ez k.good.size lane, started, now, ← was) (w.adds e k.holds);
+        let now = subst (λ (n : ℕ). lane_in n r₁ ≡ ys) e (lane_now r few ea ez k.good.size lane) in
+        let was = subst (λ (n : ℕ). mid_of a (a + z - a) r ≡ lane_in n r) e (lane_part r few ea ez) in
+        rw (head_kept r few ea ez k.good.size lane, started, now, ← was) (w.adds e k.holds);
   }
+
+-- what becomes of an event, and that it is held so
+pub ruleset answers = (place_within, lane_good, answers_closed, answers_opened, answers_started)
+
+pub ruleset taken_so = (place_within, lane_lent, lane_part, takes_held)

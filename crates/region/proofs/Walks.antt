@@ -1,6 +1,6 @@
 -- The loops over the kinds: the lanes change, are cleared, are read.
 use mathlib.Core.Path.{◌≡◌, refl, sym, ap, subst, ◌∙◌}
-use Prim.Native.Nat.{ℕ, ◌+◌, ◌-◌, ◌≤◌, ◌<◌}
+use Prim.Native.Nat.{ℕ, zero, suc, ◌+◌, ◌-◌, ◌≤◌, ◌<◌}
 use native.Mathlib.Numerals.{add-one}
 use native.Mathlib.Omega.{arith}
 use mathlib.Core.Bool.{Bool, true, false}
@@ -8,11 +8,18 @@ use mathlib.Core.List.{List, [], ◌∷◌, ◌++◌, map, append_assoc, append-
 use lib.ListN.{length, get_or, set, take, drop, replicate, length-set, length-map, get_or-map, drop_of_length-le}
 use lib.Seq.{take_all, take-suc-set, drop-set-lt}
 use borrow.Rule.Slice.PartMut.{put_mid, mid_of}
+use Rattle.std.specs.List.{list_all}
 use Rattle.model.specs.Bytes.{all}
 use Rattle.model.specs.Kinds.{kinds, room_of}
+use Rattle.model.specs.Named.{place_of}
+use Rattle.model.specs.declared.Kind.{Kind}
+use Rattle.model.specs.declared.Kind.TheVariants.{Identifiers}
+use Rattle.model.specs.declared.TheConstants.{KINDS}
 use Rattle.model.specs.Notices.{Subscription, unsubscribed, is_subscribed, Deed, act}
 use Rattle.model.specs.Session.{no_subscriptions}
 use Rattle.model.specs.Row.{row}
+use Rattle.model.proofs.Named.{place_within}
+use Rattle.text.specs.Areas.{areas}
 use Rattle.text.proofs.Lists.{drop_next, replicate_next}
 use Rattle.text.proofs.Areas.{length_areas}
 use Rattle.message.specs.Meaning.{holds, standing_of}
@@ -24,10 +31,10 @@ use Rattle.head.specs.Head.{head_of}
 use Rattle.lane.specs.Kinds.{lane_size}
 use Rattle.lane.specs.Lane.{Reading, lane_of, lane_formed, Deals, any}
 use Rattle.lane.specs.Lane as lane
-use Rattle.region.specs.Region.{region_size, head_area, run_area, lane_at, lanes, subscriptions_in, subscription_in}
+use Rattle.region.specs.Region.{region_size, head_area, run_area, lane_at, lanes, lane_in, subscriptions_in, subscription_in}
 use Rattle.region.specs.Region.{Good, Changes, LanesCleared}
 use Rattle.region.specs.Said.{acting, dues, DealtTo, DealtToAll, stood}
-use Rattle.region.proofs.Areas.{length_subscriptions, subscription_at, there, lane_part, lane_replaced, lane_size_kept}
+use Rattle.region.proofs.Areas.{length_subscriptions, subscription_at, there, lane_length, lane_part, lane_replaced, lane_size_kept}
 use Rattle.region.proofs.Areas.{head_kept, run_kept, lanes_put, unchanged, changes_then}
 
 -- ==== a loop that fills a list: those before k stand there, and what is to come stands behind them
@@ -40,6 +47,19 @@ module _ {X : Type 0} (l : List X) (k : ℕ) where
   -- none is left
   pub filled : {rest : List X} → length l ≤ k → rest ≡ [] → l ≡ take k l ++ rest
   filled h e = rw (take_all k l h, e, append-nil)
+
+-- each kind stands in its place
+pub in_order : (k : ℕ) → k < length kinds → place_of (get_or KINDS k Identifiers) ≡ k
+in_order zero h = refl
+in_order (suc zero) h = refl
+in_order (suc (suc zero)) h = refl
+in_order (suc (suc (suc k))) h = absurd (omega (arith, h))
+
+-- a test of each kind in its order is a test of each lane
+pub each_passes : (f : ℕ → List ℕ → Bool) (r : List ℕ)
+    → list_all (λ (kind : Kind). f (place_of kind) (lane_in (place_of kind) r)) KINDS ≡ all (λ (passes : Bool). passes) (lanes f r)
+unfolding areas
+each_passes f r = refl
 
 module _ (read : Reading) where
   -- ==== a deed to one lane
@@ -80,12 +100,14 @@ module _ (read : Reading) where
     }
 
     module _ {r₀ r : List ℕ} {due : List Bool} {k : ℕ} (w : Dealing r₀ r due k) where
-      pub dealing_next : {b : Bool} {r' : List ℕ} → k < length kinds → DealtTo read k (deed k) r b r' → Dealing r₀ r' (set due k b) (k + 1)
-      dealing_next {b} {r'} h d =
+      pub dealing_next : {kind : ℕ} {b : Bool} {r' : List ℕ} → k < length kinds → kind ≡ k → DealtTo read kind (deed kind) r b r'
+          → Dealing r₀ r' (set due kind b) (k + 1)
+      dealing_next {b = b} {r'} h e dealt =
+          let d : DealtTo read k (deed k) r b r' = rw e at dealt in
           let xs = subscriptions_in read r in
           let few = there read r k h in
           let behind : (y : Subscription) → drop (k + 1) (set xs k y) ≡ drop (k + 1) xs = λ y. drop-set-lt (k + 1) xs k y (omega arith) in
-          record {
+          rw e record {
             within = omega arith;
             count = length-set due k b ∙ w.count;
             changes =
@@ -125,11 +147,14 @@ pub clearing_none : (r : List ℕ) → Clearing r r 0
 clearing_none r = record { within = omega arith; size = refl; head = refl; run = refl; formed = refl; none = λ read. refl }
 
 module _ {r₀ r : List ℕ} {k : ℕ} (w : Clearing r₀ r k) where
-  pub clearing_next : {a z : ℕ} {ys : List ℕ} → length r₀ ≡ region_size → k < length kinds → a ≡ lane_at k → z ≡ lane_size k
-      → lane.Cleared k ys → Clearing r₀ (put_mid a (a + z - a) r ys) (k + 1)
+  pub clearing_next : {kind a z : ℕ} {ys : List ℕ} → length r₀ ≡ region_size → k < length kinds → kind ≡ k → a ≡ lane_at kind
+      → z ≡ lane_size kind → lane.Cleared kind ys → Clearing r₀ (put_mid a (a + z - a) r ys) (k + 1)
   unfolding subscriptions_in
-  clearing_next {a} {z} {ys} s h ea ez c =
+  clearing_next {a = a} {z} {ys} s h e at size cleared =
       let l = w.size ∙ s in
+      let ea : a ≡ lane_at k = rw (← e) at in
+      let ez : z ≡ lane_size k = rw (← e) size in
+      let c : lane.Cleared k ys = rw (← e) cleared in
       record {
         within = omega arith;
         size = lane_size_kept r h ea ez l c.lane ∙ w.size;
@@ -157,6 +182,8 @@ module _ {r₀ r : List ℕ} {k : ℕ} (w : Clearing r₀ r k) where
             let n = length_subscriptions read r in filled (subscriptions_in read r) k (omega arith) (rw none_left) ∙ w.none read;
       }
 
+pub ruleset clearing = (place_within, lane_part, lane_length, clearing_none, all_cleared)
+
 module _ (read : Reading) where
   -- ==== what they are subscribed to
 
@@ -178,11 +205,12 @@ module _ (read : Reading) where
     told_at : (k : ℕ) → k < length kinds → get_or told k false ≡ is_subscribed (subscription_in read k r)
     told_at k h = get_or-map is_subscribed (subscriptions_in read r) k unsubscribed ∙ ap is_subscribed (subscription_at read r k h)
 
-    pub telling_next : {known : List Bool} {k : ℕ} {b : Bool} → Telling known k → k < length kinds
-        → b ≡ is_subscribed (subscription_in read k r)
-        → Telling (set known k b) (k + 1)
-    telling_next {known} {k} {b} w h e =
-        record {
+    pub telling_next : {known : List Bool} {kind k : ℕ} {b : Bool} → Telling known k → k < length kinds → kind ≡ k
+        → b ≡ is_subscribed (subscription_in read kind r)
+        → Telling (set known kind b) (k + 1)
+    telling_next {known} {kind} {k} {b} w h is asked =
+        let e : b ≡ is_subscribed (subscription_in read k r) = rw (← is) asked in
+        rw is record {
           within = omega arith;
           count = length-set known k b ∙ w.count;
           so_far =

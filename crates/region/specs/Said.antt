@@ -1,11 +1,15 @@
 -- What is said of a region once it has changed: copies of the notices that are then open, of an event itself, a reply. Each change tells by
 -- value what there is to say. 01, "What a message does" and "Notices and the clock".
 use Rattle.std.specs.Prelude.{◌≡◌, ℕ, suc, ◌≤◌, ◌<◌, Bool, true, false, cond, List, [], ◌∷◌, ◌++◌, map, length, get_or, set, take, drop}
-use Rattle.std.proofs.Math.Option.{Option, none, some}
-use Rattle.model.specs.Limits.{header_length, identifier_length, idle_limit}
+use Rattle.std.specs.Prelude.{Option, Some, None, IfSome}
+use Rattle.std.proofs.Math.Option as maybe
+use Rattle.std.proofs.Math.Option.{none, some}
+use Rattle.model.specs.Limits.{header_length, idle_limit}
 use Rattle.model.specs.Records.{Settings}
 use Rattle.model.specs.Runs.{Run, Piece, empty_run}
-use Rattle.model.specs.Kinds.{kinds, tightenings, room_of}
+use Rattle.model.specs.Kinds.{tightenings, room_of}
+use Rattle.model.specs.Named.{place_of}
+use Rattle.model.specs.declared.Kind.{Kind}
 use Rattle.model.specs.Events.{Notice}
 use Rattle.model.specs.Notices.{Subscription, unsubscribed, is_subscribed, Deed, act}
 use Rattle.model.specs.Messages as model_messages
@@ -25,7 +29,6 @@ use Rattle.session.specs.Control.{taken}
 use Rattle.session.specs.declared.Phase.TheVariants.{Started}
 use Rattle.session.specs.declared.Take.{Take}
 use Rattle.session.specs.declared.Taken.{Taken}
-use Rattle.session.specs.declared.Idling.TheVariants.{Stays}
 use Rattle.session.specs.declared.Session.{Session}
 use Rattle.session.specs.declared.Decision.{Decision}
 use Rattle.session.specs.declared.Reply.TheVariants.{Kept, Mirrored}
@@ -35,8 +38,8 @@ use Rattle.run.specs.Area.{run_of}
 use Rattle.head.specs.Head.{head_of}
 use Rattle.region.specs.Region.{head_area, run_area, lane_in, subscriptions_in, subscription_in, session_of, Good, run_bytes}
 use Rattle.region.specs.Region.{places_held, Changes}
-use Rattle.region.specs.declared.Ticked.{Ticked}
 use Rattle.region.specs.declared.Ended.{Ended}
+use Rattle.region.specs.declared.Ruling.{Ruling}
 
 -- ==== copies
 
@@ -93,18 +96,19 @@ module _ (read : Reading) where
     pub size : length r' ≡ length r
     pub ready : AllReady due (subscriptions_in read r')
     pub steps : (st : Settings)
-        → ticked_so st (run_of (run_area r)) (subscriptions_in read r) (Stays x)
+        → ticked_so st (run_of (run_area r)) (subscriptions_in read r) (Some x)
         ≡ (session_of read r', due_copies st 0 due (subscriptions_in read r'))
 
-  -- what is said: the order to close, or the copies that are due
-  abbrev pub tick_said : Settings → Ticked → List ℕ → List Emission
-  tick_said st t r = cond t.closes (close ∷ []) (due_copies st 0 t.due (subscriptions_in read r))
+  -- what is said: the copies that are due, or the order to close
+  abbrev pub tick_said : Settings → Option (List Bool) → List ℕ → List Emission
+  tick_said st (Some due) r = due_copies st 0 due (subscriptions_in read r)
+  tick_said st None r = close ∷ []
 
-  pub record Ticks (r : List ℕ) (t : Ticked) (r' : List ℕ) : Type 0 where
+  pub record Ticks (r : List ℕ) (left : Option (List Bool)) (r' : List ℕ) : Type 0 where
     pub good : Good r'
     pub size : length r' ≡ length r
-    pub ready : AllReady t.due (subscriptions_in read r')
-    pub steps : (g : Shared) → step g tick (session_of read r) ≡ (session_of read r', tick_said g.settings t r')
+    pub ready : IfSome left (λ due. AllReady due (subscriptions_in read r'))
+    pub steps : (g : Shared) → step g tick (session_of read r) ≡ (session_of read r', tick_said g.settings left r')
 
   -- ==== an event of that kind, whose notice has the bytes p
 
@@ -130,7 +134,6 @@ pub record Answers (kind : ℕ) (r : List ℕ) (t : Taken) : Type 0 where
 -- what take asks for: that becomes of it, its notice is to be held, and the slot is for it
 pub record Taking (kind : ℕ) (t : Taken) (slot r : List ℕ) : Type 0 where
   pub good : Good r
-  pub known : kind < length kinds
   pub answers : Answers kind r t
   pub holds : is_held t.take ≡ true
   pub size : length slot ≡ slot_size kind
@@ -146,20 +149,10 @@ pub record Holds (kind : ℕ) (t : Take) (slot r r' : List ℕ) : Type 0 where
 abbrev pub ending : List ℕ → Piece
 ending bs = record { bytes = bs; ends = true }
 
--- an identifier that is made known:
-
--- whether there is one
-abbrev pub is_known : Option (List ℕ) → Bool
-is_known none = false
-is_known (some x) = true
-
--- it takes the place, which is else as it was
-abbrev pub known_in : Option (List ℕ) → List ℕ → List ℕ
-known_in none p = p
-known_in (some x) p = x
-
-abbrev pub Knows : Option (List ℕ) → List ℕ → Bool → List ℕ → Type 0
-Knows x place known place' = (known ≡ is_known x) × (place' ≡ known_in x place)
+-- an identifier that is made known, as the model tells it
+abbrev pub known_as : Option (List ℕ) → maybe.Option (List ℕ)
+known_as None = none
+known_as (Some x) = some x
 
 -- what the tests of a message look at, of one with that phase and those subscriptions
 abbrev pub stood : Session → Common → List Subscription → model_messages.Standing
@@ -180,32 +173,37 @@ pub record Shows (common : Common) (g : Shared) : Type 0 where
   pub granted : common.granted ≡ g.settings.granted
   pub remembers : Remembers common g.kept
 
--- the decision on a run, to one that stands so; an identifier that it makes known is in its place
-pub record Ruled (x : Session) (standing : Standing) (run : Run) (place : List ℕ) (d : Decision) (place' : List ℕ) : Type 0 where
-  pub decides : d ≡ decision x standing (header_of run.kept run.count) (drop header_length run.kept)
-  pub knows : place' ≡ known_in (announced d.identifies (drop header_length run.kept)) place
+-- the decision on a run, to one that stands so, and the identifier that it makes known
+pub record Ruled (x : Session) (standing : Standing) (run : Run) (ruling : Ruling) : Type 0 where
+  pub decides : ruling.decision ≡ decision x standing (header_of run.kept run.count) (drop header_length run.kept)
+  pub knows : known_as ruling.identified ≡ announced ruling.decision.identifies (drop header_length run.kept)
 
--- what carry_out asks for: the decision is of a kind that there is, and leaves an idle count that can be stored
+-- what carry_out asks for: the decision leaves an idle count that can be stored
 pub record CarryingOut (d : Decision) (r : List ℕ) : Type 0 where
   pub good : Good r
-  pub known : d.kind < length kinds
   pub idle : d.next.idle < idle_limit
 
 module _ (read : Reading) where
+  -- the copy of the open notice of the kind of which one is due, if one is
+  abbrev pub copy_due : Settings → Option Kind → List ℕ → List Emission
+  copy_due st None r = []
+  copy_due st (Some kind) r = due_copy st (place_of kind) true (subscription_in read (place_of kind) r)
+
+  -- there is one
+  abbrev pub IsReady : Option Kind → List ℕ → Type 0
+  IsReady due r = IfSome due (λ kind. any (open_one (subscription_in read (place_of kind) r)) ≡ true)
+
   -- what the decision does
-  pub record CarriesOut (d : Decision) (r : List ℕ) (sends : Bool) (r' : List ℕ) : Type 0 where
+  pub record CarriesOut (d : Decision) (r : List ℕ) (due : Option Kind) (r' : List ℕ) : Type 0 where
     pub good : Good r'
     pub size : length r' ≡ length r
     pub bytes : run_bytes r' ≡ run_bytes r
-    pub ready : Ready sends (subscription_in read d.kind r')
-    pub carries : (st : Settings)
-        → dealt_by st d (subscriptions_in read r)
-        ≡ (session_of read r', due_copy st d.kind sends (subscription_in read d.kind r'))
+    pub ready : IsReady due r'
+    pub carries : (st : Settings) → dealt_by st d (subscriptions_in read r) ≡ (session_of read r', copy_due st due r')
 
 -- what is left to say
-abbrev pub ended_by : Decision → Bool → Bool → Ended
-ended_by d whole sends =
-    record { whole = whole; reply = d.reply; kind = d.kind; sends = sends; identified = d.identifies }
+abbrev pub ended_by : Ruling → Bool → Option Kind → Ended
+ended_by ruling whole due = record { whole = whole; reply = ruling.decision.reply; due = due; identified = ruling.identified }
 
 -- where its bytes stand when it is over: in the slice that it ended in, if it began there, or in the region
 abbrev pub ended_in : Bool → List ℕ → List ℕ → List ℕ
@@ -214,30 +212,26 @@ ended_in whole bs r = cond whole bs (run_bytes r)
 module _ (read : Reading) where
   -- what is said: the reply, and behind it the copy that is due
   abbrev pub end_said : Shared → List ℕ → Ended → List ℕ → List Emission
-  end_said g bs e r =
-      replies g (take header_length (ended_in e.whole bs r)) e.reply
-      ++ due_copy g.settings e.kind e.sends (subscription_in read e.kind r)
+  end_said g bs e r = replies g (take header_length (ended_in e.whole bs r)) e.reply ++ copy_due read g.settings e.due r
 
 -- what end_whole asks for: no run has begun, so that the one that ends stands whole in the slice
-pub record EndingWhole (r p : List ℕ) : Type 0 where
+pub record EndingWhole (r : List ℕ) : Type 0 where
   pub good : Good r
-  pub place : length p ≡ identifier_length
   pub empty : run_of (run_area r) ≡ empty_run
 
 module _ (read : Reading) where
   -- the bytes bs end a run, where what all share is so
-  pub record RunEnds (common : Common) (bs r place : List ℕ) (e : Ended) (r' place' : List ℕ) : Type 0 where
+  pub record RunEnds (common : Common) (bs r : List ℕ) (e : Ended) (r' : List ℕ) : Type 0 where
     pub good : Good r'
     pub size : length r' ≡ length r
-    pub kind : e.kind < length kinds
-    pub ready : Ready e.sends (subscription_in read e.kind r')
-    pub whole : e.reply ≡ Mirrored → header_length ≤ length (ended_in e.whole bs r')
-    pub kept : (number : ℕ) → e.reply ≡ Kept number → is_among common number ≡ true
+    pub ready : IsReady read e.due r'
+    pub whole : e.reply ≡ Some Mirrored → header_length ≤ length (ended_in e.whole bs r')
+    pub kept : (number : ℕ) → e.reply ≡ Some (Kept number) → is_among common number ≡ true
     pub steps : (g : Shared) → Shows common g
         → step g (receives (ending bs)) (session_of read r) ≡ (session_of read r', end_said read g bs e r')
-    pub knows : (g : Shared) → Shows common g → Knows (announces g (ending bs) (session_of read r)) place e.identified place'
+    pub knows : (g : Shared) → Shows common g → known_as e.identified ≡ announces g (ending bs) (session_of read r)
 
   -- a run ends that is kept: it stands whole in no slice
-  pub record KeptEnds (common : Common) (r place : List ℕ) (e : Ended) (r' place' : List ℕ) : Type 0 where
+  pub record KeptEnds (common : Common) (r : List ℕ) (e : Ended) (r' : List ℕ) : Type 0 where
     pub whole : e.whole ≡ false
-    pub ends : RunEnds common [] r place e r' place'
+    pub ends : RunEnds common [] r e r'

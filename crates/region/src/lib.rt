@@ -2,11 +2,12 @@
 // done here changes the region and nothing else, and tells by value what is then to be said.
 #![tactic(auto)]
 
-ghost use Rattle.std.specs.Prelude.{◌≡◌, Bool, false, cond, map, ◌≤◌, ◌<◌, length};
+ghost use Rattle.std.specs.Prelude.{◌≡◌, cond, map, ◌≤◌, ◌<◌, length};
+ghost use Rattle.std.specs.List.{list_all};
 ghost use Rattle.model.specs.Limits.{run_kept, identifier_length, idle_limit};
-ghost use Rattle.model.specs.Bytes.{all, padded};
+ghost use Rattle.model.specs.Bytes.{padded};
 ghost use Rattle.model.specs.Runs.{empty_run, longer};
-ghost use Rattle.model.specs.Kinds.{kinds};
+ghost use Rattle.model.specs.Named.{place_of};
 ghost use Rattle.model.specs.Notices.{is_subscribed, beats};
 ghost use Rattle.model.specs.Session.{closed, fresh, is_closed as is_closed_session, no_subscriptions};
 ghost use Rattle.session.specs.Meaning.{deed_of};
@@ -16,16 +17,17 @@ ghost use Rattle.run.specs.Area.{run_of};
 ghost use Rattle.head.specs.Head.{head_of};
 ghost use Rattle.places.specs.Places.{place_count};
 ghost use Rattle.places.specs.Free.{marked};
+ghost use Rattle.lane.specs.Kinds.{lane_size};
 ghost use Rattle.lane.specs.Lane.{Reading, lane_formed};
-ghost use Rattle.region.specs.Region.{region_size, head_area, run_area, lane_at as lane_begins, lanes, lane_in, subscriptions_in};
+ghost use Rattle.region.specs.Region.{region_size, head_area, run_area, lane_at as lane_begins, lane_in, subscriptions_in};
 ghost use Rattle.region.specs.Region.{session_of, region_formed, Good, run_bytes as bytes_of_run, Becomes, Changes, LanesCleared};
 ghost use Rattle.region.specs.Region.{places_held};
 ghost use Rattle.region.specs.Said.{DealtTo, DealtToAll, TickStays, Ticks, Answers, Taking, Holds};
 ghost use Rattle.region.specs.Said.{StandsSo, Ruled, CarryingOut, CarriesOut, ended_by, EndingWhole, RunEnds, KeptEnds};
 
 use message::{Common, Standing};
-use model::{IDENTIFIER_LENGTH, IDENTIFIERS, KIND_COUNT, TIGHTENINGS};
-use session::{Decision, Deed, Form, Idling, Phase, Reply, Session, Subscription, Take, Taken};
+use model::{IDENTIFIER_LENGTH, KIND_COUNT, KINDS, Kind};
+use session::{Decision, Deed, Phase, Reply, Session, Take, Taken};
 
 // How many bytes it has.
 pub const SIZE: usize = 288;
@@ -38,23 +40,23 @@ const RUN_AT: usize = 8;
 const RUN_END: usize = 56;
 
 // By kind: where its lane begins.
-fn lane_at(kind: usize) -> usize
-    requires { kind < length kinds }
-    ensures { result ≡ lane_begins kind }
+fn lane_at(kind: Kind) -> usize
+    ensures { result ≡ lane_begins (place_of kind) }
 {
     match kind {
-        IDENTIFIERS => 56,
-        TIGHTENINGS => 128,
-        _ => 160,
+        Kind::Identifiers => 56,
+        Kind::Tightenings => 128,
+        Kind::Alarms => 160,
     }
 }
 
 // ---- reading
 
 // The lane of a kind, as it stands.
-pub fn lane(region: &[u8], kind: usize) -> &[u8]
-    requires { (length region.now ≡ region_size) × (kind < length kinds) }
-    ensures { result.now ≡ lane_in kind region.now }
+pub fn lane(region: &[u8], kind: Kind) -> &[u8]
+    requires { length region.now ≡ region_size }
+    ensures bytes { result.now ≡ lane_in (place_of kind) region.now }
+    ensures size { length result.now ≡ lane_size (place_of kind) }
 {
     let a = lane_at(kind);
     let e = a + lane::size(kind);
@@ -72,50 +74,39 @@ pub fn run_bytes(region: &[u8]) -> &[u8]
 // Whether every lane is well formed.
 fn lanes_formed(region: &[u8]) -> bool
     requires { length region.now ≡ region_size }
-    ensures { result ≡ all (λ (formed : Bool). formed) (lanes lane_formed region.now) }
+    ensures { result ≡ list_all (λ kind. lane_formed (place_of kind) (lane_in (place_of kind) region.now))
+        KINDS }
 {
-    let mut kind = 0;
-    while kind < KIND_COUNT {
-        if !lane::is_formed(lane(region, kind), kind) {
-            return false;
-        }
-        kind += 1;
-    }
-    true
+    KINDS
+        .iter()
+        .all(|&kind| lane::is_formed(lane(region, kind), kind))
 }
 
+#[tactic(auto, using(crate::proofs::Walks::each_passes), unfolding(crate::specs::Region::region_formed))]
 pub fn is_formed(region: &[u8]) -> bool
     requires { length region.now ≡ region_size }
     ensures { result ≡ region_formed region.now }
 {
-    if !head::is_formed(&region[0..HEAD_END]) {
-        return false;
-    }
-    if !run::is_formed(&region[RUN_AT..RUN_END]) {
-        return false;
-    }
-    lanes_formed(region)
+    head::is_formed(&region[..HEAD_END])
+        && run::is_formed(&region[RUN_AT..RUN_END])
+        && lanes_formed(region)
 }
 
 // Its phase and its idle count.
+#[tactic(auto, using(crate::proofs::Areas::head_there, crate::proofs::Areas::head_few))]
 fn load(region: &[u8]) -> Session
     requires { Good region.now }
     ensures { (result ≡ head_of (head_area region.now)) × (result.idle < idle_limit) }
 {
-    head::load(&region[0..HEAD_END])
+    head::load(&region[..HEAD_END])
 }
 
+#[tactic(auto, using(crate::proofs::Ticks::means_so))]
 pub fn is_closed(region: &[u8]) -> bool
     requires { Good region.now }
     ensures { (read : Reading) → result ≡ is_closed_session (session_of read region.now) }
 {
-    let x = load(region);
-    let phase = x.phase;
-    match phase {
-        Phase::Closed => true,
-        Phase::Opened => false,
-        Phase::Started => false,
-    }
+    matches!(load(region).phase, Phase::Closed)
 }
 
 // ---- its areas change
@@ -125,7 +116,7 @@ fn store(region: &mut [u8], x: Session)
     ensures { (read : Reading) → Changes read region.old x (run_of (run_area region.old))
         (subscriptions_in read region.old) region.new }
 {
-    head::store(&mut region[0..HEAD_END], x);
+    head::store(&mut region[..HEAD_END], x);
 }
 
 // More bytes of its run.
@@ -147,14 +138,12 @@ fn clear_run(region: &mut [u8])
     run::clear(&mut region[RUN_AT..RUN_END]);
 }
 
-// What is done to the notices of one kind: whether a copy of the one that is then open is due.
-fn deal(region: &mut [u8], kind: usize, deed: Deed) -> bool
-    requires { Good region.old × (kind < length kinds) }
-    ensures { (read : Reading) → DealtTo read kind (deed_of deed) region.old result region.new }
+// A deed to the notices of one kind: whether a copy of the one that is then open is due.
+#[tactic(auto, using(crate::proofs::Areas::lent))]
+fn deal(region: &mut [u8], kind: Kind, deed: Deed) -> bool
+    requires { Good region.old }
+    ensures { (read : Reading) → DealtTo read (place_of kind) (deed_of deed) region.old result region.new }
 {
-    if let Deed::Nothing = deed {
-        return false;
-    }
     let a = lane_at(kind);
     let e = a + lane::size(kind);
     lane::deal(&mut region[a..e], kind, deed)
@@ -166,27 +155,24 @@ fn beat(region: &mut [u8]) -> [bool; KIND_COUNT]
     ensures { (read : Reading) → DealtToAll read (λ kind. beats) region.old result region.new }
 {
     let mut due = [false; KIND_COUNT];
-    let mut kind = 0;
-    while kind < KIND_COUNT {
+    for kind in KINDS {
         let a = lane_at(kind);
         let e = a + lane::size(kind);
-        due[kind] = lane::beat(&mut region[a..e], kind);
-        kind += 1;
+        due[kind.place()] = lane::beat(&mut region[a..e], kind);
     }
     due
 }
 
 // Nothing is held of any kind, whatever the bytes of the lanes were.
+#[tactic(auto, using(crate::proofs::Walks::clearing))]
 fn clear_lanes(region: &mut [u8])
     requires { length region.old ≡ region_size }
     ensures { LanesCleared region.old region.new }
 {
-    let mut kind = 0;
-    while kind < KIND_COUNT {
+    for kind in KINDS {
         let a = lane_at(kind);
         let e = a + lane::size(kind);
         lane::clear(&mut region[a..e], kind);
-        kind += 1;
     }
 }
 
@@ -197,7 +183,7 @@ pub fn start(region: &mut [u8])
     requires { length region.old ≡ region_size }
     ensures { Good region.new × ((read : Reading) → session_of read region.new ≡ closed) }
 {
-    head::store(&mut region[0..HEAD_END], Session::cleared());
+    head::store(&mut region[..HEAD_END], Session::cleared());
     run::clear(&mut region[RUN_AT..RUN_END]);
     clear_lanes(region);
 }
@@ -221,45 +207,28 @@ pub fn hang_up(region: &mut [u8])
 
 // ---- a tick
 
-// What a tick leaves to say: that the session is closed; or of which kinds a copy of the open notice.
-#[derive(Clone, Copy)]
-pub struct Ticked {
-    pub closes: bool,
-    pub due: [bool; KIND_COUNT],
-}
-
 // What a tick does to one that stays: x is its phase, and its idle count, which has gone up already.
 fn tick_stays(region: &mut [u8], x: Session) -> [bool; KIND_COUNT]
     requires { Good region.old × (x.idle < idle_limit) }
     ensures { (read : Reading) → TickStays read x region.old result region.new }
 {
     store(region, x);
-    let phase = x.phase;
-    match phase {
-        Phase::Closed => [false; KIND_COUNT],
-        Phase::Opened => [false; KIND_COUNT],
+    match x.phase {
+        Phase::Closed | Phase::Opened => [false; KIND_COUNT],
         Phase::Started => beat(region),
     }
 }
 
-pub fn tick(region: &mut [u8]) -> Ticked
+// What it leaves to say: of which kinds a copy of the open notice; or, where there is none, that the session is closed.
+pub fn tick(region: &mut [u8]) -> Option<[bool; KIND_COUNT]>
     requires { Good region.old }
     ensures { (read : Reading) → Ticks read region.old result region.new }
 {
-    let idling = session::idled(load(region));
-    match idling {
-        Idling::Stays(x) => {
-            let due = tick_stays(region, x);
-            Ticked { closes: false, due }
-        }
-        Idling::TimesOut => {
-            store(region, Session::cleared());
-            Ticked {
-                closes: true,
-                due: [false; KIND_COUNT],
-            }
-        }
-    }
+    let Some(x) = session::idled(load(region)) else {
+        store(region, Session::cleared());
+        return None;
+    };
+    Some(tick_stays(region, x))
 }
 
 // ---- an event
@@ -270,33 +239,27 @@ fn not_taken() -> Taken
 {
     Taken {
         take: Take::Not,
-        next: Subscription {
-            form: Form::Not,
-            revision: 0,
-            clock: 0,
-            held: 0,
-        },
+        next: session::unsubscribed(),
     }
 }
 
 // What becomes of an event of that kind.
-pub fn taking(region: &[u8], kind: usize) -> Taken
-    requires { Good region.now × (kind < length kinds) }
-    ensures { Answers kind region.now result }
+#[tactic(auto, using(crate::proofs::Ticks::answers))]
+pub fn taking(region: &[u8], kind: Kind) -> Taken
+    requires { Good region.now }
+    ensures { Answers (place_of kind) region.now result }
 {
-    let x = load(region);
-    let phase = x.phase;
-    match phase {
-        Phase::Closed => not_taken(),
-        Phase::Opened => not_taken(),
+    match load(region).phase {
+        Phase::Closed | Phase::Opened => not_taken(),
         Phase::Started => lane::taking(lane(region, kind), kind),
     }
 }
 
 // Its notice is held so: `slot` is what is kept of it, which means that notice to whoever reads it.
-pub fn take(region: &mut [u8], kind: usize, taken: Taken, slot: &[u8])
-    requires { Taking kind taken slot.now region.old }
-    ensures { Holds kind taken.take slot.now region.old region.new }
+#[tactic(auto, using(crate::proofs::Ticks::taken_so))]
+pub fn take(region: &mut [u8], kind: Kind, taken: Taken, slot: &[u8])
+    requires { Taking (place_of kind) taken slot.now region.old }
+    ensures { Holds (place_of kind) taken.take slot.now region.old region.new }
 {
     let a = lane_at(kind);
     let e = a + lane::size(kind);
@@ -304,14 +267,13 @@ pub fn take(region: &mut [u8], kind: usize, taken: Taken, slot: &[u8])
 }
 
 // The places that it has open or waiting are marked as used.
+#[tactic(auto, using(crate::proofs::Places::tightenings_good), unfolding(crate::specs::Region::places_held, places::specs::Free::marked))]
 pub fn mark(region: &[u8], used: &mut [u8])
     requires { Good region.now × (length used.old ≡ place_count) }
     ensures { used.new ≡ marked used.old (places_held region.now) }
 {
-    let x = load(region);
-    let phase = x.phase;
-    if is_started(phase) {
-        places::mark(used, lane::places(lane(region, TIGHTENINGS)));
+    if is_started(load(region).phase) {
+        places::mark(used, lane::places(lane(region, Kind::Tightenings)));
     }
 }
 
@@ -320,11 +282,7 @@ pub fn mark(region: &[u8], used: &mut [u8])
 fn is_started(phase: Phase) -> bool
     ensures { result ≡ is_started_so phase }
 {
-    match phase {
-        Phase::Closed => false,
-        Phase::Opened => false,
-        Phase::Started => true,
-    }
+    matches!(phase, Phase::Started)
 }
 
 // To which kinds of notice it is subscribed.
@@ -333,46 +291,58 @@ fn subscribed(region: &[u8]) -> [bool; KIND_COUNT]
     ensures { (read : Reading) → result ≡ map is_subscribed (subscriptions_in read region.now) }
 {
     let mut known = [false; KIND_COUNT];
-    let mut kind = 0;
-    while kind < KIND_COUNT {
-        known[kind] = lane::is_subscribed(lane(region, kind));
-        kind += 1;
+    for kind in KINDS {
+        known[kind.place()] = lane::is_subscribed(lane(region, kind));
     }
     known
 }
 
 // What the tests of a message look at.
+#[tactic(auto, using(crate::proofs::Walks::stands_so))]
 fn standing(region: &[u8], x: Session, common: Common) -> Standing
     requires { Good region.now }
     ensures { StandsSo x common region.now result }
 {
-    let phase = x.phase;
     Standing {
-        started: is_started(phase),
+        started: is_started(x.phase),
         common,
         subscribed: subscribed(region),
     }
 }
 
-// An identifier is made known: what a data field says, padded right with spaces, is put in its place.
-fn announce(place: &mut [u8], data_field: &[u8])
-    requires { (length place.old ≡ identifier_length) × (length data_field.now ≤ identifier_length) }
-    ensures { place.new ≡ padded identifier_length data_field.now }
+// An identifier: what a data field says, padded right with spaces.
+fn announce(data_field: &[u8]) -> [u8; IDENTIFIER_LENGTH]
+    requires { length data_field.now ≤ identifier_length }
+    ensures { result ≡ padded identifier_length data_field.now }
 {
-    text::fill(place, 0, IDENTIFIER_LENGTH, b' ');
-    text::copy(data_field, place, 0);
+    let mut identifier = [b' '; IDENTIFIER_LENGTH];
+    identifier[..data_field.len()].copy_from_slice(data_field);
+    identifier
 }
 
-// The decision on a run of so many bytes, of which `run` are kept, to one that stands so.
-fn rule(x: Session, standing: Standing, run: &[u8], count: usize, place: &mut [u8]) -> Decision
-    requires { (length run.now ≤ run_kept) × (length place.old ≡ identifier_length) }
-    ensures { Ruled x standing (record { kept = run.now; count = count }) place.old result place.new }
+// What is ruled on a run: the decision, and the identifier that is made known, if one is.
+#[derive(Clone, Copy)]
+struct Ruling {
+    decision: Decision,
+    identified: Option<[u8; IDENTIFIER_LENGTH]>,
+}
+
+// On a run of so many bytes, of which `run` are kept, to one that stands so.
+#[tactic(auto, using(crate::proofs::Rulings::data_few))]
+fn rule(x: Session, standing: Standing, run: &[u8], count: usize) -> Ruling
+    requires { length run.now ≤ run_kept }
+    ensures { Ruled x standing (record { kept = run.now; count = count }) result }
 {
-    let d = session::decide(x, standing, run, count);
-    if d.identifies {
-        announce(place, frame::data_field(run));
+    let decision = session::decide(x, standing, run, count);
+    let identified = if decision.identifies {
+        Some(announce(frame::data_field(run)))
+    } else {
+        None
+    };
+    Ruling {
+        decision,
+        identified,
     }
-    d
 }
 
 // What it held is gone, where it begins.
@@ -382,97 +352,82 @@ fn let_go(region: &mut [u8], begins: bool)
         (run_of (run_area region.old)) (cond begins no_subscriptions (subscriptions_in read region.old))
         region.new }
 {
-    if !begins {
-        return;
+    if begins {
+        clear_lanes(region);
     }
-    clear_lanes(region);
 }
 
-// What a decision does to the session: whether a copy of the notice of its kind that is then open is due.
-fn carry_out(region: &mut [u8], d: Decision) -> bool
+// What a decision does to the session: the kind of which a copy of the notice that is then open is due, if one is.
+fn carry_out(region: &mut [u8], d: Decision) -> Option<Kind>
     requires { CarryingOut d region.old }
     ensures { (read : Reading) → CarriesOut read d region.old result region.new }
 {
     clear_run(region);
     let_go(region, d.begins);
-    let next = d.next;
-    store(region, next);
-    let deed = d.deed;
-    deal(region, d.kind, deed)
+    store(region, d.next);
+    let (kind, deed) = d.deed?;
+    deal(region, kind, deed).then_some(kind)
 }
 
-// What the end of a run leaves to say: the reply, whose header, if it is one that was received, stands in the slice that is lent or in the
-// region; of that kind a copy of the open notice, where it is due; and the identifier that is made known, if one is, to all.
+// What the end of a run leaves to say: the reply, if there is one, whose header, if it is one that was received, stands in the slice that
+// is lent or in the region; the kind of which a copy of the open notice is due, if one is; and the identifier that is made known to all,
+// if one is.
 #[derive(Clone, Copy)]
 pub struct Ended {
     pub whole: bool,
-    pub reply: Reply,
-    pub kind: usize,
-    pub sends: bool,
-    pub identified: bool,
+    pub reply: Option<Reply>,
+    pub due: Option<Kind>,
+    pub identified: Option<[u8; IDENTIFIER_LENGTH]>,
 }
 
-fn left_to_say(d: Decision, whole: bool, sends: bool) -> Ended
-    ensures { result ≡ ended_by d «whole» «sends» }
+fn left_to_say(ruling: Ruling, whole: bool, due: Option<Kind>) -> Ended
+    ensures { result ≡ ended_by ruling «whole» due }
 {
-    let reply = d.reply;
     Ended {
         whole,
-        reply,
-        kind: d.kind,
-        sends,
-        identified: d.identifies,
+        reply: ruling.decision.reply,
+        due,
+        identified: ruling.identified,
     }
 }
 
 // A run ends that stands whole in the slice: it is read there.
-fn end_whole(region: &mut [u8], common: Common, bytes: &[u8], place: &mut [u8]) -> Ended
-    requires { EndingWhole region.old place.old }
-    ensures { (read : Reading) → RunEnds read common bytes.now region.old place.old result
-        region.new place.new }
+fn end_whole(region: &mut [u8], common: Common, bytes: &[u8]) -> Ended
+    requires { EndingWhole region.old }
+    ensures { (read : Reading) → RunEnds read common bytes.now region.old result region.new }
 {
     let x = load(region);
-    let d = rule(
+    let ruling = rule(
         x,
         standing(region, x, common),
         run::kept_of(bytes),
         run::count_of(bytes),
-        place,
     );
-    let sends = carry_out(region, d);
-    left_to_say(d, true, sends)
-}
-
-// The decision on a run that is kept.
-fn rule_kept(region: &[u8], x: Session, standing: Standing, place: &mut [u8]) -> Decision
-    requires { Good region.now × (length place.old ≡ identifier_length) }
-    ensures { Ruled x standing (run_of (run_area region.now)) place.old result place.new }
-{
-    let area = &region[RUN_AT..RUN_END];
-    rule(x, standing, run::kept(area), run::count(area), place)
+    let due = carry_out(region, ruling.decision);
+    left_to_say(ruling, true, due)
 }
 
 // A run ends that began in earlier slices: it is read where it is kept.
-fn end_kept(region: &mut [u8], common: Common, place: &mut [u8]) -> Ended
-    requires { Good region.old × (length place.old ≡ identifier_length) }
-    ensures { (read : Reading) → KeptEnds read common region.old place.old result region.new
-        place.new }
+fn end_kept(region: &mut [u8], common: Common) -> Ended
+    requires { Good region.old }
+    ensures { (read : Reading) → KeptEnds read common region.old result region.new }
 {
     let x = load(region);
-    let d = rule_kept(region, x, standing(region, x, common), place);
-    let sends = carry_out(region, d);
-    left_to_say(d, false, sends)
+    let standing = standing(region, x, common);
+    let area = &region[RUN_AT..RUN_END];
+    let ruling = rule(x, standing, run::kept(area), run::count(area));
+    let due = carry_out(region, ruling.decision);
+    left_to_say(ruling, false, due)
 }
 
-// The bytes end a run; what all sessions share is told as far as the tests look at it. An identifier that is made known is put in `place`.
-pub fn end_run(region: &mut [u8], common: Common, bytes: &[u8], place: &mut [u8]) -> Ended
-    requires { Good region.old × (length place.old ≡ identifier_length) }
-    ensures { (read : Reading) → RunEnds read common bytes.now region.old place.old result
-        region.new place.new }
+// The bytes end a run; what all sessions share is told as far as the tests look at it.
+pub fn end_run(region: &mut [u8], common: Common, bytes: &[u8]) -> Ended
+    requires { Good region.old }
+    ensures { (read : Reading) → RunEnds read common bytes.now region.old result region.new }
 {
     if run::count(&region[RUN_AT..RUN_END]) == 0 {
-        return end_whole(region, common, bytes, place);
+        return end_whole(region, common, bytes);
     }
     lengthen(region, bytes);
-    end_kept(region, common, place)
+    end_kept(region, common)
 }
