@@ -2,8 +2,9 @@
 use Rattle.std.specs.Prelude.{◌≡◌, ℕ, ◌+◌, ◌-◌, ◌≤◌, true, List, [], ◌∷◌, ◌++◌, length, take, drop, replicate}
 use Rattle.model.specs.Records.{Item, values, settings_items, tightening_items, tightening_length}
 use Rattle.model.specs.Limits.{identifier_length}
-use Rattle.model.specs.Layouts.{told, number, text, Sources, Row, unreported, Layout, label, data_from, data_of, data_length, rows_length, layout_at}
-use Rattle.model.specs.Layouts.{layout_0002, layout_0004, layout_0005, layout_0065, kept_rows, result_rows, later_rows, later_count}
+use Rattle.model.specs.Layouts.{Sources, told, Row, number, text, unreported, Layout, label, data_from, data_of, data_length, rows_length}
+use Rattle.model.specs.Layouts.{layout_at, layout_0002, layout_0004, layout_0005, layout_0065, kept_rows, result_rows, later_rows}
+use Rattle.model.specs.Layouts.{later_count}
 use Rattle.model.specs.Kinds.{kind_at}
 use Rattle.model.specs.Named.{place_of}
 use Rattle.text.specs.Put.{Put, Written}
