@@ -1,17 +1,17 @@
 -- What the writer of each frame's data leaves is that frame's data.
 use mathlib.Core.Path.{◌≡◌, refl, sym, ap, subst, ◌∙◌}
-use Prim.Native.Nat.{ℕ, zero, suc, ◌+◌, ◌-◌, ◌≤◌, ◌<◌}
+use Prim.Native.Nat.{ℕ, suc, ◌+◌, ◌-◌, ◌≤◌, ◌<◌}
 use native.Mathlib.Omega.{arith}
 use mathlib.Core.Bool.{true, false}
-use mathlib.Core.List.{List, [], ◌∷◌, append-nil, ◌++◌}
-use lib.ListN.{length, get_or, take, drop}
+use mathlib.Core.List.{List, append-nil, ◌++◌}
+use lib.ListN.{length, get_or}
 use lib.Seq.{take-add, take_all}
 use Rattle.model.specs.Limits.{identifier_length}
 use Rattle.model.specs.Bytes.{digits}
 use Rattle.model.specs.Records.{scanned_items, tightening_items, result_items, alarm_items}
 use Rattle.model.specs.Layouts.{Row, Layout, layouts_0052, layouts_0061, layout_at, first_of, controller_rows, identifier_rows}
 use Rattle.model.specs.Layouts.{layout_0065, result_rows, alarm_rows, later_rows, older_counts, newest_count, later_count}
-use Rattle.model.specs.Layouts.{characters, data_from, data_of, data_length, rows_length}
+use Rattle.model.specs.Layouts.{characters, data_from, data_of, data_length}
 use Rattle.model.specs.Kinds.{identifiers, tightenings, kind_at}
 use Rattle.model.specs.Named.{place_of}
 use Rattle.model.specs.declared.Kind.{Kind}
@@ -20,7 +20,7 @@ use Rattle.model.proofs.Revisions.{later_layout, count_grows}
 use Rattle.text.specs.Put.{Put, Written}
 use Rattle.text.proofs.Puts.{put_as}
 use Rattle.frame.specs.Places.{place_items, place_size}
-use Rattle.frame.specs.Layout.{Payloads, held, set_values, told_values, DataPut, FieldsPut, FixedPut, Room, later, added, data_in}
+use Rattle.frame.specs.Layout.{Payloads, held, set_values, told_values, DataPut, FieldsPut, FixedPut, later, added, data_in}
 use Rattle.frame.specs.declared.Content.{Content}
 use Rattle.frame.specs.declared.Content.TheVariants.{Started, Refused, Accepted, Kept, Notice}
 use Rattle.frame.specs.declared.Asked.{Asked}
@@ -52,19 +52,7 @@ later_0061 revision h =
     ∙ ap (λ (k : ℕ). first_of later_rows true k) e
     ∙ ap (λ (rows : List Row). record { numbered = true; rows = rows }) (take-add 46 (n - 46) later_rows)
 
--- ==== what is added: of an older revision no more, and above the newest no more than of that
-
-rows_fewer : (m n : ℕ) (rows : List Row) → m ≤ n → rows_length true (take m rows) ≤ rows_length true (take n rows)
-rows_fewer zero n rows h = omega arith
-rows_fewer (suc m) zero rows h = absurd (omega arith)
-rows_fewer (suc m) (suc n) [] h = omega arith
-rows_fewer (suc m) (suc n) (row ∷ rows) h = let r = rows_fewer m n rows (omega arith) in omega arith
-
-pub added_room : (older revision at size : ℕ) → older ≤ revision → Room (added revision) at size → Room (added older) at size
-added_room older revision at size h room =
-    let n = count_grows older revision h in
-    let fewer = rows_fewer (later_count older - 46) (later_count revision - 46) (drop 46 later_rows) (omega arith) in
-    omega (arith, fewer, room)
+-- ==== what is added: above the newest revision no more than of that
 
 module _ {o o' : List ℕ} {at r : ℕ} (revision : ℕ) where
   added_as : (count : ℕ) → later_count revision ≡ count → FixedPut 47 (later 47 (count - 46)) o at r o'
