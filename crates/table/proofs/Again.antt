@@ -1,7 +1,9 @@
 -- An event's copy that was written last: what stands there, and that it can go to another session once more.
 use borrow.Author.Rules.{rules}
-use mathlib.Core.Path.{◌≡◌, ap}
-use mathlib.Core.Bool.{true, beq, ◌&&◌}
+use denote.Enum.Bare.{sameb, same_true}
+use Rattle.model.specs.contracts.Kind.{the_type}
+use mathlib.Core.Path.{◌≡◌, sym, ap}
+use mathlib.Core.Bool.{true, beq, ◌&&◌, and-eq-true_iff}
 use lib.Dec.{eqb}
 use Prim.Native.Nat.{ℕ, ◌+◌, ◌≤◌}
 use native.Mathlib.Omega.{arith}
@@ -38,8 +40,12 @@ unfolding frame_record in_bytes
 record_long s bs = omega arith
 
 -- what `==` of two tells
-pub alike : {a b : Asked} → true ≡ eqb a.kind b.kind && (eqb a.revision b.revision && beq a.no_acknowledge b.no_acknowledge) → a ≡ b
-alike {a} {b} e = search rules
+pub alike : {a b : Asked} → true ≡ sameb the_type a.kind b.kind && (eqb a.revision b.revision && beq a.no_acknowledge b.no_acknowledge)
+    → a ≡ b
+alike {a} {b} e =
+    let parts = (and-eq-true_iff (sameb the_type a.kind b.kind) (eqb a.revision b.revision && beq a.no_acknowledge b.no_acknowledge)).0 (sym e) in
+    let kind : a.kind ≡ b.kind = same_true the_type (search rules) _ _ parts.0 in
+    search rules
 
 -- where the last one was asked for alike
 module _ {t o p : List ℕ} {n : Next} {asked : Asked} (l : AskedLent t o n asked p) {c : Copied}

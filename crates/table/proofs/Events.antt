@@ -14,7 +14,7 @@ use Rattle.model.specs.Limits.{session_count}
 use Rattle.model.specs.Records.{settings_of}
 use Rattle.model.specs.Sharing.{Shared}
 use Rattle.model.specs.Session.{Session, closed}
-use Rattle.model.specs.Kinds.{kinds, identifiers, tightenings, alarms}
+use Rattle.model.specs.Kinds.{identifiers, tightenings, alarms}
 use Rattle.model.specs.Events.{Event, Result, result_as}
 use Rattle.model.specs.Memory.{kept_with}
 use Rattle.model.specs.Local.{Local, event, takes, step}

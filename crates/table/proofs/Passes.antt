@@ -2,6 +2,7 @@
 use mathlib.Core.Path.{◌≡◌, refl, sym, ap, ◌∙◌}
 use Prim.Native.Nat.{ℕ, ◌+◌, ◌≤◌, ◌<◌}
 use native.Mathlib.Omega.{arith}
+use borrow.Author.Tests.{eqb-false}
 use mathlib.Core.Bool.{Bool, true, false, cond}
 use Rattle.std.specs.Prelude.{Option, Some, None, IfSome}
 use Rattle.std.proofs.lemmas.Option.{IfSome_then}
@@ -26,6 +27,7 @@ use Rattle.session.specs.Effects.{out_bytes}
 use Rattle.places.specs.Places.{place_in}
 use Rattle.session.specs.declared.Take.{Take}
 use Rattle.session.specs.Meaning.{is_taken}
+use Rattle.lane.specs.Kinds.{is_placed}
 use Rattle.lane.specs.Lane.{Reading, is_told}
 use Rattle.shared.specs.Shared.{settings_part}
 use Rattle.region.specs.Region.{session_of, subscription_in, places_held, Good}
@@ -137,11 +139,11 @@ same_place (Some q) = refl
 
 -- no place is told: it is held in the region itself
 pub kept_there : {t : List ℕ} {s kind : ℕ} {p r : List ℕ} {take : Take} {place : Option ℕ} → KeepLent t s kind p place
-    → (kind ≡ tightenings → ⊥) → Takes (reading_in t) kind p (part t s) take r
+    → is_placed kind ≡ false → Takes (reading_in t) kind p (part t s) take r
     → Keeps t s kind p place take (put t s r) place
-kept_there {place = place} k ne w =
+kept_there {kind = kind} {place = place} k e w =
     kept_so k.session (record { table = k.table; size = refl; past = refl; meaning = refl }) refl (λ j few. refl) w k.stands
-    (same_place place) (λ e. absurd (ne e))
+    (same_place place) (λ q. absurd (eqb-false kind tightenings e q))
 
 -- it is not held: the table is as it was
 pub kept_not : {t : List ℕ} {s kind : ℕ} {p : List ℕ} {take : Take} {place : Option ℕ} → KeepLent t s kind p place
@@ -168,7 +170,7 @@ kept_not {t} {s} {kind} {p} {take} {place} k w =
     none_more None held = refl
     none_more (Some q) held = no_more
 
-module _ {t o : List ℕ} {n : Next} {k : Kind} {p : List ℕ} (e : EventLent t o n (place_of k) p) {take : Take} {t₁ : List ℕ}
+module _ (k : Kind) {t o : List ℕ} {n : Next} {p : List ℕ} (e : EventLent t o n (place_of k) p) {take : Take} {t₁ : List ℕ}
     {place : Option ℕ} (w : Keeps t n.to.session (place_of k) p n.place take t₁ place) where
   abbrev kind : ℕ
   kind = place_of k

@@ -11,13 +11,14 @@ use lib.Dec.{leb}
 use lib.ListN.{length, take}
 use lib.Seq.{take_all}
 use borrow.Author.Tests.{lt-ltb, le-ltb, leb-true}
-use Rattle.model.specs.Limits.{session_count, header_length}
+use Rattle.model.specs.Limits.{session_count, header_length, identifier_length}
 use Rattle.model.specs.Records.{settings_of, settings_length}
+use Rattle.model.specs.Session.{Emission}
 use Rattle.model.specs.Runs.{Piece, cut, longer}
 use Rattle.model.specs.Named.{place_of}
 use Rattle.model.specs.declared.Kind.{Kind}
 use Rattle.model.proofs.Named.{place_within}
-use Rattle.model.specs.Kinds.{kinds, kind_at, copy_most, copies_most, reply_most, session_most, receive_most}
+use Rattle.model.specs.Kinds.{kinds, kind_at, copy_most, copies_most, identifiers, reply_most, session_most, event_most, receive_most}
 use Rattle.model.specs.Events.{identified}
 use Rattle.model.specs.Local.{receives, announces, step}
 use Rattle.model.specs.World.{session_at, hears, happens, uncounted, next}
@@ -41,10 +42,11 @@ use Rattle.shared.specs.Shared.{settings_part}
 use Rattle.shared.proofs.Results.{payload_long}
 use Rattle.table.specs.Table.{shared_area, region_in, reading_in, decode, settings_in, Table, Becomes, Went}
 use Rattle.table.specs.Says.{Lent, Wrote, OpenLent, told_by, EndLent}
-use Rattle.table.specs.Passes.{unended, heard_by_all, Received}
+use Rattle.table.specs.Passes.{EventTo, unended, heard_by_all, Received}
 use Rattle.table.proofs.Regions.{part, put, part_is, length_shared, so_many_sessions, put_same_to_all, put_reading}
 use Rattle.table.proofs.Memory.{reply_said}
 use Rattle.table.proofs.Alone.{became_alone, went_one, went_then, uncounted_yet}
+use Rattle.table.proofs.Events.{identifier_to}
 use Rattle.table.proofs.Passes.{still_lent, there, passed}
 
 -- ==== bytes that end no run
@@ -191,11 +193,14 @@ module _ {t o : List ℕ} {to : To} {bs : List ℕ} {e : Ended} (l : EndLent t o
 
 -- ==== the end of a run: first the region changes, and then what it has to say is written
 
-module _ {t o : List ℕ} {to : To} {bs : List ℕ} (l : Lent t o to session_most) {common : Common} {e : Ended} {r' : List ℕ}
+module _ {t o : List ℕ} {to : To} {bs : List ℕ} (l : Lent t o to receive_most) {common : Common} {e : Ended} {r' : List ℕ}
     (shows : Shows common (decode t).shared) (w : RunEnds (reading_in t) common bs (part t to.session) e r') where
+  own : Lent t o to session_most
+  own = let room = l.room in record { table = l.table; session = l.session; room = omega arith }
+
   pub end_lent : EndLent (put t to.session r') o to bs e
   end_lent = record {
-    lent = still_lent l w.good;
+    lent = still_lent own w.good;
     ready = rw (there l w.good, put_reading t to.session r' l.table.size l.session w.good.size) w.ready;
     whole = λ q. rw (there l w.good) (w.whole q);
     kept = λ number q. rw (put_same_to_all t to.session r' l.table.size l.session w.good.size)
@@ -207,7 +212,16 @@ module _ {t o : List ℕ} {to : To} {bs : List ℕ} (l : Lent t o to session_mos
       (region_in to.session (put t to.session r')))
       to o next o'
       → Went t o to.at (hears to.session (ending bs) ∷ []) next (put t to.session r') o'
-  heard v = passed l w.good (receives (ending bs)) (λ read g z. end_said read g bs e z) (w.steps (decode t).shared shows) v.bytes
+  heard v = passed own w.good (receives (ending bs)) (λ read g z. end_said read g bs e z) (w.steps (decode t).shared shows) v.bytes
+
+  -- an identifier is an event to all, and there is room for its notices
+  pub identifier_lent : {x : List ℕ} {es : List Emission} {next : ℕ} {o' : List ℕ} → length x ≡ identifier_length
+      → Wrote session_most es to o next o'
+      → EventTo (put t to.session r') identifiers x × (next + event_most identifiers ≤ length o')
+  identifier_lent size v =
+      let within = v.within in
+      let long = put_length v.bytes in
+      let room = l.room in (identifier_to (still_lent own w.good).table size, omega arith)
 
   pub knows : known_as e.identified ≡ announces (decode t).shared (ending bs) (session_at (decode t) to.session)
   knows = rw (part_is t to.session l.session) (w.knows (decode t).shared shows)

@@ -3,16 +3,18 @@ use mathlib.Core.Path.{refl, subst, ◌≡◌, sym, ap, ◌∙◌}
 use Prim.Native.Nat.{ℕ, suc, ◌+◌, ◌≤◌, ◌<◌}
 use native.Mathlib.Numerals.{add-one}
 use native.Mathlib.Omega.{arith}
-use mathlib.Core.Bool.{Bool, true, false, cond}
+use mathlib.Core.Bool.{Bool, true, false, cond, true≢false}
 use mathlib.Core.List.{List, [], ◌∷◌, ◌++◌, map, append-nil}
 use lib.ListN.{length, get_or, drop, length-drop, drop_of_length-le}
 use lib.Dec.{eqb}
 use lib.Seq.{length-take-le}
 use borrow.Author.Tests.{ltb-true, eqb-true}
-use Rattle.model.specs.Limits.{session_count}
 use Rattle.model.specs.Records.{Settings}
 use Rattle.model.specs.Named.{place_of}
 use Rattle.model.specs.declared.Kind.{Kind}
+use Rattle.model.specs.declared.Kind.TheVariants.{Identifiers, Tightenings, Alarms}
+use Rattle.model.specs.contracts.Kind.{the_type}
+use denote.Enum.Bare.{sameb}
 use Rattle.model.specs.Kinds as rows
 use Rattle.model.specs.Kinds.{kinds, tightenings, kind_at, copy_most, copies_most}
 use Rattle.model.specs.Frames.{event_frame, frame_record}
@@ -26,26 +28,32 @@ use Rattle.session.specs.Effects.{out_bytes}
 use Rattle.session.proofs.Replies.{out_append}
 use Rattle.places.specs.Places.{place_count, is_place, place_in}
 use Rattle.places.proofs.Areas.{place_long}
-use Rattle.lane.specs.Kinds.{slot_size, control_size, lane_size}
+use Rattle.lane.specs.Kinds.{is_placed, slot_size, control_size, lane_size}
 use Rattle.lane.specs.Lane.{Reading, control_of, first_in, Lane}
 use Rattle.lane.proofs.Controls.{storable, held_formed}
 use Rattle.lane.proofs.Slots.{places_there, first_place}
 use Rattle.lane.proofs.KindLaws.{kind_fits}
 use Rattle.lane.proofs.Lanes.{first_fits}
 use Rattle.lane.proofs.Sayings.{tell_said, open_there, held_open, open_first}
-use Rattle.region.specs.Region.{region_size, lane_in, subscriptions_in, subscription_in}
+use Rattle.region.specs.Region.{lane_in, subscriptions_in, subscription_in}
 use Rattle.region.specs.Said.{copies_out, due_copy, due_copies, Ready}
 use Rattle.region.proofs.Areas.{lane_length, lane_good, length_subscriptions, subscription_at, there}
 use Rattle.frame.specs.declared.To.{To}
-use Rattle.table.specs.Table.{places_area, region_in, kept_in, reading_in, settings_in, Table}
+use Rattle.table.specs.Table.{places_area, region_in, kept_in, reading_in, settings_in}
 use Rattle.table.specs.Says.{Wrote, CopyLent, Opened, OpenLent, DueLent, subscription_to, subscriptions_to, asked_in}
 use Rattle.table.proofs.Regions.{length_in, length_places, region_good}
 
--- ==== a lane, as it is read in the table
+-- ==== whether it is a tightening, as the code asks
 
-module _ {t : List ℕ} {s : ℕ} (table : Table t) (few : s < session_count) {g : List ℕ} (eg : g ≡ region_in s t) where
-  pub region_long : length g ≡ region_size
-  region_long = ap length eg ∙ length_in t s table.size few
+pub placed : (kind : Kind) → true ≡ sameb the_type kind Tightenings → kind ≡ Tightenings
+placed Identifiers e = absurd (true≢false e)
+placed Tightenings e = refl
+placed Alarms e = absurd (true≢false e)
+
+pub unplaced : (kind : Kind) → false ≡ sameb the_type kind Tightenings → is_placed (place_of kind) ≡ false
+unplaced Identifiers e = refl
+unplaced Tightenings e = absurd (true≢false (sym e))
+unplaced Alarms e = refl
 
 -- ==== a copy
 
@@ -185,13 +193,18 @@ module _ {t o₀ : List ℕ} {to : To} {due : List Bool} (p : DueLent t o₀ to 
         (out_append to.session (due_copy st kind (get_or due kind false) (subscription_to to kind t))
         (due_copies st (suc kind) (drop (suc kind) due) (drop (suc kind) xs)))
 
-    pub saying_next : {o' : List ℕ} {next : ℕ}
+    saying_next : {o' : List ℕ} {next : ℕ}
         → Wrote (copy_most (kind_at kind)) (due_copy (settings_in t) kind (get_or due kind false) (subscription_to to kind t))
         behind o next o'
         → Saying t o₀ to due o' next (kind + 1)
     saying_next v =
         let within = v.within in
         record { within = omega arith; room = omega (arith, room_for); bytes = left_put (left_as one_more w.bytes) v.bytes }
+
+    pub saying_due : {o' : List ℕ} {next : ℕ} → get_or due kind false ≡ true
+        → Wrote (copy_most (kind_at kind)) (due_copy (settings_in t) kind true (subscription_to to kind t)) behind o next o'
+        → Saying t o₀ to due o' next (kind + 1)
+    saying_due e v = saying_next (record { within = v.within; bytes = rw e v.bytes })
 
     pub saying_none_due : get_or due kind false ≡ false → Saying t o₀ to due o at (kind + 1)
     saying_none_due e = saying_next (record { within = omega arith; bytes = rw e (put_nothing o at) })

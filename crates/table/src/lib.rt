@@ -15,7 +15,7 @@ ghost use Rattle.run.specs.Area.{Ends};
 ghost use Rattle.places.specs.Places.{place_count};
 ghost use Rattle.places.specs.Free.{is_free};
 ghost use Rattle.lane.specs.Lane.{first_in};
-ghost use Rattle.region.specs.Region.{lane_in, places_held};
+ghost use Rattle.region.specs.Region.{region_size, lane_in, places_held};
 ghost use Rattle.region.specs.Said.{copies_out, due_copy, due_copies, ending, Shows, end_said};
 ghost use Rattle.shared.specs.Shared.{settings_part};
 ghost use Rattle.table.specs.Table.{shared_area, places_area, region_in, regions, kept_in, reading_in, decode, settings_in};
@@ -54,7 +54,8 @@ fn range_of(s: u64) -> Range<usize>
 // The region of session s, as it stands.
 fn region_of(table: &[u8], s: u64) -> &[u8]
     requires { (table_least ≤ length table.now) × (s < session_count) }
-    ensures { result.now ≡ region_in s table.now }
+    ensures bytes { result.now ≡ region_in s table.now }
+    ensures size { length result.now ≡ region_size }
 {
     &table[range_of(s)]
 }
@@ -159,7 +160,6 @@ pub fn hang_up(table: &mut [u8], s: u64)
 // ---- saying: the table is lent beside the output
 
 // How a session asked for notices of that kind.
-#[tactic(auto, using(crate::proofs::Says::region_long))]
 fn asked_by(table: &[u8], s: u64, kind: Kind) -> Asked
     requires { Table table.now × (s < session_count) }
     ensures { result ≡ asked_in kind (region_in s table.now) }
@@ -318,7 +318,12 @@ fn keep_placed(table: &mut [u8], s: u64, taken: Taken, res: &[u8], place: Option
     ensures { Keeps table.old s tightenings res.now place taken.take table.new (Some result) }
 {
     let stands = stand(table, res, place);
-    region::take(&mut table[range_of(s)], Kind::Tightenings, taken, &[stands as u8]);
+    region::take(
+        &mut table[range_of(s)],
+        Kind::Tightenings,
+        taken,
+        &[stands as u8],
+    );
     stands
 }
 

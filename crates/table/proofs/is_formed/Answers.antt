@@ -15,19 +15,19 @@ loop-s-init c = record { left = refl }
 
 pub is_formed-requires-in-loop-s : goal.is_formed-requires-in-loop-s
 is_formed-requires-in-loop-s c =
-    ap length c.region_of.ensures ∙ length_in c.args.table.now c.loop-s.s c.requires c.loop-s-test.true
+    ap length c.region_of.ensures.bytes ∙ length_in c.args.table.now c.loop-s.s c.requires c.loop-s-test.true
 
 pub returns-then-not-is_formed-2 : goal.returns-then-not-is_formed-2
 unfolding table_formed
 returns-then-not-is_formed-2 c =
     rw (sym c.is_formed.ensures ∙ c.if-not-is_formed.false)
     (pass_stops c.loop-s.invariant c.loop-s-test.true
-    (sym (c.is_formed-in-loop-s.ensures ∙ ap region_formed c.region_of.ensures) ∙ c.if-not-is_formed-2.true))
+    (sym (c.is_formed-in-loop-s.ensures ∙ ap region_formed c.region_of.ensures.bytes) ∙ c.if-not-is_formed-2.true))
 
 pub loop-s-preserved : goal.loop-s-preserved
 loop-s-preserved c =
     pass_on c.loop-s.invariant c.loop-s-test.true
-    (sym (c.is_formed-in-loop-s.ensures ∙ ap region_formed c.region_of.ensures) ∙ c.if-not-is_formed-2.false)
+    (sym (c.is_formed-in-loop-s.ensures ∙ ap region_formed c.region_of.ensures.bytes) ∙ c.if-not-is_formed-2.false)
 
 pub returns : goal.returns
 unfolding table_formed

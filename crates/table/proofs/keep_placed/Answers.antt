@@ -1,6 +1,6 @@
 -- `table::keep_placed` meets its contract.
 use borrow.Author.Tests.{lt-ltb}
-use Rattle.std.proofs.Common.{refl, sym, ap, subst, ◌∙◌, List, ℕ, Some, arith}
+use Rattle.std.proofs.Common.{refl, sym, ap, subst, ◌∙◌, List, ℕ, Some}
 use Rattle.std.proofs.lemmas.Option.{IfSome_then}
 use Rattle.model.specs.Kinds.{tightenings}
 use Rattle.frame.specs.Places.{notice_in}
@@ -32,7 +32,6 @@ take-requires c =
     let s = c.args.s in
     rw c.range_of.ensures record {
       good = part_good t s o.becomes.table p.session;
-      known = omega arith;
       answers = subst (λ (r : List ℕ). Answers tightenings r c.args.taken) (sym (part_in t s ∙ o.regions s p.session)) p.answers;
       holds = p.holds;
       size = refl;

@@ -1,5 +1,6 @@
 -- `table::tell` meets its contract.
 use Rattle.std.proofs.Common.{◌≡◌, ◌+◌, ◌^◌, cond, sym, ◌∙◌, ap, ℕ, add-zero, arith}
+use Rattle.model.specs.Named.{place_of}
 use Rattle.frame.specs.Places.{event_in}
 use Rattle.table.specs.Table.{decode}
 use Rattle.table.proofs.Turns.{turns_none, turn_lent, turns_next, turns_all}
@@ -22,7 +23,6 @@ tell_session-requires c =
     let i = c.loop-session.invariant in
     let p = c.requires in
     record {
-      known = p.0.known;
       lent = turn_lent i.turns p.1 c.loop-session-test.true;
       notice = p.0.place;
       last = i.last;
@@ -45,7 +45,7 @@ loop-session-preserved c =
     ] in
     record {
       turns = turns_next i.turns few v.within v.went;
-      sums = rw sum (sums_next i.sums c.tell_session.result (event_in c.args.kind c.args.notice.now) few v.went v.takes);
+      sums = rw sum (sums_next i.sums c.tell_session.result (event_in (place_of c.args.kind) c.args.notice.now) few v.went v.takes);
       last = v.last;
       stands = v.stands;
       one_copy = copying_next _ _ few i.one_copy v;

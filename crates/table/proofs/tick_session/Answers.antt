@@ -7,29 +7,26 @@ use Rattle.table.proofs.Regions.{part_good}
 use Rattle.table.proofs.Passes.{due_lent, tick_passed}
 use Rattle.table.proofs.tick_session.Goals as goal
 
-pub tick-ticked-requires : goal.tick-ticked-requires
-tick-ticked-requires c =
-    let p = c.requires in rw c.range_of.ensures (part_good _ _ p.table p.session)
-
-pub returns-then-ticked : goal.returns-then-ticked
-returns-then-ticked c =
-    let ticks = rw c.range_of.ensures at c.tick-ticked.ensures (reading_in c.args.table.now) in
-    let l = c.put_close.ensures.place in
-    rw c.range_of.ensures record {
-      within = omega arith;
-      went = tick_passed c.requires ticks (rw c.if-ticked.true (put_as (sym (append-nil _)) c.put_close.ensures.put));
-    }
+pub tick-requires : goal.tick-requires
+tick-requires c = rw c.range_of.ensures (part_good _ _ c.requires.table c.requires.session)
 
 pub say-requires : goal.say-requires
 say-requires c =
-    rw c.range_of.ensures
-    (due_lent c.requires (rw c.range_of.ensures at c.tick-ticked.ensures (reading_in c.args.table.now)))
+    let ticks = rw c.range_of.ensures at c.in-Some.ensures (reading_in c.args.table.now) in
+    rw c.range_of.ensures (due_lent c.requires ticks)
 
-pub returns : goal.returns
-returns c =
-    let ticks = rw c.range_of.ensures at c.tick-ticked.ensures (reading_in c.args.table.now) in
+pub returns-in-Some : goal.returns-in-Some
+returns-in-Some c =
+    let ticks = rw c.range_of.ensures at c.in-Some.ensures (reading_in c.args.table.now) in
     let said = rw c.range_of.ensures at c.say.ensures in
+    rw c.range_of.ensures record { within = said.within; went = tick_passed c.requires ticks said.bytes }
+
+pub returns-in-None : goal.returns-in-None
+returns-in-None c =
+    let ticks = rw c.range_of.ensures at c.in-None.ensures (reading_in c.args.table.now) in
+    let closed = c.put_close.ensures in
+    let place = closed.place in
     rw c.range_of.ensures record {
-      within = said.within;
-      went = tick_passed c.requires ticks (rw c.if-ticked.false said.bytes);
+      within = omega arith;
+      went = tick_passed c.requires ticks (put_as (sym (append-nil _)) closed.put);
     }
