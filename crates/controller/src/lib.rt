@@ -13,7 +13,7 @@ ghost use Rattle.controller.specs.Contract.{Outcome};
 ghost use Rattle.controller.specs.Tool.{Keeping, Reporting, Reports};
 
 use frame::To;
-use model::{IDENTIFIER_LENGTH, NUMBER_LENGTH, RESULT_LENGTH, TIGHTENING_LENGTH};
+use model::{IDENTIFIER_LENGTH, Kind, NUMBER_LENGTH, RESULT_LENGTH, TIGHTENING_LENGTH};
 use record::ToolRecord;
 use refusal::Refusal;
 use table::Told;
@@ -132,10 +132,10 @@ fn report(table: &mut [u8], output: &mut [u8], slice: &[u8], tool_record: ToolRe
         ToolRecord::Tightening => {
             let mut place = [0; RESULT_LENGTH];
             put_result(table, payload, &mut place);
-            table::happens(table, output, 0, model::TIGHTENINGS, &place)
+            table::happens(table, output, 0, Kind::Tightenings, &place)
         }
-        ToolRecord::Scanned => table::happens(table, output, 0, model::IDENTIFIERS, payload),
-        ToolRecord::Alarm => table::happens(table, output, 0, model::ALARMS, payload),
+        ToolRecord::Scanned => table::happens(table, output, 0, Kind::Identifiers, payload),
+        ToolRecord::Alarm => table::happens(table, output, 0, Kind::Alarms, payload),
     }
 }
 
