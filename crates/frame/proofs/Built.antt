@@ -1,6 +1,6 @@
 -- Frames in their output records, and which of the model's frames each is.
 use mathlib.Core.Path.{◌≡◌, refl, sym, ap, subst}
-use Prim.Native.Nat.{ℕ, zero, suc, ◌+◌, ◌-◌, ◌≤◌, ◌<◌}
+use Prim.Native.Nat.{ℕ, suc, ◌+◌, ◌-◌, ◌≤◌}
 use native.Mathlib.Omega.{arith}
 use mathlib.Core.Bool.{Bool}
 use mathlib.Core.List.{List, [], ◌∷◌, ◌++◌, append_assoc}
@@ -12,10 +12,14 @@ use Rattle.model.specs.Limits.{header_length, identifier_length}
 use Rattle.model.specs.Bytes.{NUL, in_bytes}
 use Rattle.model.specs.Records.{record_head, house_record, said, settings_items, values, settings_of, tightening_of, alarm_of}
 use Rattle.model.specs.Layouts.{Layout, data_from, data_of, characters, data_length, layout_at, layouts_0052}
-use Rattle.model.specs.Kinds.{Kind, kinds, kind_at}
+use Rattle.model.specs.Kinds.{Kind as Row, kind_at}
+use Rattle.model.specs.Named.{place_of}
+use Rattle.model.specs.declared.Kind.{Kind}
+use Rattle.model.specs.declared.Kind.TheVariants.{Identifiers, Tightenings, Alarms}
 use Rattle.model.specs.Events.{result_as}
 use Rattle.model.specs.Frames.{frame, frame_0002, frame_0004, frame_0005, frame_0065, event_frame, frame_record}
 use Rattle.model.proofs.KindLaws.{every_layout}
+use Rattle.model.proofs.Named.{place_within}
 use Rattle.text.specs.Put.{Put, Written}
 use Rattle.text.proofs.Puts.{put_then, put_before, put_over, put_as}
 use Rattle.frame.specs.declared.Content.{Content}
@@ -71,11 +75,11 @@ wrote_frame content b e d z h =
 
 -- ==== how long they are
 
-abbrev short : Kind → Layout → Bool
+abbrev short : Row → Layout → Bool
 short k l = leb (header_length + data_length l) k.longest
 
-pub copy_short : (asked : Asked) → asked.kind < length kinds → frame_length (Notice asked) ≤ (kind_at asked.kind).longest
-copy_short asked h = leb-true _ _ (every_layout short refl asked.kind h asked.revision)
+pub copy_short : (asked : Asked) → frame_length (Notice asked) ≤ (kind_at (place_of asked.kind)).longest
+copy_short asked = leb-true _ _ (every_layout short refl (place_of asked.kind) (place_within asked.kind) asked.revision)
 
 -- ==== what each is
 
@@ -96,22 +100,20 @@ unfolding frame_0065 data_in data_from characters result_as tightening_of
 is_0065 b n = refl
 
 -- a copy of what is in a place
-copy_of : (st p : List ℕ) (kind revision : ℕ) (no_acknowledge : Bool) → kind < length kinds → length p ≡ place_size kind
-    → frame (kind_at kind).notice revision (notice_byte_12 no_acknowledge)
-    (data_of (layout_at (kind_at kind).layouts revision)
-    (record { settings = values settings_items st; told = values (place_items kind) p }))
-    ≡ event_frame (settings_of st) revision no_acknowledge (event_in kind p)
-unfolding event_frame settings_of tightening_of alarm_of result_of result_as
-copy_of st p zero revision no_acknowledge h l =
-    ap (λ (x : List ℕ). frame 52 revision (notice_byte_12 no_acknowledge)
-    (data_of (layout_at layouts_0052 revision) (record { settings = values settings_items st; told = said x ∷ [] })))
-    (take_all identifier_length p (omega arith))
-copy_of st p (suc zero) revision no_acknowledge h l = refl
-copy_of st p (suc (suc zero)) revision no_acknowledge h l = refl
-copy_of st p (suc (suc (suc kind))) revision no_acknowledge h l = absurd (omega arith)
-
-pub is_copy : (st p : List ℕ) (asked : Asked) → asked.kind < length kinds → length p ≡ place_size asked.kind
+pub is_copy : (st p : List ℕ) (asked : Asked) → length p ≡ place_size (place_of asked.kind)
     → frame_of (Notice asked) (record { settings = st; told = p })
-    ≡ event_frame (settings_of st) asked.revision asked.no_acknowledge (event_in asked.kind p)
-unfolding data_in
-is_copy st p asked h l = copy_of st p asked.kind asked.revision asked.no_acknowledge h l
+    ≡ event_frame (settings_of st) asked.revision asked.no_acknowledge (event_in (place_of asked.kind) p)
+unfolding data_in event_frame settings_of tightening_of alarm_of result_of result_as
+is_copy st p asked l = go asked.kind l
+  where
+    go : (kind : Kind) → length p ≡ place_size (place_of kind)
+        → frame (kind_at (place_of kind)).notice asked.revision (notice_byte_12 asked.no_acknowledge)
+        (data_of (layout_at (kind_at (place_of kind)).layouts asked.revision)
+        (record { settings = values settings_items st; told = values (place_items (place_of kind)) p }))
+        ≡ event_frame (settings_of st) asked.revision asked.no_acknowledge (event_in (place_of kind) p)
+    go Identifiers l =
+        ap (λ (x : List ℕ). frame 52 asked.revision (notice_byte_12 asked.no_acknowledge)
+        (data_of (layout_at layouts_0052 asked.revision) (record { settings = values settings_items st; told = said x ∷ [] })))
+        (take_all identifier_length p (omega arith))
+    go Tightenings l = refl
+    go Alarms l = refl

@@ -1,30 +1,30 @@
 -- What the writer of each frame's data leaves is that frame's data.
 use mathlib.Core.Path.{◌≡◌, refl, sym, ap, subst, ◌∙◌}
-use Prim.Native.Nat.{ℕ, zero, suc, ◌+◌, ◌-◌, ◌≤◌, ◌<◌}
+use Prim.Native.Nat.{ℕ, suc, ◌+◌, ◌-◌, ◌≤◌, ◌<◌}
 use native.Mathlib.Omega.{arith}
 use mathlib.Core.Bool.{true, false}
-use mathlib.Core.List.{List, [], ◌∷◌, append-nil, ◌++◌}
-use lib.ListN.{length, get_or, take, drop}
+use mathlib.Core.List.{List, append-nil, ◌++◌}
+use lib.ListN.{length, get_or}
 use lib.Seq.{take-add, take_all}
 use Rattle.model.specs.Limits.{identifier_length}
 use Rattle.model.specs.Bytes.{digits}
 use Rattle.model.specs.Records.{scanned_items, tightening_items, result_items, alarm_items}
 use Rattle.model.specs.Layouts.{Row, Layout, layouts_0052, layouts_0061, layout_at, first_of, controller_rows, identifier_rows}
 use Rattle.model.specs.Layouts.{layout_0065, result_rows, alarm_rows, later_rows, older_counts, newest_count, later_count}
-use Rattle.model.specs.Layouts.{characters, data_from, data_of, data_length, rows_length}
-use Rattle.model.specs.Kinds.{identifiers, tightenings, alarms, kinds, kind_at}
+use Rattle.model.specs.Layouts.{characters, data_from, data_of, data_length}
+use Rattle.model.specs.Kinds.{identifiers, tightenings, kind_at}
+use Rattle.model.specs.Named.{place_of}
+use Rattle.model.specs.declared.Kind.{Kind}
+use Rattle.model.specs.declared.Kind.TheVariants.{Identifiers, Tightenings, Alarms}
 use Rattle.model.proofs.Revisions.{later_layout, count_grows}
 use Rattle.text.specs.Put.{Put, Written}
 use Rattle.text.proofs.Puts.{put_as}
 use Rattle.frame.specs.Places.{place_items, place_size}
-use Rattle.frame.specs.Layout.{Payloads, held, set_values, told_values, DataPut, FieldsPut, FixedPut, Room, later, added, data_in}
+use Rattle.frame.specs.Layout.{Payloads, held, set_values, told_values, DataPut, FieldsPut, FixedPut, later, added, data_in}
 use Rattle.frame.specs.declared.Content.{Content}
-use Rattle.frame.specs.declared.Content.TheVariants.{Started, Refused, Accepted, Kept}
-use Rattle.frame.proofs.Fields.{length_append_rows}
-
--- a kind that is neither of the two others
-pub tightenings_left : (kind : ℕ) → kind < length kinds → (kind ≡ identifiers → ⊥) → (kind ≡ alarms → ⊥) → kind ≡ tightenings
-tightenings_left kind few n m = omega (arith, n, m)
+use Rattle.frame.specs.declared.Content.TheVariants.{Started, Refused, Accepted, Kept, Notice}
+use Rattle.frame.specs.declared.Asked.{Asked}
+use Rattle.frame.proofs.Fields.{fields_then, fixed}
 
 -- ==== notices, by kind and revision
 
@@ -52,19 +52,7 @@ later_0061 revision h =
     ∙ ap (λ (k : ℕ). first_of later_rows true k) e
     ∙ ap (λ (rows : List Row). record { numbered = true; rows = rows }) (take-add 46 (n - 46) later_rows)
 
--- ==== what is added: of an older revision no more, and above the newest no more than of that
-
-rows_fewer : (m n : ℕ) (rows : List Row) → m ≤ n → rows_length true (take m rows) ≤ rows_length true (take n rows)
-rows_fewer zero n rows h = omega arith
-rows_fewer (suc m) zero rows h = absurd (omega arith)
-rows_fewer (suc m) (suc n) [] h = omega arith
-rows_fewer (suc m) (suc n) (row ∷ rows) h = let r = rows_fewer m n rows (omega arith) in omega arith
-
-pub added_room : (older revision at size : ℕ) → older ≤ revision → Room (added revision) at size → Room (added older) at size
-added_room older revision at size h room =
-    let n = count_grows older revision h in
-    let fewer = rows_fewer (later_count older - 46) (later_count revision - 46) (drop 46 later_rows) (omega arith) in
-    omega (arith, fewer, room)
+-- ==== what is added: above the newest revision no more than of that
 
 module _ {o o' : List ℕ} {at r : ℕ} (revision : ℕ) where
   added_as : (count : ℕ) → later_count revision ≡ count → FixedPut 47 (later 47 (count - 46)) o at r o'
@@ -80,62 +68,50 @@ module _ {o o' : List ℕ} {at r : ℕ} (revision : ℕ) where
       let e : revision - 2 ≡ suc (suc (suc (suc (revision - 6)))) = omega arith in
       added_as newest_count (ap (λ (k : ℕ). get_or older_counts k newest_count) e) w
 
--- how long the data of each is
-module _ {kind : ℕ} (revision : ℕ) where
-  pub first_length : kind ≡ identifiers → revision < 2 → data_length (layout kind revision) ≡ identifier_length
-  first_length e h = rw e (ap data_length (first_0052 revision h))
-
-  pub later_length : kind ≡ identifiers → 2 ≤ revision → data_length (layout kind revision) ≡ data_length layouts_0052.newest
-  later_length e h = rw e (ap data_length (later_0052 revision h))
-
-  pub result_length : kind ≡ tightenings → revision < 2 → data_length (layout kind revision) ≡ rows_length true result_rows
-  result_length e h = rw e (ap data_length (first_0061 revision h))
-
-  pub revised_length : kind ≡ tightenings → 2 ≤ revision
-      → data_length (layout kind revision) ≡ rows_length true (later 1 46) + rows_length true (added revision)
-  revised_length e h =
-      rw e (ap data_length (later_0061 revision h)) ∙ length_append_rows (later 1 46) (added revision)
-
-  pub alarm_length : kind ≡ alarms → data_length (layout kind revision) ≡ rows_length true alarm_rows
-  alarm_length e = rw e refl
-
--- the data of a notice of that kind was written by that layout
-abbrev Wrote : Payloads → ℕ → Layout → List ℕ → ℕ → ℕ → List ℕ → Type 0
-Wrote b kind l o at r o' = Written o at (data_length l) (data_of l (held (place_items kind) b)) r o'
-
 module _ (b : Payloads) {o o' : List ℕ} {at r : ℕ} where
-  -- by one that is the same, of a kind that is the same
-  by_same : {kind kind' : ℕ} {l l' : Layout} → kind ≡ kind' → l ≡ l' → Wrote b kind' l' o at r o' → Wrote b kind l o at r o'
-  by_same {kind} {kind'} {l} {l'} e f w =
-      subst (λ (k : ℕ). Wrote b k l o at r o') (sym e) (subst (λ (m : Layout). Wrote b kind' m o at r o') (sym f) w)
+  -- the data of a notice, as it is asked for, was written by that layout
+  by_layout : (asked : Asked) (kind : Kind) {l : Layout} → asked.kind ≡ kind → layout (place_of kind) asked.revision ≡ l
+      → Written o at (data_length l) (data_of l (held (place_items (place_of kind)) b)) r o' → DataPut (Notice asked) b o at r o'
+  unfolding data_in
+  by_layout asked kind {l} e f w =
+      let rev = asked.revision in
+      subst (λ (k : Kind). Written o at (data_length (layout (place_of k) rev))
+      (data_of (layout (place_of k) rev) (held (place_items (place_of k)) b)) r o') (sym e)
+      (subst (λ (m : Layout). Written o at (data_length m) (data_of m (held (place_items (place_of kind)) b)) r o') (sym f) w)
 
-  pub identifier_alone : (kind revision : ℕ) → kind ≡ identifiers → revision < 2 → length b.told ≡ place_size kind
-      → Put o at b.told r o' → Wrote b kind (layout kind revision) o at r o'
-  unfolding data_from characters digits
-  identifier_alone kind revision e h l p =
-      let n : length b.told ≡ identifier_length = l ∙ ap place_size e in
-      by_same e (ap (λ (k : ℕ). layout k revision) e ∙ first_0052 revision h) (record {
-        place = let z = p.place in omega arith;
-        put = put_as (sym (append-nil _ ∙ take_all identifier_length b.told (omega arith))) p;
-      })
+  module _ (asked : Asked) where
+    pub identifier_alone : asked.kind ≡ Identifiers → asked.revision < 2 → length b.told ≡ place_size (place_of asked.kind)
+        → Put o at b.told r o' → DataPut (Notice asked) b o at r o'
+    unfolding data_from characters digits
+    identifier_alone e h l p =
+        let n : length b.told ≡ identifier_length = l ∙ ap (λ (k : Kind). place_size (place_of k)) e in
+        by_layout asked Identifiers e (first_0052 asked.revision h) (record {
+          place = let z = p.place in omega arith;
+          put = put_as (sym (append-nil _ ∙ take_all identifier_length b.told (omega arith))) p;
+        })
 
-  pub identifier_parts : (kind revision : ℕ) → kind ≡ identifiers → 2 ≤ revision
-      → FieldsPut (told_values scanned_items b.told) 1 identifier_rows o at r o' → Wrote b kind (layout kind revision) o at r o'
-  unfolding data_from characters
-  identifier_parts kind revision e h w = by_same e (ap (λ (k : ℕ). layout k revision) e ∙ later_0052 revision h) w
+    pub identifier_parts : asked.kind ≡ Identifiers → 2 ≤ asked.revision
+        → FieldsPut (told_values scanned_items b.told) 1 identifier_rows o at r o' → DataPut (Notice asked) b o at r o'
+    unfolding data_from characters
+    identifier_parts e h w = by_layout asked Identifiers e (later_0052 asked.revision h) w
 
-  pub result_fields : (kind revision : ℕ) → kind ≡ tightenings → revision < 2
-      → FieldsPut (held result_items b) 1 result_rows o at r o' → Wrote b kind (layout kind revision) o at r o'
-  result_fields kind revision e h w = by_same e (ap (λ (k : ℕ). layout k revision) e ∙ first_0061 revision h) w
+    pub result_fields : asked.kind ≡ Tightenings → asked.revision < 2
+        → FieldsPut (held result_items b) 1 result_rows o at r o' → DataPut (Notice asked) b o at r o'
+    result_fields e h w = by_layout asked Tightenings e (first_0061 asked.revision h) w
 
-  pub revised_fields : (kind revision : ℕ) → kind ≡ tightenings → 2 ≤ revision
-      → FieldsPut (held result_items b) 1 (later 1 46 ++ added revision) o at r o' → Wrote b kind (layout kind revision) o at r o'
-  revised_fields kind revision e h w = by_same e (ap (λ (k : ℕ). layout k revision) e ∙ later_0061 revision h) w
+    -- the fields of revision 2, and what is added behind them
+    pub revised_fields : {o₁ : List ℕ} {r₁ : ℕ} → asked.kind ≡ Tightenings → 2 ≤ asked.revision
+        → FieldsPut (held result_items b) 1 (later 1 46) o at r₁ o₁ → FixedPut 47 (added asked.revision) o₁ r₁ r o'
+        → DataPut (Notice asked) b o at r o'
+    revised_fields e h v w =
+        let x = held result_items b in
+        by_layout asked Tightenings e (later_0061 asked.revision h)
+        (fields_then x 1 (later 1 46) (added asked.revision) v (fixed w x))
 
-  pub alarm_fields : (kind revision : ℕ) → kind ≡ alarms → FieldsPut (told_values alarm_items b.told) 1 alarm_rows o at r o'
-      → Wrote b kind (layout kind revision) o at r o'
-  unfolding data_from characters
-  alarm_fields kind revision e w = by_same e (ap (λ (k : ℕ). layout k revision) e) w
+    pub alarm_fields : asked.kind ≡ Alarms → FieldsPut (told_values alarm_items b.told) 1 alarm_rows o at r o'
+        → DataPut (Notice asked) b o at r o'
+    unfolding data_from characters
+    alarm_fields e w = by_layout asked Alarms e refl w
 
   -- ==== replies
 

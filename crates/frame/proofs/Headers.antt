@@ -1,22 +1,14 @@
 -- Laws of the header's tests, over any run.
-use mathlib.Core.Path.{◌≡◌, refl, sym, ◌∙◌, ap}
-use Prim.Native.Nat.{ℕ, ◌≤◌, ◌<◌}
-use native.Mathlib.Omega.{arith}
-use mathlib.Core.Bool.{Bool, true, false, ◌||◌, and-true, and-eq-true_iff}
-use mathlib.Core.List.{List, [], ◌∷◌}
+use mathlib.Core.Path.{◌≡◌}
+use Prim.Native.Nat.{ℕ, ◌≤◌}
+use mathlib.Core.Bool.{Bool, true, ◌||◌, and-eq-true_iff}
+use mathlib.Core.List.{List}
 use lib.Dec.{leb, eqb}
-use lib.ListN.{length, get_or, take}
-use lib.Seq.{drop-cons}
-use borrow.Author.Tests.{leb-true, le-leb, eq-eqb, ne_eqb}
+use lib.ListN.{length}
+use borrow.Author.Tests.{leb-true}
 use Rattle.model.specs.Limits.{header_length, message_longest}
-use Rattle.model.specs.Bytes.{digit_1, is_digit, is_space, all, places, decimal}
-use Rattle.model.specs.Runs.{is_flag, revision_of, is_message, read_run}
-use Rattle.frame.specs.Header.{header_of}
-use Rattle.frame.specs.declared.Header.TheVariants.{Dropped, Message}
-
-pub left_of : (a b : Bool) → (a || b) ≡ true → b ≡ false → a ≡ true
-left_of true b e f = refl
-left_of false b e f = sym f ∙ e
+use Rattle.model.specs.Bytes.{is_digit, is_space, all, places, decimal}
+use Rattle.model.specs.Runs.{is_flag, is_message}
 
 -- ==== the parts of a header
 
@@ -32,15 +24,8 @@ revision_part bs = places 9 11 bs
 abbrev good_revision : List ℕ → Bool
 good_revision bs = all is_digit (revision_part bs) || all is_space (revision_part bs)
 
--- byte 12, from 0
-abbrev flag_at : ℕ
-flag_at = 11
-
 abbrev flag_part : List ℕ → List ℕ
 flag_part bs = places 12 12 bs
-
-byte_12 : (bs : List ℕ) → flag_at < length bs → flag_part bs ≡ get_or bs flag_at 0 ∷ []
-byte_12 bs h = ap (take 1) (drop-cons bs flag_at 0 h)
 
 -- what a message's header has
 pub record SoundHeader (bs : List ℕ) (count : ℕ) : Type 0 where
@@ -57,51 +42,3 @@ header_sound bs count e =
     let b = (and-eq-true_iff _ (all is_digit (length_part bs))).0 c.0 in
     let a = (and-eq-true_iff (leb header_length (length bs)) (leb count message_longest)).0 b.0 in
     record { whole = leb-true header_length (length bs) a.0; mid = d.1; revision = f.1 }
-
--- the tests of a run, from the first that fails
-module _ (bs : List ℕ) (count : ℕ) where
-  abbrev result : Bool
-  result = is_message (record { kept = bs; count = count })
-
-  module _ (long : header_length ≤ length bs) (short : count ≤ message_longest) where
-    is_long : leb header_length (length bs) ≡ true
-    is_long = le-leb header_length (length bs) long
-
-    is_short : leb count message_longest ≡ true
-    is_short = le-leb count message_longest short
-
-    pub no_length : all is_digit (length_part bs) ≡ false → false ≡ result
-    no_length e = rw (is_long, is_short, e)
-
-    module _ (digits : all is_digit (length_part bs) ≡ true) where
-      pub other_length : (decimal (length_part bs) ≡ count → ⊥) → false ≡ result
-      other_length h = rw (is_long, is_short, digits, ne_eqb _ _ h)
-
-      module _ (own : decimal (length_part bs) ≡ count) where
-        pub no_mid : all is_digit (number_part bs) ≡ false → false ≡ result
-        no_mid e = rw (is_long, is_short, digits, eq-eqb _ _ own, e)
-
-        module _ (mid : all is_digit (number_part bs) ≡ true) where
-          pub no_revision : good_revision bs ≡ false → false ≡ result
-          no_revision e = rw (is_long, is_short, digits, eq-eqb _ _ own, mid, e)
-
-          pub by_flag : (b : Bool) → good_revision bs ≡ true → b ≡ is_flag (get_or bs flag_at 0) → b ≡ result
-          by_flag b e f =
-              let w : flag_at < length bs = omega arith in
-              rw (is_long, is_short, digits, eq-eqb _ _ own, mid, e, byte_12 bs w) (f ∙ sym (and-true _))
-
--- ==== what the header reader answers
-
-module _ (bs : List ℕ) (count : ℕ) where
-  pub dropped : is_message (record { kept = bs; count = count }) ≡ false → Dropped ≡ header_of bs count
-  unfolding header_of read_run
-  dropped e = rw e
-
-  pub heard : {mid revision : ℕ} {flag : Bool} → is_message (record { kept = bs; count = count }) ≡ true
-      → mid ≡ decimal (number_part bs) → revision ≡ revision_of (revision_part bs) → flag ≡ eqb (get_or bs flag_at 0) digit_1
-      → Message count mid revision flag ≡ header_of bs count
-  unfolding header_of read_run
-  heard e m r f = rw (e, byte_12 bs whole, and-true (eqb (get_or bs flag_at 0) digit_1)) (λ i. Message count (m i) (r i) (f i))
-    where
-      whole : flag_at < length bs
-      whole = let w = (header_sound bs count e).whole in omega arith

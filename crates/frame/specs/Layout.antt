@@ -1,9 +1,12 @@
 -- The data of the frames that we write, of values that stand as bytes. 01, "Frames we write".
-use Rattle.std.specs.Prelude.{◌≡◌, ℕ, ◌+◌, ◌-◌, ◌≤◌, true, List, [], ◌++◌, length, take, drop, replicate}
+use Rattle.std.specs.Prelude.{◌≡◌, ℕ, ◌+◌, ◌-◌, ◌≤◌, true, List, [], ◌∷◌, ◌++◌, length, take, drop, replicate}
 use Rattle.model.specs.Records.{Item, values, settings_items, tightening_items, tightening_length}
-use Rattle.model.specs.Layouts.{Sources, Row, unreported, Layout, label, data_from, data_of, data_length, rows_length, layout_at}
-use Rattle.model.specs.Layouts.{layout_0002, layout_0004, layout_0005, layout_0065, kept_rows, result_rows, later_rows, later_count}
+use Rattle.model.specs.Limits.{identifier_length}
+use Rattle.model.specs.Layouts.{Sources, told, Row, number, text, unreported, Layout, label, data_from, data_of, data_length, rows_length}
+use Rattle.model.specs.Layouts.{layout_at, layout_0002, layout_0004, layout_0005, layout_0065, kept_rows, result_rows, later_rows}
+use Rattle.model.specs.Layouts.{later_count}
 use Rattle.model.specs.Kinds.{kind_at}
+use Rattle.model.specs.Named.{place_of}
 use Rattle.text.specs.Put.{Put, Written}
 use Rattle.frame.specs.Places.{place_items}
 use Rattle.frame.specs.declared.Content.{Content}
@@ -16,14 +19,14 @@ layout_of Started = layout_0002
 layout_of (Refused mid error) = layout_0004 mid error
 layout_of (Accepted mid) = layout_0005 mid
 layout_of (Kept n) = layout_0065 n
-layout_of (Notice asked) = layout_at (kind_at asked.kind).layouts asked.revision
+layout_of (Notice asked) = layout_at (kind_at (place_of asked.kind)).layouts asked.revision
 
 abbrev pub items_told : Content → List Item
 items_told Started = []
 items_told (Refused mid error) = []
 items_told (Accepted mid) = []
 items_told (Kept n) = tightening_items
-items_told (Notice asked) = place_items asked.kind
+items_told (Notice asked) = place_items (place_of asked.kind)
 
 -- ==== what a frame is made of, as bytes: a settings record's payload, and what it tells
 
@@ -90,6 +93,10 @@ results n count = take count (drop (n - 1) result_rows)
 
 abbrev pub later : ℕ → ℕ → List Row
 later n count = take count (drop (n - 1) later_rows)
+
+-- of either the identifier, the job in so many digits, the parameter set
+abbrev pub program_rows : ℕ → List Row
+program_rows job_digits = text identifier_length told 0 ∷ number job_digits told 1 ∷ number 3 told 2 ∷ []
 
 -- what a revision from 2 on has behind those of revision 2
 abbrev pub added : ℕ → List Row

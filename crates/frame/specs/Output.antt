@@ -5,7 +5,8 @@ use Rattle.model.specs.Limits.{header_length}
 use Rattle.model.specs.Bytes.{space, digit_0, digit_1, in_bytes}
 use Rattle.model.specs.Records.{record_head, payload_length, settings_length, tightening_length, result_items}
 use Rattle.model.specs.Layouts.{data_length}
-use Rattle.model.specs.Kinds.{kinds, kind_at, copy_most}
+use Rattle.model.specs.Kinds.{kind_at, copy_most}
+use Rattle.model.specs.Named.{place_of}
 use Rattle.model.specs.Frames.{header, frame, frame_record}
 use Rattle.text.specs.Put.{Put, Written, Stands}
 use Rattle.frame.specs.Places.{place_size}
@@ -18,14 +19,6 @@ use Rattle.frame.specs.declared.Asked.{Asked}
 
 -- ==== what a frame is made of
 
--- a kind of notice is one that there is
-abbrev pub Real : Content → Type 0
-Real Started = Unit {0}
-Real (Refused mid error) = Unit {0}
-Real (Accepted mid) = Unit {0}
-Real (Kept n) = Unit {0}
-Real (Notice asked) = asked.kind < length kinds
-
 -- a result and the settings are whole
 abbrev pub ResultWhole : List ℕ → List ℕ → Type 0
 ResultWhole settings told = (length settings ≡ settings_length) × (length told ≡ payload_length result_items)
@@ -36,11 +29,10 @@ Whole Started b = length b.settings ≡ settings_length
 Whole (Refused mid error) b = Unit {0}
 Whole (Accepted mid) b = Unit {0}
 Whole (Kept n) b = length b.told ≡ tightening_length
-Whole (Notice asked) b = (length b.settings ≡ settings_length) × (length b.told ≡ place_size asked.kind)
+Whole (Notice asked) b = (length b.settings ≡ settings_length) × (length b.told ≡ place_size (place_of asked.kind))
 
 -- its data can be written
 pub record Layable (content : Content) (b : Payloads) (at size : ℕ) : Type 0 where
-  pub real : Real content
   pub whole : Whole content b
   pub room : at + data_length (layout_of content) ≤ size
 
@@ -56,7 +48,7 @@ mid_of Started = 2
 mid_of (Refused mid error) = 4
 mid_of (Accepted mid) = 5
 mid_of (Kept n) = 65
-mid_of (Notice asked) = (kind_at asked.kind).notice
+mid_of (Notice asked) = (kind_at (place_of asked.kind)).notice
 
 abbrev pub revision_of : Content → ℕ
 revision_of Started = 1
@@ -88,7 +80,6 @@ heading_bytes h = header h.size h.mid h.revision h.byte_12
 
 -- the header of a frame can go there: it is told how many bytes the frame has
 pub record Headable (content : Content) (count at size : ℕ) : Type 0 where
-  pub real : Real content
   pub own : count ≡ frame_length content
   pub room : at + header_length ≤ size
 
@@ -135,15 +126,13 @@ pub record RecordMade (o : List ℕ) (to : To) (record_kind end r : ℕ) (o' : L
 -- a frame can go there
 pub record Sendable (out : List ℕ) (to : To) (content : Content) (b : Payloads) : Type 0 where
   pub output : Writable out to (record_length (frame_length content))
-  pub real : Real content
   pub whole : Whole content b
 
 -- a copy of the notice in a place can go there: it may be as long as its kind has them, and what it is made of is whole
 pub record Lent (out : List ℕ) (to : To) (asked : Asked) (st p : List ℕ) : Type 0 where
-  pub output : Writable out to (copy_most (kind_at asked.kind))
-  pub kind : asked.kind < length kinds
+  pub output : Writable out to (copy_most (kind_at (place_of asked.kind)))
   pub settings : length st ≡ settings_length
-  pub place : length p ≡ place_size asked.kind
+  pub place : length p ≡ place_size (place_of asked.kind)
 
 -- the record of the frame bs stands there, to one session or another
 pub record Recorded (out : List ℕ) (from at : ℕ) (bs : List ℕ) : Type 0 where

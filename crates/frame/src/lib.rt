@@ -7,9 +7,10 @@ ghost use Rattle.model.specs.Bytes.{space, digit_0, is_digit, is_space, all, dig
 ghost use Rattle.model.specs.Runs.{is_flag as is_flag_byte, revision_of, is_message as is_message_run};
 ghost use Rattle.model.specs.Records.{record_head, payload_length, settings_of, settings_length, scanned_items};
 ghost use Rattle.model.specs.Records.{limit_of, tightening_items, tightening_length, result_items, alarm_items, alarm_length};
-ghost use Rattle.model.specs.Layouts.{limit_characters, controller_rows, identifier_rows, layout_0065, torque_rows, angle_rows};
+ghost use Rattle.model.specs.Layouts.{limit_characters, controller_rows, identifier_rows, layout_0065, torque_rows, angle_rows, time_rows};
 ghost use Rattle.model.specs.Layouts.{result_rows, alarm_rows};
-ghost use Rattle.model.specs.Kinds.{kinds, kind_at, copy_most, reply_most};
+ghost use Rattle.model.specs.Kinds.{kind_at, copy_most, reply_most};
+ghost use Rattle.model.specs.Named.{place_of};
 ghost use Rattle.model.specs.Events.{result_as};
 ghost use Rattle.model.specs.Frames.{frame_0002, frame_0004, frame_0005, frame_0065, event_frame, frame_record, close_record};
 ghost use Rattle.text.specs.Put.{Written, WrittenUpTo};
@@ -30,6 +31,7 @@ ghost use Rattle.frame.specs.Layout.{
   RoomFrom,
   results,
   later,
+  program_rows,
   added,
   kept_first,
   kept_last,
@@ -72,102 +74,76 @@ const REVISION_AT: usize = NUMBER_AT + NUMBER_DIGITS;
 
 const FLAG_AT: usize = REVISION_AT + REVISION_DIGITS;
 
-use model::IDENTIFIER_LENGTH;
+use model::{IDENTIFIER_LENGTH, Kind};
 
 // ---- the header of a received run
 
 // A message has no more bytes.
 const MESSAGE_LONGEST: usize = 9999;
 
-// What a run is: no message, or a message with what its header says.
-#[derive(Drop)]
-pub enum Header {
-    Dropped,
-    Message {
-        size: usize,
-        mid: u64,
-        revision: u64,
-        no_acknowledge: bool,
-    },
+// What the header of a message says.
+#[derive(Clone, Copy)]
+pub struct Header {
+    pub size: usize,
+    pub mid: u64,
+    pub revision: u64,
+    pub no_acknowledge: bool,
 }
 
 // Whether byte 12 is one that a header may have.
 fn is_flag(b: u8) -> bool
     ensures { result ≡ is_flag_byte b }
 {
-    match b {
-        b'0' => true,
-        b'1' => true,
-        b' ' => true,
-        _ => false,
-    }
+    matches!(b, b'0' | b'1' | b' ')
 }
 
 // Whether bytes 9 to 11 are digits or spaces.
 fn is_revision(s: &[u8]) -> bool
     ensures { result ≡ (all is_digit s.now || all is_space s.now) }
 {
-    if text::is_digits(s) {
-        return true;
-    }
-    text::is_spaces(s)
+    text::is_digits(s) || text::is_spaces(s)
 }
 
-// The revision that they give.
+// The revision that they give: 1 where they give none, or 0.
 fn revision(s: &[u8]) -> u64
     requires s_len_bound { length s.now ≤ 19 }
     requires s_value { (all is_digit s.now || all is_space s.now) ≡ true }
     ensures { result ≡ revision_of s.now }
 {
     if text::is_spaces(s) {
-        return 1;
+        1
+    } else {
+        text::decimal(s).max(1)
     }
-    let n = text::decimal(s);
-    if n == 0 {
-        return 1;
-    }
-    n
 }
 
 // Whether a run of count bytes, whose first are these, is a message.
 fn is_message(run: &[u8], count: usize) -> bool
     ensures { result ≡ is_message_run (record { kept = run.now; count = «count» }) }
 {
-    if run.len() < HEADER_LENGTH {
-        return false;
-    }
-    if count > MESSAGE_LONGEST {
-        return false;
-    }
-    let length = &run[0..NUMBER_AT];
-    if !text::is_digits(length) {
-        return false;
-    }
-    if text::decimal(length) != count as u64 {
-        return false;
-    }
-    if !text::is_digits(&run[NUMBER_AT..REVISION_AT]) {
-        return false;
-    }
-    if !is_revision(&run[REVISION_AT..FLAG_AT]) {
-        return false;
-    }
-    is_flag(run[FLAG_AT])
+    run.len() >= HEADER_LENGTH
+        && count <= MESSAGE_LONGEST
+        && text::is_digits(&run[..NUMBER_AT])
+        && text::decimal(&run[..NUMBER_AT]) == count as u64
+        && text::is_digits(&run[NUMBER_AT..REVISION_AT])
+        && is_revision(&run[REVISION_AT..FLAG_AT])
+        && is_flag(run[FLAG_AT])
 }
 
-// What a run of count bytes, whose first are these, is.
-fn header_in(run: &[u8], count: usize) -> Header
+// The header of a run of count bytes, whose first are these, if it is a message.
+#[tactic(auto, unfolding(crate::specs::Header::header_of, model::specs::Runs::read_run))]
+fn header_in(run: &[u8], count: usize) -> Option<Header>
     ensures { result ≡ header_of run.now «count» }
 {
     if !is_message(run, count) {
-        return Header::Dropped;
+        return None;
     }
-    Header::Message {
+    Some(Header {
         size: count,
         mid: text::decimal(&run[NUMBER_AT..REVISION_AT]),
         revision: revision(&run[REVISION_AT..FLAG_AT]),
         no_acknowledge: run[FLAG_AT] == b'1',
-    }
+    })
 }
 
 // The data field: what stands behind the header, as part of the caller's bytes.
@@ -177,10 +153,10 @@ pub fn data_field(run: &[u8]) -> &[u8]
     text::rest(run, HEADER_LENGTH)
 }
 
-// A run that was read: what it is, and its data field.
+// A run that was read: its header, if it is a message, and its data field.
 #[derive(Drop)]
 pub struct RunRead<'a> {
-    pub header: Header,
+    pub header: Option<Header>,
     pub field: &'a [u8],
 }
 
@@ -188,17 +164,18 @@ pub struct RunRead<'a> {
 pub fn read_header<'a>(run: &'a [u8], count: usize) -> RunRead<'a>
     ensures { RunReads run.now «count» result.header result.field.now }
 {
-    let header = header_in(run, count);
-    let field = data_field(run);
-    RunRead { header, field }
+    RunRead {
+        header: header_in(run, count),
+        field: data_field(run),
+    }
 }
 
 // ---- what frames say
 
 // How a session is subscribed to a kind of notice, as far as a copy shows it.
-#[derive(Clone, Copy)]
+#[derive(Clone, Copy, PartialEq, Eq)]
 pub struct Asked {
-    pub kind: usize,
+    pub kind: Kind,
     pub revision: u64,
     pub no_acknowledge: bool,
 }
@@ -243,46 +220,34 @@ fn put_text(out: &mut [u8], at: usize, field: u64, s: &[u8]) -> usize
     text::copy_few(s, out, at)
 }
 
-// A text of spaces.
-fn put_blank(out: &mut [u8], at: usize, field: u64, width: usize) -> usize
+// One byte, so many times: spaces for a text that is not there, zeros for what the tool does not report, a number or a text.
+fn put_filled(out: &mut [u8], at: usize, field: u64, width: usize, b: u8) -> usize
     requires { at + (2 + width) ≤ length out.old }
-    ensures { Written out.old at (2 + width) (numbered field (spaces width)) result out.new }
+    ensures { Written out.old at (2 + width) (numbered field (replicate width b)) result out.new }
 {
     let at = text::put_digits(out, at, FIELD_DIGITS, field);
-    text::fill(out, at, width, b' ')
+    text::fill(out, at, width, b)
 }
 
-// A limit in so many characters: its digits, or spaces where it was never set.
+// A limit in so many characters: its digits, or spaces where it was never set, for which the tool's record has a number.
 fn put_limit(out: &mut [u8], at: usize, field: u64, width: usize, n: u64) -> usize
     requires { at + (2 + width) ≤ length out.old }
     ensures { Written out.old at (2 + width) (numbered field (limit_characters width (limit_of n))) result
         out.new }
 {
     if n == model::NEVER_SET {
-        return put_blank(out, at, field, width);
+        return put_filled(out, at, field, width, b' ');
     }
     put_number(out, at, field, width, n)
 }
 
-// What the tool does not report, a number or a text: zeros.
-fn put_zeros(out: &mut [u8], at: usize, field: u64, width: usize) -> usize
-    requires { at + (2 + width) ≤ length out.old }
-    ensures { Written out.old at (2 + width) (numbered field (replicate width digit_0)) result out.new }
-{
-    let at = text::put_digits(out, at, FIELD_DIGITS, field);
-    text::fill(out, at, width, b'0')
-}
-
-// So many of one width, the first of which has that number.
-fn put_unreported(out: &mut [u8], at: usize, field: u64, count: u64, width: usize) -> usize
+// What the tool does not report: so many fields of one width, the first of which has that number.
+fn put_unreported(out: &mut [u8], mut at: usize, field: u64, count: u64, width: usize) -> usize
     requires { RoomFrom field (unreported_rows count width) at (length out.old) }
     ensures { FixedPut field (unreported_rows count width) out.old at result out.new }
 {
-    let mut at = at;
-    let mut i = 0;
-    while i < count {
-        at = put_zeros(out, at, field + i, width);
-        i += 1;
+    for i in 0..count {
+        at = put_filled(out, at, field + i, width, b'0');
     }
     at
 }
@@ -316,67 +281,83 @@ fn put_parts(out: &mut [u8], at: usize, told: &[u8]) -> usize
         out.new }
 {
     let at = put_text(out, at, 1, told);
-    let at = put_blank(out, at, 2, IDENTIFIER_LENGTH);
-    let at = put_blank(out, at, 3, IDENTIFIER_LENGTH);
-    put_blank(out, at, 4, IDENTIFIER_LENGTH)
+    let at = put_filled(out, at, 2, IDENTIFIER_LENGTH, b' ');
+    let at = put_filled(out, at, 3, IDENTIFIER_LENGTH, b' ');
+    put_filled(out, at, 4, IDENTIFIER_LENGTH, b' ')
 }
 
-// Of 0061 and 0065, statuses: tightening, torque, angle.
-fn put_statuses(out: &mut [u8], at: usize, field: u64, told: &[u8]) -> usize
-    requires { (field < 97) × Tellable (results 9 3) told.now at (length out.old) }
-    ensures { FieldsPut (told_values tightening_items told.now) field (results 9 3) out.old at result
-        out.new }
-{
-    let at = put_number(out, at, field, 1, text::little(told, 32, 1));
-    let at = put_number(out, at, field + 1, 1, text::little(told, 33, 1));
-    put_number(out, at, field + 2, 1, text::little(told, 34, 1))
-}
-
-// Of 0061 in revision 1: identifier, job, parameter set, batch size, batch counter.
-fn put_batch(out: &mut [u8], at: usize, told: &[u8]) -> usize
-    requires { Tellable (results 4 5) told.now at (length out.old) }
-    ensures { FieldsPut (told_values tightening_items told.now) 4 (results 4 5) out.old at result
+// Of 0061, a part of a tightening: identifier, job, parameter set. The job's digits are not as many in each revision.
+fn put_program<const JOB_DIGITS: usize>(out: &mut [u8], at: usize, told: &[u8]) -> usize
+    requires { (tightening_length ≤ length told.now) × Room (program_rows JOB_DIGITS) at (length out.old) }
+    ensures { FieldsPut (told_values tightening_items told.now) 4 (program_rows JOB_DIGITS) out.old at result
         out.new }
 {
     let at = put_text(out, at, 4, &told[0..IDENTIFIER_LENGTH]);
-    let at = put_number(out, at, 5, 2, text::little(told, 25, 1));
-    let at = put_number(out, at, 6, 3, text::little(told, 26, 2));
-    let at = put_number(out, at, 7, 4, text::little(told, 28, 2));
-    put_number(out, at, 8, 4, text::little(told, 30, 2))
+    let at = put_number(out, at, 5, JOB_DIGITS, text::little(told, 25, 1));
+    put_number(out, at, 6, 3, text::little(told, 26, 2))
+}
+
+// Other parts, of which the first field has the number FIRST: batch size, batch counter.
+fn put_batch<const FIRST: u64>(out: &mut [u8], at: usize, told: &[u8]) -> usize
+    requires { (FIRST < 99) × Tellable (results 7 2) told.now at (length out.old) }
+    ensures { FieldsPut (told_values tightening_items told.now) FIRST (results 7 2) out.old at result
+        out.new }
+{
+    let at = put_number(out, at, FIRST, 4, text::little(told, 28, 2));
+    put_number(out, at, FIRST + 1, 4, text::little(told, 30, 2))
+}
+
+// Statuses: tightening, torque, angle.
+fn put_statuses<const FIRST: u64>(out: &mut [u8], at: usize, told: &[u8]) -> usize
+    requires { (FIRST < 98) × Tellable (results 9 3) told.now at (length out.old) }
+    ensures { FieldsPut (told_values tightening_items told.now) FIRST (results 9 3) out.old at result
+        out.new }
+{
+    let at = put_number(out, at, FIRST, 1, text::little(told, 32, 1));
+    let at = put_number(out, at, FIRST + 1, 1, text::little(told, 33, 1));
+    put_number(out, at, FIRST + 2, 1, text::little(told, 34, 1))
 }
 
 // Torques: minimum, maximum, target, the torque.
-fn put_torques(out: &mut [u8], at: usize, told: &[u8]) -> usize
-    requires { Tellable torque_rows told.now at (length out.old) }
-    ensures { FieldsPut (told_values tightening_items told.now) 12 torque_rows out.old at result
+fn put_torques<const FIRST: u64>(out: &mut [u8], at: usize, told: &[u8]) -> usize
+    requires { (FIRST < 97) × Tellable torque_rows told.now at (length out.old) }
+    ensures { FieldsPut (told_values tightening_items told.now) FIRST torque_rows out.old at result
         out.new }
 {
-    let at = put_limit(out, at, 12, 6, text::little(told, 35, 4));
-    let at = put_limit(out, at, 13, 6, text::little(told, 39, 4));
-    let at = put_limit(out, at, 14, 6, text::little(told, 43, 4));
-    put_number(out, at, 15, 6, text::little(told, 47, 4))
+    let at = put_limit(out, at, FIRST, 6, text::little(told, 35, 4));
+    let at = put_limit(out, at, FIRST + 1, 6, text::little(told, 39, 4));
+    let at = put_limit(out, at, FIRST + 2, 6, text::little(told, 43, 4));
+    put_number(out, at, FIRST + 3, 6, text::little(told, 47, 4))
 }
 
 // Angles: minimum, maximum, target, the angle.
-fn put_angles(out: &mut [u8], at: usize, told: &[u8]) -> usize
-    requires { Tellable angle_rows told.now at (length out.old) }
-    ensures { FieldsPut (told_values tightening_items told.now) 16 angle_rows out.old at result
+fn put_angles<const FIRST: u64>(out: &mut [u8], at: usize, told: &[u8]) -> usize
+    requires { (FIRST < 97) × Tellable angle_rows told.now at (length out.old) }
+    ensures { FieldsPut (told_values tightening_items told.now) FIRST angle_rows out.old at result
         out.new }
 {
-    let at = put_limit(out, at, 16, 5, text::little(told, 51, 4));
-    let at = put_limit(out, at, 17, 5, text::little(told, 55, 4));
-    let at = put_limit(out, at, 18, 5, text::little(told, 59, 4));
-    put_number(out, at, 19, 5, text::little(told, 63, 4))
+    let at = put_limit(out, at, FIRST, 5, text::little(told, 51, 4));
+    let at = put_limit(out, at, FIRST + 1, 5, text::little(told, 55, 4));
+    let at = put_limit(out, at, FIRST + 2, 5, text::little(told, 59, 4));
+    put_number(out, at, FIRST + 3, 5, text::little(told, 63, 4))
 }
 
-// Time, time of the last change of the parameter set, batch status, tightening number.
-fn put_times(out: &mut [u8], at: usize, told: &[u8]) -> usize
-    requires { (length told.now ≡ payload_length result_items) × Room (results 20 4) at (length out.old) }
-    ensures { FieldsPut (told_values result_items told.now) 20 (results 20 4) out.old at result
+// Time, time of the last change of the parameter set.
+fn put_times<const FIRST: u64>(out: &mut [u8], at: usize, told: &[u8]) -> usize
+    requires { (FIRST < 99) × Tellable time_rows told.now at (length out.old) }
+    ensures { FieldsPut (told_values tightening_items told.now) FIRST time_rows out.old at result
         out.new }
 {
-    let at = put_text(out, at, 20, &told[67..86]);
-    let at = put_text(out, at, 21, &told[86..105]);
+    let at = put_text(out, at, FIRST, &told[67..86]);
+    put_text(out, at, FIRST + 1, &told[86..105])
+}
+
+// The last fields in revision 1: batch status, tightening number.
+fn put_end(out: &mut [u8], at: usize, told: &[u8]) -> usize
+    requires { (length told.now ≡ payload_length result_items) × Room (results 22 2) at (length out.old) }
+    ensures { FieldsPut (told_values result_items told.now) 22 (results 22 2) out.old at result
+        out.new }
+{
     let at = put_number(out, at, 22, 1, text::little(told, 105, 1));
     put_number(out, at, 23, 10, text::little(told, 106, 4))
 }
@@ -388,72 +369,36 @@ fn put_result(out: &mut [u8], at: usize, settings: &[u8], told: &[u8]) -> usize
         out.old at result out.new }
 {
     let at = put_controller(out, at, settings);
-    let at = put_batch(out, at, told);
-    let at = put_statuses(out, at, 9, told);
-    let at = put_torques(out, at, told);
-    let at = put_angles(out, at, told);
-    put_times(out, at, told)
+    let at = put_program::<2>(out, at, told);
+    let at = put_batch::<7>(out, at, told);
+    let at = put_statuses::<9>(out, at, told);
+    let at = put_torques::<12>(out, at, told);
+    let at = put_angles::<16>(out, at, told);
+    let at = put_times::<20>(out, at, told);
+    put_end(out, at, told)
 }
 
-// 0061 from revision 2 on: identifier, job, parameter set, strategy, its options.
-fn put_later_program(out: &mut [u8], at: usize, told: &[u8]) -> usize
-    requires { Tellable (later 4 5) told.now at (length out.old) }
-    ensures { FieldsPut (told_values tightening_items told.now) 4 (later 4 5) out.old at result
-        out.new }
+// 0061 from revision 2 on: strategy and its options, which are not reported.
+fn put_strategy(out: &mut [u8], at: usize) -> usize
+    requires { Room (later 7 2) at (length out.old) }
+    ensures { FixedPut 7 (later 7 2) out.old at result out.new }
 {
-    let at = put_text(out, at, 4, &told[0..IDENTIFIER_LENGTH]);
-    let at = put_number(out, at, 5, 4, text::little(told, 25, 1));
-    let at = put_number(out, at, 6, 3, text::little(told, 26, 2));
     let at = put_unreported(out, at, 7, 1, 2);
     put_unreported(out, at, 8, 1, 5)
 }
 
-// Batch size, batch counter; statuses: tightening, batch.
-fn put_later_batch(out: &mut [u8], at: usize, told: &[u8]) -> usize
-    requires { Tellable (later 9 4) told.now at (length out.old) }
-    ensures { FieldsPut (told_values tightening_items told.now) 9 (later 9 4) out.old at result
-        out.new }
-{
-    let at = put_number(out, at, 9, 4, text::little(told, 28, 2));
-    let at = put_number(out, at, 10, 4, text::little(told, 30, 2));
-    let at = put_number(out, at, 11, 1, text::little(told, 32, 1));
-    put_number(out, at, 12, 1, text::little(told, 105, 1))
-}
-
-// Statuses: torque, angle; five that are not reported, and the error status.
+// Statuses: tightening, batch, torque, angle; five that are not reported, and the error status.
 fn put_later_statuses(out: &mut [u8], at: usize, told: &[u8]) -> usize
-    requires { Tellable (later 13 8) told.now at (length out.old) }
-    ensures { FieldsPut (told_values tightening_items told.now) 13 (later 13 8) out.old at result
+    requires { Tellable (later 11 10) told.now at (length out.old) }
+    ensures { FieldsPut (told_values tightening_items told.now) 11 (later 11 10) out.old at result
         out.new }
 {
+    let at = put_number(out, at, 11, 1, text::little(told, 32, 1));
+    let at = put_number(out, at, 12, 1, text::little(told, 105, 1));
     let at = put_number(out, at, 13, 1, text::little(told, 33, 1));
     let at = put_number(out, at, 14, 1, text::little(told, 34, 1));
     let at = put_unreported(out, at, 15, 5, 1);
     put_unreported(out, at, 20, 1, 10)
-}
-
-// Torques, as in revision 1, with other numbers.
-fn put_later_torques(out: &mut [u8], at: usize, told: &[u8]) -> usize
-    requires { Tellable torque_rows told.now at (length out.old) }
-    ensures { FieldsPut (told_values tightening_items told.now) 21 torque_rows out.old at result
-        out.new }
-{
-    let at = put_limit(out, at, 21, 6, text::little(told, 35, 4));
-    let at = put_limit(out, at, 22, 6, text::little(told, 39, 4));
-    let at = put_limit(out, at, 23, 6, text::little(told, 43, 4));
-    put_number(out, at, 24, 6, text::little(told, 47, 4))
-}
-
-// Angles, likewise.
-fn put_later_angles(out: &mut [u8], at: usize, told: &[u8]) -> usize
-    requires { Tellable angle_rows told.now at (length out.old) }
-    ensures { FieldsPut (told_values tightening_items told.now) 25 angle_rows out.old at result
-        out.new }
-{
-    let at = put_limit(out, at, 25, 5, text::little(told, 51, 4));
-    let at = put_limit(out, at, 26, 5, text::little(told, 55, 4));
-    let at = put_limit(out, at, 27, 5, text::little(told, 59, 4));
-    put_number(out, at, 28, 5, text::little(told, 63, 4))
 }
 
 // What the tool does not watch: rundown angle, current, selftap, prevail torque.
@@ -466,17 +411,15 @@ fn put_unmonitored(out: &mut [u8], at: usize) -> usize
     put_unreported(out, at, 35, 6, 6)
 }
 
-// Tightening number; job sequence number, sync number, the tool's serial number; the two times.
-fn put_later_end(out: &mut [u8], at: usize, told: &[u8]) -> usize
-    requires { (length told.now ≡ payload_length result_items) × Room (later 41 6) at (length out.old) }
-    ensures { FieldsPut (told_values result_items told.now) 41 (later 41 6) out.old at result
+// Tightening number; job sequence number, sync number, the tool's serial number.
+fn put_numbers(out: &mut [u8], at: usize, told: &[u8]) -> usize
+    requires { (length told.now ≡ payload_length result_items) × Room (later 41 4) at (length out.old) }
+    ensures { FieldsPut (told_values result_items told.now) 41 (later 41 4) out.old at result
         out.new }
 {
     let at = put_number(out, at, 41, 10, text::little(told, 106, 4));
     let at = put_unreported(out, at, 42, 2, 5);
-    let at = put_unreported(out, at, 44, 1, 14);
-    let at = put_text(out, at, 45, &told[67..86]);
-    put_text(out, at, 46, &told[86..105])
+    put_unreported(out, at, 44, 1, 14)
 }
 
 // 0061 in revision 2: the controller's fields, and a result's behind them.
@@ -486,13 +429,15 @@ fn put_later(out: &mut [u8], at: usize, settings: &[u8], told: &[u8]) -> usize
         out.old at result out.new }
 {
     let at = put_controller(out, at, settings);
-    let at = put_later_program(out, at, told);
-    let at = put_later_batch(out, at, told);
+    let at = put_program::<4>(out, at, told);
+    let at = put_strategy(out, at);
+    let at = put_batch::<9>(out, at, told);
     let at = put_later_statuses(out, at, told);
-    let at = put_later_torques(out, at, told);
-    let at = put_later_angles(out, at, told);
+    let at = put_torques::<21>(out, at, told);
+    let at = put_angles::<25>(out, at, told);
     let at = put_unmonitored(out, at);
-    put_later_end(out, at, told)
+    let at = put_numbers(out, at, told);
+    put_times::<45>(out, at, told)
 }
 
 // What revision 3 adds: the parameter set's name, the unit of the torques, the result type.
@@ -560,7 +505,7 @@ fn put_kept(out: &mut [u8], at: usize, number: u64, told: &[u8]) -> usize
         out.new }
 {
     let at = put_kept_batch(out, at, number, told);
-    let at = put_statuses(out, at, 5, told);
+    let at = put_statuses::<5>(out, at, told);
     put_kept_end(out, at, told)
 }
 
@@ -581,20 +526,16 @@ fn put_notice(out: &mut [u8], at: usize, asked: Asked, settings: &[u8], told: &[
     ensures { DataPut (Notice asked) (payloads settings.now told.now) out.old at result
         out.new }
 {
-    if asked.kind == model::IDENTIFIERS {
-        if asked.revision < 2 {
-            return text::copy_few(told, out, at);
+    match asked.kind {
+        Kind::Identifiers if asked.revision < 2 => text::copy_few(told, out, at),
+        Kind::Identifiers => put_parts(out, at, told),
+        Kind::Tightenings if asked.revision < 2 => put_result(out, at, settings, told),
+        Kind::Tightenings => {
+            let at = put_later(out, at, settings, told);
+            put_added(out, at, asked.revision)
         }
-        return put_parts(out, at, told);
+        Kind::Alarms => put_alarm(out, at, told),
     }
-    if asked.kind == model::ALARMS {
-        return put_alarm(out, at, told);
-    }
-    if asked.revision < 2 {
-        return put_result(out, at, settings, told);
-    }
-    let at = put_later(out, at, settings, told);
-    put_added(out, at, asked.revision)
 }
 
 // Any frame.
@@ -646,14 +587,13 @@ fn reply_heading(size: usize, mid: u64) -> Heading
 }
 
 // The message number of a notice.
-fn notice_mid(kind: usize) -> u64
-    requires { kind < length kinds }
-    ensures { result ≡ (kind_at kind).notice }
+fn notice_mid(kind: Kind) -> u64
+    ensures { result ≡ (kind_at (place_of kind)).notice }
 {
     match kind {
-        model::IDENTIFIERS => 52,
-        model::TIGHTENINGS => 61,
-        _ => 71,
+        Kind::Identifiers => 52,
+        Kind::Tightenings => 61,
+        Kind::Alarms => 71,
     }
 }
 
@@ -797,7 +737,7 @@ pub fn put_9999(out: &mut [u8], to: To, run: &[u8]) -> usize
     ensures { Written out.old to.at (record_length header_length)
         (frame_record to.session (take header_length run.now)) result out.new }
 {
-    let at = text::copy(&run[0..HEADER_LENGTH], out, to.at + model::RECORD_HEAD);
+    let at = text::copy(&run[..HEADER_LENGTH], out, to.at + model::RECORD_HEAD);
     let end = text::fill(out, at, 1, 0);
     put_record(out, to, FRAME_RECORD_KIND, end)
 }
@@ -807,9 +747,9 @@ pub fn put_9999(out: &mut [u8], to: To, run: &[u8]) -> usize
 // A copy of the notice in a place, to a session that subscribed so.
 pub fn put_copy(out: &mut [u8], to: To, asked: Asked, settings: &[u8], place: &[u8]) -> usize
     requires { Lent out.old to asked settings.now place.now }
-    ensures { WrittenUpTo out.old to.at (copy_most (kind_at asked.kind)) (frame_record to.session
+    ensures { WrittenUpTo out.old to.at (copy_most (kind_at (place_of asked.kind))) (frame_record to.session
         (event_frame (settings_of settings.now) asked.revision asked.no_acknowledge
-        (event_in asked.kind place.now))) result out.new }
+        (event_in (place_of asked.kind) place.now))) result out.new }
 {
     put_frame(out, to, Content::Notice(asked), settings, place)
 }

@@ -1,36 +1,33 @@
 -- A lane's control in its bytes.
 use mathlib.Core.Path.{◌≡◌, refl, sym, ap, ◌∙◌}
-use Prim.Native.Nat.{ℕ, zero, suc, ◌≤◌, ◌<◌, ◌^◌, zero-le}
+use Prim.Native.Nat.{ℕ, zero, suc, ◌+◌, ◌-◌, ◌≤◌, ◌<◌, ◌^◌, zero-le}
+use native.Mathlib.Nat.{add-sub_cancel_left}
 use native.Mathlib.Omega.{arith}
 use mathlib.Core.Bool.{true, false, ◌&&◌, not, and-eq-true_iff}
-use mathlib.Core.List.{List, [], ◌∷◌}
+use mathlib.Core.List.{List, [], ◌∷◌, ◌++◌}
 use lib.Dec.{leb, ltb, eqb, eqb-suc-zero, lit<, lit≤}
-use lib.ListN.{length, get_or, take, drop, replicate}
-use lib.Seq.{sets, length-sets, get_or-take}
+use lib.ListN.{length, get_or, take, drop, replicate, length-drop}
+use lib.Seq.{sets, length-sets, get_or-take, drop-drop, length-take-le}
 use borrow.Author.Tests.{le-leb, lt-ltb, leb-true, ltb-true}
 use Rattle.model.specs.Limits.{given_up_at}
-use Rattle.model.specs.Bytes.{little, in_bytes}
+use Rattle.model.specs.Bytes.{little, in_bytes, all}
 use Rattle.model.specs.Events.{Notice}
-use Rattle.model.specs.Kinds.{room_of}
+use Rattle.model.specs.Kinds.{room_of, tightenings}
 use Rattle.model.specs.Notices.{is_subscribed, beats, act}
 use Rattle.text.specs.Cells.{cells}
 use Rattle.text.proofs.Numbers.{in_bytes_length}
 use Rattle.text.proofs.Lists.{drop_sets_after}
 use Rattle.text.proofs.Cells.{stored_same, stored_before}
+use Rattle.places.specs.Places.{is_place}
 use Rattle.session.specs.Meaning.{subscription_as}
 use Rattle.session.specs.declared.Form.{Form}
 use Rattle.session.specs.declared.Form.TheVariants.{Not, Plain, Acknowledged}
 use Rattle.session.specs.declared.Subscription.{Subscription}
 use Rattle.lane.specs.Kinds.{most, control_size, lane_size}
-use Rattle.lane.specs.Lane.{form_of, form_greatest, control_of, notices_in, slots_formed, lane_by, lane_formed, Lane}
+use Rattle.lane.specs.Lane.{form_of, form_greatest, control_of, notices_in, slots_formed, lane_by, places_in, lane_formed, Lane}
 use Rattle.lane.specs.Lane.{Cleared}
 use Rattle.lane.specs.Lane.{Storable, Stored, any, Deals}
-use Rattle.lane.proofs.Slots.{same_formed, none_formed}
-
-pub form_else : (b : ℕ) → (b ≡ 0 → ⊥) → (b ≡ 1 → ⊥) → Acknowledged ≡ form_of b
-form_else zero h g = absurd (h refl)
-form_else (suc zero) h g = absurd (g refl)
-form_else (suc (suc b)) h g = refl
+use Rattle.lane.proofs.Slots.{same_formed, none_formed, places_there}
 
 byte_of : (l : List ℕ) (n : ℕ) {bs : List ℕ} → take n l ≡ bs → (i : ℕ) → i < n → get_or l i 0 ≡ get_or bs i 0
 byte_of l n e i h = sym (get_or-take n l i 0 h) ∙ ap (λ (z : List ℕ). get_or z i 0) e
@@ -48,7 +45,7 @@ module _ (kind : ℕ) (l : List ℕ) (x : Subscription) (f : ℕ) (size : length
   bytes = f ∷ x.clock ∷ x.held ∷ []
 
   abbrev first : List ℕ
-  first = sets l 0 bytes
+  first = bytes ++ drop 3 l
 
   abbrev stored : List ℕ
   stored = sets first 8 (in_bytes 8 x.revision)
@@ -57,14 +54,13 @@ module _ (kind : ℕ) (l : List ℕ) (x : Subscription) (f : ℕ) (size : length
   long = omega arith
 
   same : length first ≡ length l
-  same = length-sets l 0 bytes
+  same = let n = long in let d = length-drop 3 l in omega arith
 
   there : take 3 stored ≡ bytes
   there =
       let s = same in
       let n = long in
       stored_before 8 8 first (in_bytes 8 x.revision) (in_bytes_length 8 x.revision) (omega arith) 0 3 (lit≤ tt)
-      ∙ stored_same 0 3 l bytes refl (omega arith)
 
   byte : (i : ℕ) → i < 3 → get_or stored i 0 ≡ get_or bytes i 0
   byte i h = byte_of stored 3 there i h
@@ -73,7 +69,7 @@ module _ (kind : ℕ) (l : List ℕ) (x : Subscription) (f : ℕ) (size : length
   behind =
       let s = same in
       drop_sets_after (in_bytes 8 x.revision) first 8 control_size (let n = in_bytes_length 8 x.revision in omega arith)
-      ∙ drop_sets_after bytes l 0 control_size (lit≤ tt)
+      ∙ drop-drop 13 3 l
 
   pub stores : Stored kind x l stored
   unfolding control_of lane_formed
@@ -120,22 +116,37 @@ held_formed kind l h =
     ((and-eq-true_iff (leb (get_or l 0 0) form_greatest && ltb (get_or l 1 0) given_up_at && leb (get_or l 2 0) (most kind))
     (slots_formed kind (get_or l 2 0) l)).0 h.formed).1
 
+-- the places that a lane of tightenings holds
+module _ (l : List ℕ) (n : ℕ) (lane : Lane tightenings l) (e : n ≡ get_or l 2 0) where
+  pub places_fit : control_size + n ≤ length l
+  unfolding control_of
+  places_fit =
+      let few = (storable tightenings l lane).held in
+      let size = lane.size in
+      omega arith
+
+  pub places_held : take (control_size + n - control_size) (drop control_size l) ≡ places_in l
+  unfolding control_of places_in
+  places_held = ap (λ (m : ℕ). take m (drop control_size l)) (add-sub_cancel_left control_size n ∙ e)
+
+  pub held_are_places : all is_place (take (control_size + n - control_size) (drop control_size l)) ≡ true
+  held_are_places =
+      ap (all is_place) places_held
+      ∙ places_there l lane.size (storable tightenings l lane).held (held_formed tightenings l lane)
+
 -- ==== what the form alone tells
 
 -- zeros are a lane that is not subscribed
-pub cleared : (kind : ℕ) (l : List ℕ) → length l ≡ lane_size kind → Cleared kind (sets l 0 (replicate 8 0))
+pub cleared : (kind : ℕ) (l zeros : List ℕ) → length l ≡ lane_size kind → zeros ≡ replicate (length (take 8 l)) 0
+    → Cleared kind (zeros ++ drop 8 l)
 unfolding lane_by control_of lane_formed
-cleared kind l size =
-    let zeros : List ℕ = replicate 8 0 in
-    let l' = sets l 0 zeros in
-    let there : take 8 l' ≡ zeros = stored_same 0 8 l zeros refl (omega arith) in
-    let byte = byte_of l' 8 there in
+cleared kind l zeros size e =
+    let eight : length (take 8 l) ≡ 8 = length-take-le 8 l (omega arith) in
+    let d = length-drop 8 l in
+    rw (e, eight)
     record {
-      lane = record {
-        size = length-sets l 0 zeros ∙ size;
-        formed = rw (byte 0 (lit< tt), byte 1 (lit< tt), byte 2 (lit< tt), le-leb 0 (most kind) zero-le, none_formed kind l');
-      };
-      means = λ read. rw (byte 0 (lit< tt));
+      lane = record { size = omega arith; formed = rw (le-leb 0 (most kind) zero-le, none_formed kind (replicate 8 0 ++ drop 8 l)) };
+      means = λ read. refl;
     }
 
 -- where none is held a second changes nothing, and nothing is sent

@@ -1,6 +1,6 @@
 -- An event that was taken in a lane is the model's.
 use mathlib.Core.Path.{◌≡◌, refl, sym, ap, ap₂, ◌∙◌, subst}
-use Prim.Native.Nat.{ℕ, ◌+◌, ◌*◌, ◌≤◌, ◌<◌, zero-le}
+use Prim.Native.Nat.{ℕ, ◌+◌, ◌-◌, ◌*◌, ◌≤◌, ◌<◌, zero-le}
 use native.Mathlib.Nat.{mul-le-mul_right, suc-mul}
 use native.Mathlib.Numerals.{add-one}
 use native.Mathlib.Omega.{arith}
@@ -9,15 +9,17 @@ use mathlib.Core.List.{List, [], ◌∷◌, ◌++◌}
 use lib.Dec.{eqb, leb}
 use lib.ListN.{length, take, drop, length-append, length-drop}
 use lib.Seq.{sets, length-sets}
+use borrow.Rule.Slice.PartMut.{put_mid}
 use borrow.Author.Tests.{eqb-true, eqb-false, leb-false}
 use Rattle.model.specs.Events.{Notice}
 use Rattle.model.specs.Kinds.{Room, the_newest, up_to, kinds, tightenings, room_of}
 use Rattle.model.specs.Notices.{act, news, takes}
 use Rattle.model.specs.Notices as model
 use Rattle.text.specs.Cells.{cells}
-use Rattle.text.proofs.Lists.{drop_sets, take_sets}
+use Rattle.text.proofs.Lists.{drop_sets, take_sets, sets_mid}
 use Rattle.text.proofs.Cells.{cells_push}
-use Rattle.session.specs.Meaning.{subscription_in, Took, kept, told, place_of}
+use Rattle.frame.specs.Places.{notice_in}
+use Rattle.session.specs.Meaning.{subscription_in, Took, put, kept, told, place_of}
 use Rattle.session.specs.Control.{taken, taken_busy, take_from, takes as takes_as}
 use Rattle.session.proofs.Tests.{chosen}
 use Rattle.session.proofs.Notices.{take_right}
@@ -27,79 +29,63 @@ use Rattle.session.specs.declared.Take.{Take}
 use Rattle.session.specs.declared.Take.TheVariants as take
 use Rattle.session.specs.declared.Taken.{Taken}
 use Rattle.session.specs.declared.Subscription.{Subscription}
-use Rattle.lane.specs.Kinds.{most, slot_size, slot_formed, control_size, lane_size}
+use Rattle.lane.specs.Kinds.{most, slot_size, slot_formed, control_size}
 use Rattle.lane.specs.Lane.{control_of, notices_in, lane_by, Storable, Stored, any, is_told, is_held, Pushing, Pushes}
-use Rattle.lane.specs.Lane.{Lane, slots_formed, places_in, Storing, Keeping, Keeps, Takes}
+use Rattle.lane.specs.Lane.{Lane, slots_formed, places_in, Storing, Takes, Taking, TakesSo}
 use Rattle.lane.proofs.KindLaws.{kind_fits}
 use Rattle.lane.proofs.Slots.{fewer_formed, pushed_formed}
 use Rattle.lane.proofs.Controls.{held_formed}
-use Rattle.lane.proofs.Lanes.{held_length, prefix, same_slots, holds}
+use Rattle.lane.proofs.Lanes.{held_length, prefix, holds}
 
 -- ==== what is held of a notice goes to a slot
 
 module _ (kind i : ℕ) (p : List ℕ) (x : Subscription) (l : List ℕ) (k : Pushing kind i p x l) (size : ℕ) (z : size ≡ slot_size kind) where
-  pub slot_fits : control_size + i * size + size ≤ length l
+  abbrev at : ℕ
+  at = control_size + i * size
+
+  pub slot_fits : at + size ≤ length l
   slot_fits =
       rw (z, k.size) (let m = mul-le-mul_right (slot_size kind) k.few in let q = suc-mul i (slot_size kind) in omega arith)
 
-  pub still_long : length (sets l (control_size + i * size) p) ≡ lane_size kind
-  still_long = length-sets l (control_size + i * size) p ∙ k.size
+  -- the lane with the slot written
+  module _ (ys : List ℕ) (e : ys ≡ p) where
+    abbrev written : List ℕ
+    written = put_mid at (at + length p - at) l ys
 
-  pub push_storing : Storing kind x (sets l (control_size + i * size) p)
-  unfolding slots_formed
-  push_storing =
-      let f = rw z at slot_fits in
-      let d = length-drop control_size l in
-      record {
-        size = still_long;
-        control = k.control;
-        formed = rw (k.last, z, drop_sets p l control_size (i * slot_size kind))
-            (pushed_formed kind l i p k.slot (omega arith) k.formed);
-      }
+    written_so : written ≡ sets l at p
+    written_so =
+        let f = slot_fits in
+        let s = k.slot in
+        ap (put_mid at (at + length p - at) l) e ∙ sym (sets_mid l p at (at + length p - at) (omega arith) (omega arith))
 
-  pub pushes : {l' : List ℕ} → Stored kind x (sets l (control_size + i * size) p) l' → Pushes kind i p x l l'
-  unfolding notices_in
-  pushes {l'} w =
-      let f = rw z at slot_fits in
-      let d = length-drop control_size l in
-      record {
-        control = w.control;
-        lane = w.lane;
-        notices = λ read.
-            same_slots read kind (i + 1) (sets l (control_size + i * size) p) l' w.slots
-            ∙ rw (z, add-one, drop_sets p l control_size (i * slot_size kind))
-            (cells_push read (slot_size kind) (drop control_size l) i p k.slot (omega arith));
-        slots = w.slots ∙ rw z (drop_sets p l control_size (i * slot_size kind));
-      }
+    pub push_storing : Storing kind x written
+    unfolding slots_formed
+    push_storing =
+        let f = rw z at slot_fits in
+        let d = length-drop control_size l in
+        rw written_so
+        record {
+          size = length-sets l at p ∙ k.size;
+          control = k.control;
+          formed = rw (k.last, z, drop_sets p l control_size (i * slot_size kind))
+              (pushed_formed kind l i p k.slot (omega arith) k.formed);
+        }
 
--- ==== where it is held
-
-module _ (read : List ℕ → Notice) (kind : ℕ) (t : Take) (p : List ℕ) (x : Subscription) (l : List ℕ) (k : Keeping kind t p x l) where
-  abbrev held : ℕ
-  held = (control_of l).held
-
-  -- it is not held
-  pub keeps_same : {z : Take} → t ≡ z → is_held z ≡ false → kept z (read p) (notices_in read kind held l) ≡ notices_in read kind held l
-      → Keeps read kind t p x l l
-  keeps_same e unheld same = rw e record {
-    control = k.same (rw e unheld);
-    lane = k.lane;
-    notices = rw (same, held_length read kind held l);
-    slots = λ h. absurd (true≢false (sym h ∙ unheld));
-  }
-
-  module _ (l' : List ℕ) where
-    pub keeps_opens : t ≡ take.Opens → Pushes kind 0 p x l l' → Keeps read kind t p x l l'
-    unfolding notices_in cells
-    keeps_opens e q = rw e record { control = q.control; lane = q.lane; notices = q.notices read; slots = λ h. q.slots }
-
-    pub keeps_waits : (i : ℕ) → t ≡ take.Waits i → Pushes kind i p x l l' → Keeps read kind t p x l l'
-    keeps_waits i e q =
-        let few : i ≤ held = subst (λ (z : Take). place_of z ≤ held) e k.there in
-        let pre : take i (notices_in read kind held l) ≡ notices_in read kind i l = prefix read kind i held l few in
-        let n : length (notices_in read kind i l ++ (read p ∷ [])) ≡ i + 1 =
-        length-append (notices_in read kind i l) (read p ∷ []) ∙ ap (λ (m : ℕ). m + 1) (held_length read kind i l) in
-        rw e record { control = q.control; lane = q.lane; notices = rw (pre, n) (q.notices read); slots = λ h. q.slots }
+    pub pushes : {l' : List ℕ} → Stored kind x written l' → Pushes kind i p x l l'
+    unfolding notices_in
+    pushes {l'} w =
+        let f = rw z at slot_fits in
+        let d = length-drop control_size l in
+        let slots : drop control_size l' ≡ sets (drop control_size l) (i * slot_size kind) p =
+        w.slots ∙ ap (drop control_size) written_so ∙ rw z (drop_sets p l control_size (i * slot_size kind)) in
+        record {
+          control = w.control;
+          lane = w.lane;
+          notices = λ read.
+              ap (cells read (slot_size kind) (i + 1)) slots
+              ∙ rw (add-one) (cells_push read (slot_size kind) (drop control_size l) i p k.slot (omega arith));
+          slots = slots;
+        }
 
 -- the slot is one of those held, or the one behind them, and is the last; and what is not held leaves the subscription as it was
 record Fair (x : Subscription) (t : Taken) : Type 0 where
@@ -165,6 +151,12 @@ unheld_kept take.Once n ns e = refl
 unheld_kept take.Opens n ns e = absurd (true≢false e)
 unheld_kept (take.Waits i) n ns e = absurd (true≢false e)
 
+held_kept : (t : Take) (n : Notice) (ns : List Notice) → is_held t ≡ true → kept t n ns ≡ put (place_of t) n ns
+held_kept take.Not n ns e = absurd (true≢false (sym e))
+held_kept take.Once n ns e = absurd (true≢false (sym e))
+held_kept take.Opens n ns e = refl
+held_kept (take.Waits i) n ns e = refl
+
 any_told : (t : Take) (n : Notice) → is_told t ≡ any (told t n)
 any_told take.Not n = refl
 any_told take.Once n = refl
@@ -193,19 +185,15 @@ module _ (read : List ℕ → Notice) (kind : ℕ) (l : List ℕ) (known : kind 
       let f = (took n).holds.fits in
       record { clock = omega arith; held = omega arith }
 
-  pub takes_slot : (p : List ℕ) → length p ≡ slot_size kind → slot_formed kind p ≡ true → Keeping kind t.take p t.next l
-  takes_slot p size formed = record {
-    lane = lane;
-    there = (fair (room_of kind) x).there;
-    push = λ q. record {
-      size = lane.size;
-      few = (took (read p)).place;
-      slot = size;
-      formed = rw (fewer_formed kind l _ _ (fair (room_of kind) x).there (held_formed kind l lane), formed);
-      control = takes_storable (read p);
-      last = (fair (room_of kind) x).last q;
-    };
-    same = (fair (room_of kind) x).same;
+  takes_slot : (p : List ℕ) → length p ≡ slot_size kind → slot_formed kind p ≡ true → is_held t.take ≡ true
+      → Pushing kind (place_of t.take) p t.next l
+  takes_slot p size formed held = record {
+    size = lane.size;
+    few = (took (read p)).place;
+    slot = size;
+    formed = rw (fewer_formed kind l _ _ (fair (room_of kind) x).there (held_formed kind l lane), formed);
+    control = takes_storable (read p);
+    last = (fair (room_of kind) x).last held;
   }
 
   -- of the notice n
@@ -224,8 +212,15 @@ module _ (read : List ℕ → Notice) (kind : ℕ) (l : List ℕ) (known : kind 
         takes = sym (took n).takes;
       }
 
-  pub takes_so : (p l' : List ℕ) → Keeps read kind t.take p t.next l l' → Takes read kind (read p) l t.take l'
-  takes_so p l' k = takes_as_told (read p) l' k.lane k.control k.notices
+  -- it is held
+  takes_pushed : (p l' : List ℕ) → is_held t.take ≡ true → Pushes kind (place_of t.take) p t.next l l'
+      → Takes read kind (read p) l t.take l'
+  takes_pushed p l' held q =
+      let i = place_of t.take in
+      let pre = prefix read kind i x.held l (fair (room_of kind) x).there in
+      let n : length (notices_in read kind i l ++ (read p ∷ [])) ≡ i + 1 =
+      length-append (notices_in read kind i l) (read p ∷ []) ∙ ap (λ (m : ℕ). m + 1) (held_length read kind i l) in
+      takes_as_told (read p) l' q.lane q.control (rw (held_kept t.take (read p) ns held, pre, n) (q.notices read))
 
   -- it is not held: the lane is as it was, whatever the notice
   pub takes_unheld : (n : Notice) → is_held t.take ≡ false → Takes read kind n l t.take l
@@ -233,11 +228,11 @@ module _ (read : List ℕ → Notice) (kind : ℕ) (l : List ℕ) (known : kind 
       takes_as_told n l lane ((fair (room_of kind) x).same e) (rw (unheld_kept t.take n ns e, held_length read kind x.held l))
 
 -- the places that are then held
-pub takes_adds : (read : List ℕ → Notice) (l p l' : List ℕ) → Lane tightenings l → length p ≡ slot_size tightenings
+takes_adds : (l p l' : List ℕ) → Lane tightenings l → length p ≡ slot_size tightenings
     → let t = taken (room_of tightenings) (control_of l) in
-    Keeps read tightenings t.take p t.next l l' → is_held t.take ≡ true → places_in l' ≡ places_in l ++ p
+    Pushes tightenings (place_of t.take) p t.next l l' → is_held t.take ≡ true → places_in l' ≡ places_in l ++ p
 unfolding places_in
-takes_adds read l p l' lane one k h =
+takes_adds l p l' lane one q h =
     let x = control_of l in
     let d = drop control_size l in
     let last = (fair (room_of tightenings) x).last h in
@@ -245,22 +240,34 @@ takes_adds read l p l' lane one k h =
     let few = fewer_held (most tightenings) x (omega arith) h in
     let size = lane.size in
     let long = length-drop control_size l in
-    let n : (control_of l').held ≡ x.held + length p = ap (λ (y : Subscription). y.held) k.control ∙ omega arith in
+    let n : (control_of l').held ≡ x.held + length p = ap (λ (y : Subscription). y.held) q.control ∙ omega arith in
     let at : place_of (taken (room_of tightenings) x).take * slot_size tightenings ≡ x.held = omega arith in
-    ap₂ (λ (m : ℕ) (z : List ℕ). take m z) n (k.slots h ∙ ap (λ (m : ℕ). sets d m p) at) ∙ take_sets p d x.held (omega arith)
+    ap₂ (λ (m : ℕ) (z : List ℕ). take m z) n (q.slots ∙ ap (λ (m : ℕ). sets d m p) at) ∙ take_sets p d x.held (omega arith)
 
-pub takes_places : (read : List ℕ → Notice) (kind : ℕ) {t : Taken} {p l l' : List ℕ} → t ≡ taken (room_of kind) (control_of l) → Lane kind l
-    → length p ≡ slot_size kind → Keeps read kind t.take p t.next l l' → kind ≡ tightenings → is_held t.take ≡ true
-    → places_in l' ≡ places_in l ++ p
-takes_places read kind {t} {p} {l} {l'} e lane one k z h =
-    let v = subst (λ (y : Taken). Keeps read kind y.take p y.next l l') e k in
-    let g = subst (λ (y : Taken). is_held y.take ≡ true) e h in
-    go kind z lane one v g
-  where
-    go : (n : ℕ) → n ≡ tightenings → Lane n l → length p ≡ slot_size n
-        → Keeps read n (taken (room_of n) (control_of l)).take p (taken (room_of n) (control_of l)).next l l'
-        → is_held (taken (room_of n) (control_of l)).take ≡ true → places_in l' ≡ places_in l ++ p
-    go n z lane one v g =
-        takes_adds read l p l' (subst (λ (m : ℕ). Lane m l) z lane) (subst (λ (m : ℕ). length p ≡ slot_size m) z one)
-        (subst (λ (m : ℕ). Keeps read m (taken (room_of m) (control_of l)).take p (taken (room_of m) (control_of l)).next l l') z v)
-        (subst (λ (m : ℕ). is_held (taken (room_of m) (control_of l)).take ≡ true) z g)
+-- of whatever stands for what is taken
+module _ {kind : ℕ} {t : Taken} {p l : List ℕ} (known : kind < length kinds) (k : Taking kind t p l) where
+  pub unheld_takes : is_held t.take ≡ false → TakesSo kind t.take p l l
+  unheld_takes e =
+      rw k.taken
+      record {
+        means = λ read. takes_unheld read kind l known k.lane (read p) (rw k.taken at e);
+        adds = λ z h. absurd (true≢false (sym h ∙ rw k.taken at e));
+      }
+
+  pub held_pushing : is_held t.take ≡ true → Pushing kind (place_of t.take) p t.next l
+  held_pushing e = rw k.taken (takes_slot (notice_in kind) kind l known k.lane p k.slot k.formed (rw k.taken at e))
+
+  pub held_takes : {l' : List ℕ} → is_held t.take ≡ true → Pushes kind (place_of t.take) p t.next l l' → TakesSo kind t.take p l l'
+  held_takes {l'} e q =
+      let h = rw k.taken at e in
+      let v = rw k.taken at q in
+      rw k.taken
+      record {
+        means = λ read. takes_pushed read kind l known k.lane p l' h v;
+        adds = λ z _.
+            let Adds : ℕ → Type 0 = λ n.
+            let t = taken (room_of n) (control_of l) in
+            Lane n l → length p ≡ slot_size n → Pushes n (place_of t.take) p t.next l l' → is_held t.take ≡ true
+            → places_in l' ≡ places_in l ++ p in
+            subst Adds (sym z) (takes_adds l p l') k.lane k.slot v h;
+      }

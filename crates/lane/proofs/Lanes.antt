@@ -1,13 +1,14 @@
 -- A deed that was carried out in a lane is the model's.
-use mathlib.Core.Path.{◌≡◌, refl, sym, ap, ◌∙◌}
+use mathlib.Core.Path.{◌≡◌, refl, sym, ap, ◌∙◌, subst}
 use Prim.Native.Nat.{ℕ, zero, suc, ◌+◌, ◌-◌, ◌*◌, ◌≤◌, ◌<◌}
-use native.Mathlib.Nat.{suc-mul, mul-le-mul_right}
+use native.Mathlib.Nat.{suc-mul, mul-le-mul_right, add-sub_cancel_left}
 use native.Mathlib.Numerals.{sub-one}
 use native.Mathlib.Omega.{arith}
 use mathlib.Core.Bool.{Bool, true, false, cond, and-eq-true_iff}
-use mathlib.Core.List.{List, ◌∷◌}
+use mathlib.Core.List.{List, ◌∷◌, ◌++◌}
 use lib.ListN.{length, take, drop, length-drop}
-use lib.Seq.{sets, length-sets, drop-drop, length-take-le}
+use lib.Seq.{sets, sets-eq, length-sets, drop-drop, length-take-le, paste}
+use Rattle.std.specs.List.{copy_within}
 use Rattle.model.specs.Bytes.{all}
 use Rattle.model.specs.Events.{Notice}
 use Rattle.model.specs.Kinds.{room_of}
@@ -16,13 +17,14 @@ use Rattle.model.specs.Notices as model
 use Rattle.text.specs.Cells.{cells}
 use Rattle.text.proofs.Lists.{drop_sets}
 use Rattle.text.proofs.Cells.{cells_pop, cells_prefix, length_cells}
+use Rattle.frame.specs.Places.{notice_in}
 use Rattle.session.specs.Meaning.{subscription_in, Holds, shifted, deed_of}
 use Rattle.session.specs.Control.{dealt}
 use Rattle.session.specs.declared.Deed.{Deed}
 use Rattle.session.specs.declared.Step.{Step}
 use Rattle.session.specs.declared.Subscription.{Subscription}
 use Rattle.lane.specs.Kinds.{most, slot_size, slot_formed, control_size, lane_size}
-use Rattle.lane.specs.Lane.{control_of, notices_in, slots_formed, lane_by, Lane, Storable, Stored, any, Shifting, Shifts, Deals}
+use Rattle.lane.specs.Lane.{control_of, notices_in, slots_formed, lane_by, Lane, Storing, Stored, any, Shifting, Shifts, Deals}
 use Rattle.lane.proofs.Slots.{fewer_formed}
 use Rattle.lane.proofs.Controls.{storable, held_formed}
 use Rattle.lane.proofs.Deeds.{Goes, goes, after, feasible, shifted_few, any_sent}
@@ -99,23 +101,35 @@ waiting_fit kind (suc n) h p =
     let s = suc-mul n (slot_size kind) in
     rw sub-one (omega arith)
 
-module _ (kind held : ℕ) (b : Bool) (l : List ℕ) (s : Shifting kind held b l) where
-  pub not_shifted : b ≡ false → Shifts kind held b l l
-  not_shifted e = rw e record { size = s.size; notices = λ read. refl; formed = λ f. f }
+-- a copy of them, from there to where the first was
+moved_down : (size others : ℕ) (l : List ℕ) → control_size + size + others ≤ length l
+    → copy_within l (control_size + size) (control_size + size + others) control_size ≡ down size others l
+moved_down size others l h =
+    let from = drop (control_size + size) l in
+    let d = length-drop (control_size + size) l in
+    let n : length (behind size others l) ≡ others = length-take-le others from (omega arith) in
+    ap (paste l control_size from) (add-sub_cancel_left (control_size + size) others)
+    ∙ ap (λ (m : ℕ). take control_size l ++ behind size others l ++ drop (control_size + m) l) (sym n)
+    ∙ sym (sets-eq (behind size others l) l control_size (omega arith))
 
-  module _ (e : b ≡ true) where
-    pub waiting : (size : ℕ) → size ≡ slot_size kind → control_size + size + (held - 1) * size ≤ length l
-    waiting size z = rw (z, s.size) (waiting_fit kind held s.few (s.one e))
+module _ (kind held : ℕ) (l : List ℕ) (s : Shifting kind held l) (size : ℕ) (z : size ≡ slot_size kind) where
+  pub waiting : control_size + size + (held - 1) * size ≤ length l
+  waiting = rw (z, s.size) (waiting_fit kind held s.few s.one)
 
-    pub is_shifted : (size : ℕ) → size ≡ slot_size kind → Shifts kind held b l (down size ((held - 1) * size) l)
-    is_shifted size z =
-        let one = s.one e in
-        rw (e, z)
-        record {
-          size = length-sets l control_size (behind (slot_size kind) ((held - 1) * slot_size kind) l) ∙ s.size;
-          notices = λ read. popped read kind held l s.size s.few one;
-          formed = popped_formed kind held l s.size s.few one;
-        }
+  pub is_shifted : {l' : List ℕ} → l' ≡ copy_within l (control_size + size) (control_size + size + (held - 1) * size) control_size
+      → Shifts kind held true l l'
+  is_shifted e =
+      let one = s.one in
+      rw (e ∙ moved_down size ((held - 1) * size) l waiting, z)
+      record {
+        size = length-sets l control_size (behind (slot_size kind) ((held - 1) * slot_size kind) l) ∙ s.size;
+        notices = λ read. popped read kind held l s.size s.few one;
+        formed = popped_formed kind held l s.size s.few one;
+      }
+
+-- it is not gone
+pub not_shifted : (kind held : ℕ) (l : List ℕ) → length l ≡ lane_size kind → Shifts kind held false l l
+not_shifted kind held l s = record { size = s; notices = λ read. refl; formed = λ f. f }
 
 -- ==== the whole deed
 
@@ -127,51 +141,63 @@ holds read kind l h =
     let n = held_length read kind (control_of l).held l in
     record { held = sym n; clock = omega arith; fits = omega arith }
 
-module _ (read : List ℕ → Notice) (kind : ℕ) (l : List ℕ) (lane : Lane kind l) (d : Deed) where
-  abbrev x : Subscription
-  x = control_of l
+-- of what stands in a lane, and the step that a deed is to it
+module _ (kind : ℕ) (l : List ℕ) (d : Deed) (x : Subscription) (r : Step) (lane : Lane kind l) (ex : x ≡ control_of l)
+    (er : r ≡ dealt x d) where
+  pub shifting : r.shift ≡ true → Shifting kind x.held l
+  shifting e = record {
+    size = lane.size;
+    few = rw ex (storable kind l lane).held;
+    one = (feasible x d).gone (rw er at e);
+  }
 
-  abbrev ns : List Notice
-  ns = notices_in read kind x.held l
-
-  abbrev r : Step
-  r = dealt x d
-
-  did : Goes (act (room_of kind) (deed_of d) (subscription_in x ns)) ns r
-  did = goes {room = room_of kind} x ns (holds read kind l lane) d
-
-  pub next_storable : Storable kind r.next
-  next_storable =
-      let c = did.clock in
-      let f = did.few in
-      let g = shifted_few r.shift ns in
-      let n = held_length read kind x.held l in
-      let s = (storable kind l lane).held in
-      record { clock = omega arith; held = omega arith }
+  did : (read : List ℕ → Notice)
+      → (let ns = notices_in read kind x.held l in Goes (act (room_of kind) (deed_of d) (subscription_in x ns)) ns r)
+  did read =
+      let ns = notices_in read kind x.held l in
+      let h : Holds (room_of kind) x ns = rw ex (holds read kind l lane) in
+      subst (Goes (act (room_of kind) (deed_of d) (subscription_in x ns)) ns) (sym er) (goes {room = room_of kind} x ns h d)
 
   -- of the slots that did not go, as many as are held then are well formed
-  pub next_formed : (l₁ : List ℕ) → Shifts kind x.held r.shift l l₁ → slots_formed kind r.next.held l₁ ≡ true
-  next_formed l₁ s =
-      let f = did.few in
-      let n = ap length (s.notices read) in
-      let m = held_length read kind (cond r.shift (x.held - 1) x.held) l₁ in
-      fewer_formed kind l₁ r.next.held (cond r.shift (x.held - 1) x.held) (omega arith) (s.formed (held_formed kind l lane))
+  module _ {l₁ : List ℕ} (s : Shifts kind x.held r.shift l l₁) where
+    abbrev left : ℕ
+    left = cond r.shift (x.held - 1) x.held
 
-  pub deals : (l₁ l' : List ℕ) (i : ℕ) → notices_in read kind i l₁ ≡ shifted r.shift ns → Stored kind r.next l₁ l'
-      → Deals read kind (deed_of d) l r.send l'
-  unfolding lane_by
-  deals l₁ l' i e w =
-      let f = did.few in
-      let n = held_length read kind i l₁ in
-      let q = ap length e in
-      let few : r.next.held ≤ i = omega arith in
-      let now_held : notices_in read kind r.next.held l' ≡ after r ns =
-      same_slots read kind r.next.held l₁ l' w.slots ∙ sym (prefix read kind r.next.held i l₁ few)
-      ∙ ap (take r.next.held) e in
-      record {
-        lane = w.lane;
-        becomes = rw (w.control, now_held) (sym (ap (λ (p : model.Subscription × List Notice). p.0) did.acts));
-        sends =
-            any_sent r.send (after r ns) (λ p. rw (length-take-le r.next.held (shifted r.shift ns) f) ((feasible x d).one p))
-            ∙ ap (λ (p : model.Subscription × List Notice). any p.1) (sym did.acts);
-      }
+    few : (read : List ℕ → Notice) → r.next.held ≤ left
+    few read =
+        let f = (did read).few in
+        let n = ap length (s.notices read) in
+        let m = held_length read kind left l₁ in
+        omega arith
+
+    pub storing : Storing kind r.next l₁
+    storing =
+        let read = notice_in kind in
+        let c = (did read).clock in
+        let f = (did read).few in
+        let g = shifted_few r.shift (notices_in read kind x.held l) in
+        let n = held_length read kind x.held l in
+        let h : x.held ≤ most kind = rw ex (storable kind l lane).held in
+        record {
+          size = s.size;
+          control = record { clock = omega arith; held = omega arith };
+          formed = fewer_formed kind l₁ r.next.held left (few read) (s.formed (rw ex (held_formed kind l lane)));
+        }
+
+    pub deals : {l' : List ℕ} → Stored kind r.next l₁ l' → (read : List ℕ → Notice) → Deals read kind (deed_of d) l r.send l'
+    unfolding lane_by
+    deals {l'} w read =
+        let ns = notices_in read kind x.held l in
+        let f = (did read).few in
+        let now_held : notices_in read kind r.next.held l' ≡ after r ns =
+        same_slots read kind r.next.held l₁ l' w.slots ∙ sym (prefix read kind r.next.held left l₁ (few read))
+        ∙ ap (take r.next.held) (s.notices read) in
+        record {
+          lane = w.lane;
+          becomes = rw (w.control, now_held, ← ex) (sym (ap (λ (p : model.Subscription × List Notice). p.0) (did read).acts));
+          sends =
+              rw (← ex)
+              (any_sent r.send (after r ns)
+              (λ p. rw (length-take-le r.next.held (shifted r.shift ns) f) ((rw (← er) at (feasible x d)).one p))
+              ∙ ap (λ (p : model.Subscription × List Notice). any p.1) (sym (did read).acts));
+        }

@@ -93,24 +93,23 @@ below b = rw (le-leb 0 b zero-le) (go (leb b 31) refl)
     go true e = e ∙ sym (lt-ltb b 32 (let h = leb-true b 31 e in omega arith))
     go false e = e ∙ sym (le-ltb b 32 (let h = leb-false b 31 e in omega arith))
 
-module _ {kind held : ℕ} {placed : Bool} {l : List ℕ} (k : SlotsTested kind held placed l) where
-  pub not_tested : placed ≡ false → true ≡ slots_formed kind held l
+module _ {kind held : ℕ} {l : List ℕ} (k : SlotsTested kind held l) where
+  pub not_tested : is_placed kind ≡ false → true ≡ slots_formed kind held l
   unfolding slots_formed
-  not_tested e =
-      sym (each_formed (slot_formed kind) (unplaced_formed kind (sym k.row ∙ e)) (slot_size kind) held (drop control_size l))
+  not_tested e = sym (each_formed (slot_formed kind) (unplaced_formed kind e) (slot_size kind) held (drop control_size l))
 
-  pub in_lane : placed ≡ true → control_size + held ≤ length l
+  pub in_lane : is_placed kind ≡ true → control_size + held ≤ length l
   in_lane e =
-      let t = eqb-true kind tightenings (sym k.row ∙ e) in
+      let t = eqb-true kind tightenings e in
       let f = subst (λ (n : ℕ). held ≤ most n) t k.few in
       let s = subst (λ (n : ℕ). length l ≡ lane_size n) t k.size in
       omega arith
 
-  pub is_tested : placed ≡ true → all (within 0 31) (take held (drop control_size l)) ≡ slots_formed kind held l
+  pub is_tested : is_placed kind ≡ true → all (within 0 31) (take held (drop control_size l)) ≡ slots_formed kind held l
   unfolding slots_formed
   is_tested e =
       let h = in_lane e in
-      rw (eqb-true kind tightenings (sym k.row ∙ e))
+      rw (eqb-true kind tightenings e)
       (all_same (within 0 31) is_place below (take held (drop control_size l))
       ∙ sym (placed_formed held (drop control_size l) (rw (length-drop control_size l) (omega arith))))
 

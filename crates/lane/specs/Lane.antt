@@ -10,7 +10,7 @@ use Rattle.model.specs.Events.{Notice}
 use Rattle.model.specs.Notices.{empty, busy, unsubscribed, plain, acked, act}
 use Rattle.model.specs.Notices as model
 use Rattle.text.specs.Cells.{cells}
-use Rattle.session.specs.Meaning.{subscription_in, shifted, kept, is_taken, place_of}
+use Rattle.session.specs.Meaning.{subscription_in, shifted, is_taken}
 use Rattle.session.specs.Control.{subscription, taken}
 use Rattle.session.specs.declared.Form.{Form}
 use Rattle.session.specs.declared.Form.TheVariants.{Not, Plain, Acknowledged}
@@ -18,7 +18,7 @@ use Rattle.session.specs.declared.Subscription.{Subscription}
 use Rattle.session.specs.declared.Take.{Take}
 use Rattle.session.specs.declared.Take.TheVariants as take
 use Rattle.session.specs.declared.Taken.{Taken}
-use Rattle.lane.specs.Kinds.{most, is_placed, slot_size, slot_formed, control_size, lane_size}
+use Rattle.lane.specs.Kinds.{most, slot_size, slot_formed, control_size, lane_size}
 
 -- ==== the control: the form, the clock and how many notices are held, a byte each; the revision in the bytes 8 to 15
 
@@ -83,10 +83,9 @@ pub record Cleared (kind : ℕ) (l : List ℕ) : Type 0 where
   pub means : (read : List ℕ → Notice) → lane_by read kind l ≡ unsubscribed
 
 -- what a test of the slots asks for: no more are held than there are slots
-pub record SlotsTested (kind held : ℕ) (placed : Bool) (l : List ℕ) : Type 0 where
+pub record SlotsTested (kind held : ℕ) (l : List ℕ) : Type 0 where
   pub size : length l ≡ lane_size kind
   pub few : held ≤ most kind
-  pub row : placed ≡ is_placed kind
 
 -- ==== a control that can be stored; it is stored, and the slots are as they were
 
@@ -118,13 +117,13 @@ any (n ∷ ns) = true
 
 -- ==== a deed, an event aside
 
--- of so many the first goes, or does not, where there is one
-pub record Shifting (kind held : ℕ) (shift : Bool) (l : List ℕ) : Type 0 where
+-- of so many there is a first, which goes
+pub record Shifting (kind held : ℕ) (l : List ℕ) : Type 0 where
   pub size : length l ≡ lane_size kind
   pub few : held ≤ most kind
-  pub one : shift ≡ true → 0 < held
+  pub one : 0 < held
 
--- it is gone, and the others have shifted down
+-- it is gone, and the others have shifted down; or it is not
 pub record Shifts (kind held : ℕ) (shift : Bool) (l l' : List ℕ) : Type 0 where
   pub size : length l' ≡ lane_size kind
   pub notices : (read : List ℕ → Notice)
@@ -168,22 +167,6 @@ pub record Pushes (kind i : ℕ) (p : List ℕ) (x : Subscription) (l l' : List 
   pub lane : Lane kind l'
   pub notices : (read : List ℕ → Notice) → notices_in read kind (i + 1) l' ≡ notices_in read kind i l ++ (read p ∷ [])
   pub slots : drop control_size l' ≡ sets (drop control_size l) (i * slot_size kind) p
-
--- the slot p is to be held as `t` says, and x to be the subscription that holds it; where it is not held, x is what it was
-pub record Keeping (kind : ℕ) (t : Take) (p : List ℕ) (x : Subscription) (l : List ℕ) : Type 0 where
-  pub lane : Lane kind l
-  pub there : place_of t ≤ (control_of l).held
-  pub push : is_held t ≡ true → Pushing kind (place_of t) p x l
-  pub same : is_held t ≡ false → control_of l ≡ x
-
--- its notice is held so
-pub record Keeps (read : List ℕ → Notice) (kind : ℕ) (t : Take) (p : List ℕ) (x : Subscription) (l l' : List ℕ) : Type 0 where
-  pub control : control_of l' ≡ x
-  pub lane : Lane kind l'
-  pub notices :
-      let ns = kept t (read p) (notices_in read kind (control_of l).held l) in
-      notices_in read kind (length ns) l' ≡ ns
-  pub slots : is_held t ≡ true → drop control_size l' ≡ sets (drop control_size l) (place_of t * slot_size kind) p
 
 -- an event of a kind, to a lane of that kind, where it becomes of its notice what `t` says; the slot p is for it
 pub record Taking (kind : ℕ) (t : Taken) (p l : List ℕ) : Type 0 where

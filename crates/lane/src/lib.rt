@@ -1,5 +1,8 @@
 // A lane: a session's subscription to one kind of notice and the notices that it holds, in one part of the lent table. Its functions
 // change it and say whether a copy is to be sent; what is sent is written elsewhere.
+//
+// It is lent as bare bytes, with its kind beside them, and that they are a lane is a clause: no proof closes with a struct around them,
+// since of a part of the table that a struct holds, as in `Lane { kind, bytes: &mut region[a..e] }`, its length alone is known afterwards.
 #![tactic(auto)]
 
 ghost use Rattle.std.specs.Prelude.{◌≡◌, true, List, ℕ, ◌≤◌, ◌<◌, length};
@@ -10,11 +13,10 @@ ghost use Rattle.model.specs.Events.{Notice};
 ghost use Rattle.places.specs.Places.{is_place};
 ghost use Rattle.model.specs.Notices.{is_subscribed as is_subscribed_so, beats};
 ghost use Rattle.session.specs.Meaning.{deed_of, is_taken as is_taken_so};
-ghost use Rattle.session.specs.Control.{taken, taken_busy, holding as holding_so};
+ghost use Rattle.session.specs.Control.{taken, taken_busy};
 ghost use Rattle.lane.specs.Kinds.{row_of as row_so, slot_size as slot_size_of, control_size, lane_size};
 ghost use Rattle.lane.specs.Lane.{
   form_of,
-  form_greatest,
   control_of,
   first_in,
   lane_by,
@@ -33,8 +35,6 @@ ghost use Rattle.lane.specs.Lane.{
   is_held as is_held_so,
   Pushing,
   Pushes,
-  Keeping,
-  Keeps,
   Taking,
   TakesSo,
 };
@@ -87,8 +87,7 @@ fn row_of(kind: Kind) -> Row
 fn slot_size(kind: Kind) -> usize
     ensures { result ≡ slot_size_of (place_of kind) }
 {
-    let row = row_of(kind);
-    row.size
+    row_of(kind).size
 }
 
 // The control is before the slots.
@@ -97,7 +96,8 @@ const CONTROL_SIZE: usize = 16;
 // Before it in the control: the form, the clock, how many are held.
 const REVISION_AT: usize = 8;
 
-// How many bytes a lane of that kind takes.
+// How many bytes a lane of that kind takes. Here and below a cast is proved to lose nothing: no `From` narrows, and the error of a
+// `TryFrom` would never come.
 pub fn size(kind: Kind) -> usize
     ensures { result ≡ lane_size (place_of kind) }
 {
@@ -107,16 +107,11 @@ pub fn size(kind: Kind) -> usize
 
 // ---- the control
 
-const FORM_GREATEST: u8 = 2;
+const FORM_GREATEST: u8 = Form::Acknowledged as u8;
 
-const PLACE_GREATEST: u8 = 31;
+const PLACE_GREATEST: u8 = places::COUNT as u8 - 1;
 
-fn wide(x: u8) -> u64
-    ensures { result ≡ x }
-{
-    x as u64
-}
-
+// No `From`, since neither type is this crate's. A byte that no form is stored as is read as the last of them.
 fn form_from(b: u8) -> Form
     ensures { result ≡ form_of b }
 {
@@ -127,26 +122,14 @@ fn form_from(b: u8) -> Form
     }
 }
 
-fn form_byte(f: Form) -> u8
-    ensures { (form_of result ≡ f) × (result ≤ form_greatest) }
-{
-    match f {
-        Form::Not => 0,
-        Form::Plain => 1,
-        Form::Acknowledged => FORM_GREATEST,
-    }
-}
-
 // Whether each of the first so many slots is one of the places that there are, where they are places.
-#[tactic(auto, using(crate::proofs::Slots::not_tested, crate::proofs::Slots::is_tested))]
-fn slots_formed(lane: &[u8], kind: Kind, held: usize, placed: bool) -> bool
-    requires { SlotsTested (place_of kind) held «placed» lane.now }
+#[tactic(auto, using(crate::proofs::Slots::not_tested, crate::proofs::Slots::in_lane, crate::proofs::Slots::is_tested))]
+fn slots_formed(lane: &[u8], kind: Kind, held: usize) -> bool
+    requires { SlotsTested (place_of kind) held lane.now }
     ensures { result ≡ slots_formed (place_of kind) held lane.now }
 {
-    if !placed {
-        return true;
-    }
-    text::all_within(&lane[CONTROL_SIZE..CONTROL_SIZE + held], 0, PLACE_GREATEST)
+    !row_of(kind).placed
+        || text::all_within(&lane[CONTROL_SIZE..CONTROL_SIZE + held], 0, PLACE_GREATEST)
 }
 
 // Whether the control is that of a subscription to that kind, and what it holds can be held.
@@ -155,18 +138,10 @@ pub fn is_formed(lane: &[u8], kind: Kind) -> bool
     requires { length lane.now ≡ lane_size (place_of kind) }
     ensures { result ≡ lane_formed (place_of kind) lane.now }
 {
-    if lane[0] > FORM_GREATEST {
-        return false;
-    }
-    if wide(lane[1]) >= Session::GIVEN_UP_AT {
-        return false;
-    }
-    let row = row_of(kind);
-    let held = wide(lane[2]);
-    if held > row.most {
-        return false;
-    }
-    slots_formed(lane, kind, held as usize, row.placed)
+    lane[0] <= FORM_GREATEST
+        && u64::from(lane[1]) < Session::GIVEN_UP_AT
+        && u64::from(lane[2]) <= row_of(kind).most
+        && slots_formed(lane, kind, usize::from(lane[2]))
 }
 
 // The subscription.
@@ -178,18 +153,17 @@ pub fn load(lane: &[u8]) -> Subscription
     Subscription {
         form: form_from(lane[0]),
         revision: text::little(lane, REVISION_AT, 8),
-        clock: wide(lane[1]),
-        held: wide(lane[2]),
+        clock: u64::from(lane[1]),
+        held: u64::from(lane[2]),
     }
 }
 
+// Here and in `clear` the kind is asked for by the contract alone.
 fn store(lane: &mut [u8], kind: Kind, x: Subscription)
     requires { Storing (place_of kind) x lane.old }
     ensures { Stored (place_of kind) x lane.old lane.new }
 {
-    let form = x.form;
-    let bytes = [form_byte(form), x.clock as u8, x.held as u8];
-    text::copy(&bytes, lane, 0);
+    lane[..3].copy_from_slice(&[x.form as u8, x.clock as u8, x.held as u8]);
     text::put_little(lane, REVISION_AT, 8, x.revision);
 }
 
@@ -199,7 +173,7 @@ pub fn clear(lane: &mut [u8], kind: Kind)
     requires { length lane.old ≡ lane_size (place_of kind) }
     ensures { Cleared (place_of kind) lane.new }
 {
-    text::fill(lane, 0, REVISION_AT, 0);
+    lane[..REVISION_AT].fill(0);
 }
 
 // Whatever the kind, and whatever is held.
@@ -216,24 +190,20 @@ pub fn first(lane: &[u8], kind: Kind) -> &[u8]
     requires { length lane.now ≡ lane_size (place_of kind) }
     ensures { result.now ≡ first_in (place_of kind) lane.now }
 {
-    let end = CONTROL_SIZE + slot_size(kind);
-    &lane[CONTROL_SIZE..end]
+    &lane[CONTROL_SIZE..CONTROL_SIZE + slot_size(kind)]
 }
 
 // ---- a deed
 
-// The first notice is gone, and those that wait shift down, where they do.
-#[tactic(auto, using(crate::proofs::Lanes::not_shifted, crate::proofs::Lanes::is_shifted))]
-fn shift_down(lane: &mut [u8], kind: Kind, held: u64, shift: bool)
-    requires { Shifting (place_of kind) held «shift» lane.old }
-    ensures { Shifts (place_of kind) held «shift» lane.old lane.new }
+// The first notice is gone, and those that wait shift down.
+fn shift_down(lane: &mut [u8], kind: Kind, held: u64)
+    requires { Shifting (place_of kind) held lane.old }
+    ensures { Shifts (place_of kind) held true lane.old lane.new }
 {
-    if !shift {
-        return;
-    }
     let size = slot_size(kind);
     let others = (held - 1) as usize * size;
-    text::shift(lane, CONTROL_SIZE, CONTROL_SIZE + size, others);
+    let second = CONTROL_SIZE + size;
+    lane.copy_within(second..second + others, CONTROL_SIZE);
 }
 
 // Any deed but an event: whether a copy of what is then the open notice is to be sent.
@@ -243,9 +213,10 @@ pub fn deal(lane: &mut [u8], kind: Kind, deed: Deed) -> bool
 {
     let x = load(lane);
     let step = session::dealt(x, deed);
-    shift_down(lane, kind, x.held, step.shift);
-    let next = step.next;
-    store(lane, kind, next);
+    if step.shift {
+        shift_down(lane, kind, x.held);
+    }
+    store(lane, kind, step.next);
     step.send
 }
 
@@ -263,19 +234,6 @@ pub fn beat(lane: &mut [u8], kind: Kind) -> bool
 
 // ---- an event
 
-// The same subscription, so many notices held and the open one's clock at `clock`.
-fn holding(x: Subscription, clock: u64, held: u64) -> Subscription
-    ensures { result ≡ holding_so x clock held }
-{
-    let form = x.form;
-    Subscription {
-        form,
-        revision: x.revision,
-        clock,
-        held,
-    }
-}
-
 // Where one is open: the newest waits alone; or it waits behind the others, where there is room.
 fn busy(x: Subscription, kind: Kind) -> Taken
     ensures { result ≡ taken_busy (room_of (place_of kind)) x }
@@ -284,29 +242,35 @@ fn busy(x: Subscription, kind: Kind) -> Taken
     if row.newest {
         return Taken {
             take: Take::Waits(1),
-            next: holding(x, x.clock, row.most),
+            next: Subscription {
+                held: row.most,
+                ..x
+            },
         };
     }
-    let held = x.held;
-    if held >= row.most {
+    if x.held >= row.most {
         return Taken {
             take: Take::Not,
             next: x,
         };
     }
     Taken {
-        take: Take::Waits(held),
-        next: holding(x, x.clock, held + 1),
+        take: Take::Waits(x.held),
+        next: Subscription {
+            held: x.held + 1,
+            ..x
+        },
     }
 }
 
 // What becomes of its notice, and the subscription after it.
 #[tactic(auto, unfolding(session::specs::Control::taken))]
-fn taken_by(x: Subscription, kind: Kind) -> Taken
-    ensures { result ≡ taken (room_of (place_of kind)) x }
+pub fn taking(lane: &[u8], kind: Kind) -> Taken
+    requires { Lane (place_of kind) lane.now }
+    ensures { result ≡ taken (room_of (place_of kind)) (control_of lane.now) }
 {
-    let form = x.form;
-    match form {
+    let x = load(lane);
+    match x.form {
         Form::Not => Taken {
             take: Take::Not,
             next: x,
@@ -315,82 +279,45 @@ fn taken_by(x: Subscription, kind: Kind) -> Taken
             take: Take::Once,
             next: x,
         },
-        Form::Acknowledged => {
-            if x.held == 0 {
-                return Taken {
-                    take: Take::Opens,
-                    next: holding(x, 0, 1),
-                };
-            }
-            busy(x, kind)
-        }
+        Form::Acknowledged if x.held == 0 => Taken {
+            take: Take::Opens,
+            next: Subscription {
+                clock: 0,
+                held: 1,
+                ..x
+            },
+        },
+        Form::Acknowledged => busy(x, kind),
     }
-}
-
-// The same, by what stands in the lane.
-pub fn taking(lane: &[u8], kind: Kind) -> Taken
-    requires { Lane (place_of kind) lane.now }
-    ensures { result ≡ taken (room_of (place_of kind)) (control_of lane.now) }
-{
-    taken_by(load(lane), kind)
 }
 
 // Whether its notice is taken, whether a copy of it is to be sent now, and whether it is held.
 pub fn is_taken(t: Take) -> bool
     ensures { result ≡ is_taken_so t }
 {
-    match t {
-        Take::Not => false,
-        Take::Once => true,
-        Take::Opens => true,
-        Take::Waits(_) => true,
-    }
+    t != Take::Not
 }
 
 pub fn is_told(t: Take) -> bool
     ensures { result ≡ is_told_so t }
 {
-    match t {
-        Take::Not => false,
-        Take::Once => true,
-        Take::Opens => true,
-        Take::Waits(_) => false,
-    }
+    matches!(t, Take::Once | Take::Opens)
 }
 
 pub fn is_held(t: Take) -> bool
     ensures { result ≡ is_held_so t }
 {
-    match t {
-        Take::Not => false,
-        Take::Once => false,
-        Take::Opens => true,
-        Take::Waits(_) => true,
-    }
+    matches!(t, Take::Opens | Take::Waits(_))
 }
 
 // What is to be held of a notice goes to slot i, as the last of those held, and the subscription that holds it to the control.
-#[tactic(auto, using(crate::proofs::Events::push_storing, crate::proofs::Events::pushes))]
 fn put(lane: &mut [u8], kind: Kind, i: u64, slot: &[u8], next: Subscription)
     requires { Pushing (place_of kind) i slot.now next lane.old }
     ensures { Pushes (place_of kind) i slot.now next lane.old lane.new }
 {
     let at = CONTROL_SIZE + i as usize * slot_size(kind);
-    text::copy(slot, lane, at);
+    lane[at..at + slot.len()].copy_from_slice(slot);
     store(lane, kind, next);
-}
-
-// It goes to its slot, where it has one; where it has none, the lane is as it was.
-fn hold(lane: &mut [u8], kind: Kind, take: Take, slot: &[u8], next: Subscription)
-    requires { Keeping (place_of kind) take slot.now next lane.old }
-    ensures { (read : List ℕ → Notice) → Keeps read (place_of kind) take slot.now next lane.old lane.new }
-{
-    match take {
-        Take::Not => {}
-        Take::Once => {}
-        Take::Opens => put(lane, kind, 0, slot, next),
-        Take::Waits(i) => put(lane, kind, i, slot, next),
-    }
 }
 
 // An event of which that becomes; `slot` is what is held of its notice.
@@ -398,16 +325,18 @@ pub fn take(lane: &mut [u8], kind: Kind, taken: Taken, slot: &[u8])
     requires { Taking (place_of kind) taken slot.now lane.old }
     ensures { TakesSo (place_of kind) taken.take slot.now lane.old lane.new }
 {
-    let take = taken.take;
-    let next = taken.next;
-    hold(lane, kind, take, slot, next);
+    match taken.take {
+        Take::Not | Take::Once => {}
+        Take::Opens => put(lane, kind, 0, slot, taken.next),
+        Take::Waits(i) => put(lane, kind, i, slot, taken.next),
+    }
 }
 
 // The places of the notices that are held, where the slots are places.
+#[tactic(auto, using(crate::proofs::Controls::places_fit, crate::proofs::Controls::places_held, crate::proofs::Controls::held_are_places))]
 pub fn places(lane: &[u8]) -> &[u8]
     requires { Lane tightenings lane.now }
     ensures { (result.now ≡ places_in lane.now) × (all is_place result.now ≡ true) }
 {
-    let end = CONTROL_SIZE + wide(lane[2]) as usize;
-    &lane[CONTROL_SIZE..end]
+    &lane[CONTROL_SIZE..CONTROL_SIZE + usize::from(lane[2])]
 }

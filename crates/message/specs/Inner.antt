@@ -1,7 +1,6 @@
 -- What this crate's inner functions leave, from which the contracts of the public ones are proved.
 use Rattle.std.specs.Prelude.{ℕ, List, [], ◌∷◌, Option, Some, None}
-use Rattle.std.proofs.Math.Option as maybe
-use Rattle.std.proofs.Math.Option.{none, some}
+use Rattle.std.proofs.Math.Option.{Option as Maybe, none, some}
 use Rattle.model.specs.Tests.{first}
 use Rattle.model.specs.Messages.{Entry, entry, Revisions, not_read, revisions, Effect, Error, Standing, own_test}
 use Rattle.message.specs.Meaning.{effect_in}
@@ -19,11 +18,11 @@ revision_in (Some span) = revisions span.0 span.1
 abbrev pub entry_in : Row → Entry
 entry_in r = entry r.mid r.length.0 r.length.1 (revision_in r.revision) (effect_in r.effect)
 
-abbrev pub row_found : Option Row → maybe.Option Entry
+abbrev pub row_found : Option Row → Maybe Entry
 row_found None = none
 row_found (Some r) = some (entry_in r)
 
 -- ==== 01, "What a message does", the last of the tests, the message's own
 
-abbrev pub own_error_in : Standing → Effect → List ℕ → maybe.Option Error
+abbrev pub own_error_in : Standing → Effect → List ℕ → Maybe Error
 own_error_in x e bs = first none (own_test x e bs ∷ [])

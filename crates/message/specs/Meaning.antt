@@ -2,8 +2,7 @@
 -- the public functions speak through these.
 use Rattle.std.specs.Prelude.{ℕ, ◌-◌, ◌≡◌, Bool, true, false, cond, ◌&&◌, List, leb, ltb, eqb, get_or, ⊤}
 use Rattle.std.specs.Prelude.{Option, Some, None, Result as Found, Ok, Err}
-use Rattle.std.proofs.Math.Option as maybe
-use Rattle.std.proofs.Math.Option.{none, some}
+use Rattle.std.proofs.Math.Option.{Option as Maybe, none, some}
 use Rattle.model.specs.Events.{Result}
 use Rattle.model.specs.Memory.{numbered, asked_for, is_there}
 use Rattle.model.specs.Messages as model
@@ -31,17 +30,17 @@ effect_in (effect.Fetches error) = fetches error
 effect_in effect.Mirrors = mirrors
 
 -- none for a message that is not listed
-abbrev pub effect_found : Option Effect → maybe.Option model.Effect
+abbrev pub effect_found : Option Effect → Maybe model.Effect
 effect_found None = none
 effect_found (Some e) = some (effect_in e)
 
 -- the effect that an entry has, where there is one
-abbrev pub effect_listed : maybe.Option Entry → maybe.Option model.Effect
+abbrev pub effect_listed : Maybe Entry → Maybe model.Effect
 effect_listed none = none
 effect_listed (some e) = some e.effect
 
 -- whether a message of that effect is ever answered; one that is not listed is, with 99
-abbrev pub answered : maybe.Option model.Effect → Bool
+abbrev pub answered : Maybe model.Effect → Bool
 answered none = true
 answered (some e) = gets_reply e
 
@@ -82,7 +81,7 @@ standing_with x number = record {
 }
 
 -- the model's error; none where every test is met
-abbrev pub error_in : Found ⊤ by_value.Error → maybe.Option Error
+abbrev pub error_in : Found ⊤ by_value.Error → Maybe Error
 error_in (Ok _) = none
 error_in (Err error.Unknown) = some unknown_message
 error_in (Err error.AlreadyStarted) = some already_started
@@ -92,6 +91,6 @@ error_in (Err error.Data) = some wrong_data
 error_in (Err (error.Own n)) = some (own n)
 
 -- the number that 0004 carries for an error, and 0 where there is none
-abbrev pub error_number : maybe.Option Error → ℕ
+abbrev pub error_number : Maybe Error → ℕ
 error_number none = 0
 error_number (some error) = code error

@@ -1,10 +1,10 @@
--- What is true of every decision: it leaves an idle count that a session can have, it mirrors only what is a message, and it tells only of a
--- tightening that is kept.
+-- What is true of every decision: it leaves an idle count that a session can have, it mirrors only what is a message, and it tells only of
+-- a tightening that is kept.
 use mathlib.Core.Path.{◌≡◌, refl}
 use mathlib.Core.Bool.{Bool, true, false, not, cond}
 use mathlib.Core.List.{List, [], ◌∷◌}
-use mathlib.Core.Option.{Option, none, some}
-use Rattle.std.specs.Prelude.{Some, None}
+use mathlib.Core.Option.{Option as Maybe, none, some}
+use Rattle.std.specs.Prelude.{Option, Some, None}
 use Prim.Native.Nat.{ℕ, ◌≤◌, ◌<◌}
 use native.Mathlib.Omega.{arith}
 use lib.Dec.{eqb}
@@ -20,7 +20,6 @@ use Rattle.message.specs.Meaning.{meant, is_among, standing_of, effect_listed, a
 use Rattle.message.specs.declared.Standing.{Standing}
 use Rattle.frame.specs.Header.{shown, header_of}
 use Rattle.frame.specs.declared.Header.{Header}
-use Rattle.frame.specs.declared.Header.TheVariants.{Dropped, Message}
 use Rattle.frame.proofs.Headers.{header_sound}
 use Rattle.session.specs.Decisions.{begun, replied, start, no_error, accepted, decided_started, decided, decision}
 use Rattle.session.specs.Effects.{decision_on}
@@ -39,10 +38,10 @@ module _ (P : Decision → Type 0) where
 
   module _ (x : Session) (unmoved : (b : Bool) (mid n : ℕ) → P (replied (cond b (Some (Error mid n)) None) x)) (begins : P start)
       (standing : Standing) (bs : List ℕ)
-      (to_started : (size mid revision : ℕ) (no_acknowledge : Bool) (error : Option model.Error)
+      (to_started : (size mid revision : ℕ) (no_acknowledge : Bool) (error : Maybe model.Error)
       → error_of (standing_of standing) mid size revision bs ≡ error
       → P (decided Started x mid revision no_acknowledge (meant standing.common (number_asked bs)) error)) where
-    every : (p : Phase) (size mid revision : ℕ) (no_acknowledge : Bool) (error : Option model.Error)
+    every : (p : Phase) (size mid revision : ℕ) (no_acknowledge : Bool) (error : Maybe model.Error)
         → error_of (standing_of standing) mid size revision bs ≡ error
         → P (decided p x mid revision no_acknowledge (meant standing.common (number_asked bs)) error)
     every Closed size mid revision no_acknowledge error e = unmoved false mid 0
@@ -50,17 +49,17 @@ module _ (P : Decision → Type 0) where
         either (eqb mid 1) (either (no_error error) begins (unmoved true mid (error_number error))) (unmoved false mid 0)
     every Started size mid revision no_acknowledge error e = to_started size mid revision no_acknowledge error e
 
-    pub on_any : (h : Header) → P (decision x standing h bs)
+    pub on_any : (h : Option Header) → P (decision x standing h bs)
     unfolding decision
-    on_any Dropped = unmoved false 0 0
-    on_any (Message size mid revision no_acknowledge) = every x.phase size mid revision no_acknowledge _ refl
+    on_any None = unmoved false 0 0
+    on_any (Some h) = every x.phase h.size h.mid h.revision h.no_acknowledge _ refl
 
 -- ==== the idle count is 0, or as it was
 
 abbrev pub Fair : Decision → Type 0
 Fair d = d.next.idle < idle_limit
 
-accepted_fair : (mid revision : ℕ) (no_acknowledge : Bool) (number : ℕ) (o : Option model.Effect)
+accepted_fair : (mid revision : ℕ) (no_acknowledge : Bool) (number : ℕ) (o : Maybe model.Effect)
     → Fair (accepted mid revision no_acknowledge number o)
 accepted_fair mid revision no_acknowledge number none = omega arith
 accepted_fair mid revision no_acknowledge number (some starts) = omega arith
@@ -72,11 +71,12 @@ accepted_fair mid revision no_acknowledge number (some (acknowledges kind)) = om
 accepted_fair mid revision no_acknowledge number (some (fetches n)) = omega arith
 accepted_fair mid revision no_acknowledge number (some mirrors) = omega arith
 
-pub decided_fair : (x : Session) → x.idle < idle_limit → (standing : Standing) (h : Header) (bs : List ℕ) → Fair (decision x standing h bs)
+pub decided_fair : (x : Session) → x.idle < idle_limit → (standing : Standing) (h : Option Header) (bs : List ℕ)
+    → Fair (decision x standing h bs)
 decided_fair x few standing h bs =
+    let number = meant standing.common (number_asked bs) in
     on_any Fair x (λ b mid n. few) (omega arith) standing bs (λ size mid revision no_acknowledge error e.
-    either Fair (no_error error) (accepted_fair mid revision no_acknowledge (meant standing.common (number_asked bs)) (effect_listed (entry_of mid)))
-    (omega arith)) h
+    either Fair (no_error error) (accepted_fair mid revision no_acknowledge number (effect_listed (entry_of mid))) (omega arith)) h
 
 -- ==== what is mirrored is a message, so that there are 20 bytes to send back
 
@@ -85,7 +85,7 @@ module _ (x : Session) (standing : Standing) (r : Run) where
       → (decision x standing (shown (cond b (some (message_of r)) none)) (drop header_length r.kept)).reply ≡ Some Mirrored
       → header_length ≤ length r.kept
   unfolding decision
-  whole_if false e q = absurd (let z : ◌≡◌ {A = ℕ} 0 1 = cc in omega arith)
+  whole_if false e q = cc
   whole_if true e q = (header_sound r.kept r.count e).whole
 
   pub mirrored_whole : (decision_on x standing r).reply ≡ Some Mirrored → header_length ≤ length r.kept
@@ -98,13 +98,13 @@ module _ (x : Session) (standing : Standing) (bs : List ℕ) (n : ℕ) where
   abbrev Known : Decision → Type 0
   Known d = d.reply ≡ Some (Kept n) → is_among standing.common n ≡ true
 
-  held : (k : Bool) (error : ℕ) → ◌≡◌ {A = Option model.Error} (cond (not k) (some (own error)) none) none → k ≡ true
+  held : (k : Bool) (error : ℕ) → ◌≡◌ {A = Maybe model.Error} (cond (not k) (some (own error)) none) none → k ≡ true
   held true error e = refl
   held false error e = absurd (there e)
 
   unmoved : (y : Session) (b : Bool) (mid code : ℕ) → Known (replied (cond b (Some (Error mid code)) None) y)
-  unmoved y true mid code q = absurd (let z : ◌≡◌ {A = ℕ} 0 1 = cc in omega arith)
-  unmoved y false mid code q = absurd (let z : ◌≡◌ {A = ℕ} 0 1 = cc in omega arith)
+  unmoved y true mid code q = cc
+  unmoved y false mid code q = cc
 
   module _ (mid revision : ℕ) (no_acknowledge : Bool) where
     abbrev number : ℕ
@@ -112,27 +112,27 @@ module _ (x : Session) (standing : Standing) (bs : List ℕ) (n : ℕ) where
 
     effect_known : (f : model.Effect) → first none (own_test (standing_of standing) f bs ∷ []) ≡ none
         → Known (accepted mid revision no_acknowledge number (some f))
-    effect_known starts e q = absurd (let z : ◌≡◌ {A = ℕ} 0 1 = cc in omega arith)
-    effect_known stops e q = absurd (let z : ◌≡◌ {A = ℕ} 0 1 = cc in omega arith)
-    effect_known (identifies m) e q = absurd (let z : ◌≡◌ {A = ℕ} 0 1 = cc in omega arith)
-    effect_known (subscribes kind m) e q = absurd (let z : ◌≡◌ {A = ℕ} 0 1 = cc in omega arith)
-    effect_known (unsubscribes kind m) e q = absurd (let z : ◌≡◌ {A = ℕ} 0 1 = cc in omega arith)
-    effect_known (acknowledges kind) e q = absurd (let z : ◌≡◌ {A = ℕ} 0 1 = cc in omega arith)
+    effect_known starts e q = cc
+    effect_known stops e q = cc
+    effect_known (identifies m) e q = cc
+    effect_known (subscribes kind m) e q = cc
+    effect_known (unsubscribes kind m) e q = cc
+    effect_known (acknowledges kind) e q = cc
     effect_known (fetches m) e q = let same : number ≡ n = cc in rw (← same) (held (is_among standing.common number) m e)
-    effect_known mirrors e q = absurd (let z : ◌≡◌ {A = ℕ} 0 1 = cc in omega arith)
+    effect_known mirrors e q = cc
 
-    entry_known : (size : ℕ) (o : Option Entry) → tested (standing_of standing) o size revision bs ≡ none
+    entry_known : (size : ℕ) (o : Maybe Entry) → tested (standing_of standing) o size revision bs ≡ none
         → Known (accepted mid revision no_acknowledge number (effect_listed o))
-    entry_known size none e q = absurd (let z : ◌≡◌ {A = ℕ} 0 1 = cc in omega arith)
+    entry_known size none e q = cc
     entry_known size (some f) e q = effect_known f.effect (passed (standing_of standing) f size revision bs e).2 q
 
-    started_known : (size : ℕ) (o : Option Entry) (error : Option model.Error) → tested (standing_of standing) o size revision bs ≡ error
+    started_known : (size : ℕ) (o : Maybe Entry) (error : Maybe model.Error) → tested (standing_of standing) o size revision bs ≡ error
         → Known (decided_started mid revision no_acknowledge number (effect_listed o) error)
     started_known size o none e = entry_known size o e
     started_known size o (some error) e = unmoved begun (answered (effect_listed o)) mid (error_number (some error))
 
-  pub told_kept : (h : Header) → Known (decision x standing h bs)
+  pub told_kept : (h : Option Header) → Known (decision x standing h bs)
   unfolding error_of
   told_kept h =
-      on_any Known x (unmoved x) (λ q. absurd (let z : ◌≡◌ {A = ℕ} 0 1 = cc in omega arith)) standing bs
+      on_any Known x (unmoved x) (λ q. cc) standing bs
       (λ size mid revision no_acknowledge error e. started_known mid revision no_acknowledge size (entry_of mid) error e) h

@@ -2,7 +2,7 @@
 use mathlib.Core.Path.{◌≡◌, refl, sym, ◌∙◌, ap}
 use mathlib.Core.Bool.{Bool, true, false, cond}
 use mathlib.Core.List.{List, [], ◌∷◌, ◌++◌, map, append-nil}
-use mathlib.Core.Option.{Option, none, some}
+use mathlib.Core.Option.{Option as Maybe, none, some}
 use Rattle.std.specs.Prelude.{Some, None}
 use Prim.Native.Nat.{ℕ, suc}
 use lib.Dec.{ltb, eqb}
@@ -29,37 +29,19 @@ use Rattle.model.specs.Hearing.{started_standing, opened_standing, message_error
 use Rattle.model.specs.Hearing.{identifier_judged}
 use Rattle.model.specs.Local.{end_run, end_run_opened, receives, step, identifier_run, announces}
 use Rattle.model.specs.Sharing.{Shared}
-use Rattle.message.specs.Meaning.{meant, Remembers, standing_of, standing_with, effect_listed, error_number}
-use Rattle.message.proofs.Order.{by_number}
+use Rattle.message.specs.Meaning.{meant, Remembers, standing_of, effect_listed, error_number}
 use Rattle.message.specs.declared.Common.{Common}
 use Rattle.message.specs.declared.Standing.{Standing}
 use Rattle.frame.specs.Header.{shown, header_of}
-use Rattle.frame.specs.declared.Header.{Header}
-use Rattle.frame.specs.declared.Header.TheVariants.{Message}
 use Rattle.session.specs.Meaning.{session_as}
 use Rattle.session.specs.Control.{session}
-use Rattle.session.specs.Decisions.{begun, replied, start, no_error, accepted, decided_started, decided, decision}
+use Rattle.session.specs.Decisions.{begun, replied, start, no_error, accepted, decided_started, decision}
 use Rattle.session.specs.Effects.{standing_in, decision_on, carried_out, announced}
 use Rattle.session.specs.declared.Phase.{Phase}
 use Rattle.session.specs.declared.Phase.TheVariants.{Closed, Opened, Started}
 use Rattle.session.specs.declared.Session.{Session}
 use Rattle.session.specs.declared.Reply.TheVariants.{Error}
 use Rattle.session.specs.declared.Decision.{Decision}
-
--- ==== a decision from its parts
-
-module _ (x : Session) (standing : Standing) (bs : List ℕ) where
-  pub in_phase : {h : Header} {size mid revision number : ℕ} {no_acknowledge : Bool} {error : Option model.Error} {p : Phase} {d : Decision}
-      → h ≡ Message size mid revision no_acknowledge
-      → number ≡ meant standing.common (number_asked bs)
-      → error ≡ error_of (standing_with standing number) mid size revision bs
-      → x.phase ≡ p
-      → d ≡ decided p x mid revision no_acknowledge number error
-      → d ≡ decision x standing h bs
-  unfolding decision
-  in_phase {h} {size} {mid} {revision} {no_acknowledge = no_acknowledge} eh en ee ep ed =
-      let right = rw en at ee ∙ by_number standing bs mid size revision in
-      ed ∙ rw (← ep, right, en, eh)
 
 -- ==== where nothing is done to any kind, the subscriptions are as they were, and nothing is sent
 
@@ -81,7 +63,7 @@ module _ (st : Settings) (p : Phase) (idle : ℕ) (subs : List Subscription) whe
 
 -- ==== what is to be shown: the model does what the decision does, and tells of the identifier that the decision makes known
 
-abbrev Right : Shared → List ℕ → List ℕ → List Subscription → sessions.Session × List Emission → Option (List ℕ) → Decision → Type 0
+abbrev Right : Shared → List ℕ → List ℕ → List Subscription → sessions.Session × List Emission → Maybe (List ℕ) → Decision → Type 0
 Right g header field subs did told d = (did ≡ carried_out g header d subs) × (told ≡ announced d.identifies field)
 
 -- ==== the kinds that the table of messages names are those that there are, by one computed test
@@ -128,7 +110,7 @@ module _ (g : Shared) (x : Common) (remembers : Remembers x g.kept) (m : runs.Me
   by_answer n true = alone st Started 0 subs (_ ∷ [])
   by_answer n false = alone st Started 0 subs []
 
-  by_error : (entry : Option Entry) → entry_of m.mid ≡ entry → (error : Option model.Error)
+  by_error : (entry : Maybe Entry) → entry_of m.mid ≡ entry → (error : Maybe model.Error)
       → Right g m.header m.data_field subs (judged g subs m entry error) (identifier_judged m entry error)
       (decided_started m.mid m.revision m.no_acknowledge number (effect_listed entry) error)
   by_error none q none = (alone st Started 0 subs [], refl)
@@ -148,13 +130,13 @@ module _ (g : Shared) (m : runs.Message) (idle : ℕ) (subs : List Subscription)
   abbrev x : Session
   x = session Opened idle
 
-  begins : (error : Option model.Error) → Right g m.header m.data_field subs (begin g idle m error) none
+  begins : (error : Maybe model.Error) → Right g m.header m.data_field subs (begin g idle m error) none
       (cond (no_error error) start (replied (Some (Error m.mid (error_number error))) x))
   begins none = (alone g.settings Started 0 no_subscriptions (_ ∷ []), refl)
   begins (some error) = (alone g.settings Opened idle subs (_ ∷ []), refl)
 
   module _ (s : model.Standing) (unstarted : s.started ≡ false) where
-    abbrev found : Option model.Error
+    abbrev found : Maybe model.Error
     found = error_of s m.mid m.size m.revision m.data_field
 
     by_mid : (b : Bool) → eqb m.mid 1 ≡ b → Right g m.header m.data_field subs
@@ -168,10 +150,10 @@ module _ (g : Shared) (m : runs.Message) (idle : ℕ) (subs : List Subscription)
 -- ==== a run at its end
 
 module _ (g : Shared) (idle : ℕ) (subs : List Subscription) (standing : Standing) (r : Run) where
-  abbrev read_if : Bool → Option runs.Message
+  abbrev read_if : Bool → Maybe runs.Message
   read_if b = cond b (some (message_of r)) none
 
-  abbrev Ends : Phase → Bool → sessions.Session × List Emission → Option (List ℕ) → Type 0
+  abbrev Ends : Phase → Bool → sessions.Session × List Emission → Maybe (List ℕ) → Type 0
   Ends p b did told =
       let field = drop header_length r.kept in
       Right g (take header_length r.kept) field subs did told (decision (session p idle) standing (shown (read_if b)) field)

@@ -1,7 +1,6 @@
 -- 01, "What a message does": what a run does to a session, decided over values. proofs/ ties it to the model.
 use Rattle.std.specs.Prelude.{ℕ, Bool, true, false, cond, List, eqb, Option, Some, None}
-use Rattle.std.proofs.Math.Option as maybe
-use Rattle.std.proofs.Math.Option.{none, some}
+use Rattle.std.proofs.Math.Option.{Option as Maybe, none, some}
 use Rattle.model.specs.declared.Kind.{Kind}
 use Rattle.model.specs.Named.{named}
 use Rattle.model.specs.Messages as model
@@ -10,7 +9,6 @@ use Rattle.model.specs.Messages.{number_asked, entry_of, error_of}
 use Rattle.message.specs.Meaning.{effect_listed, answered, meant, standing_of, error_number}
 use Rattle.message.specs.declared.Standing.{Standing}
 use Rattle.frame.specs.declared.Header.{Header}
-use Rattle.frame.specs.declared.Header.TheVariants.{Dropped, Message}
 use Rattle.session.specs.Control.{session, fresh}
 use Rattle.session.specs.declared.Phase.{Phase}
 use Rattle.session.specs.declared.Phase.TheVariants.{Closed, Opened, Started}
@@ -50,16 +48,16 @@ deal r kind d = record { reply = r; next = begun; begins = false; deed = Some (k
 
 -- ==== the decision on a message
 
-abbrev pub no_error : maybe.Option model.Error → Bool
+abbrev pub no_error : Maybe model.Error → Bool
 no_error none = true
 no_error (some error) = false
 
 -- a message that is never answered has no other effect than that it came
-abbrev pub refused : ℕ → maybe.Option model.Effect → maybe.Option model.Error → Decision
+abbrev pub refused : ℕ → Maybe model.Effect → Maybe model.Error → Decision
 refused mid effect error = replied (cond (answered effect) (Some (reply.Error mid (error_number error))) None) begun
 
 -- (02, P2: the number is that of the tightening that is asked for)
-abbrev pub accepted : ℕ → ℕ → Bool → ℕ → maybe.Option model.Effect → Decision
+abbrev pub accepted : ℕ → ℕ → Bool → ℕ → Maybe model.Effect → Decision
 accepted mid revision no_acknowledge number none = replied None begun
 accepted mid revision no_acknowledge number (some starts) = replied None begun
 accepted mid revision no_acknowledge number (some stops) = replied (Some (reply.Accepted mid)) fresh
@@ -72,24 +70,24 @@ accepted mid revision no_acknowledge number (some (fetches n)) = replied (Some (
 accepted mid revision no_acknowledge number (some mirrors) = replied (Some reply.Mirrored) begun
 
 -- to one that is started: by the message's effect and its error
-abbrev pub decided_started : ℕ → ℕ → Bool → ℕ → maybe.Option model.Effect → maybe.Option model.Error → Decision
+abbrev pub decided_started : ℕ → ℕ → Bool → ℕ → Maybe model.Effect → Maybe model.Error → Decision
 decided_started mid revision no_acknowledge number effect error =
     cond (no_error error) (accepted mid revision no_acknowledge number effect) (refused mid effect error)
 
 -- to one that is not: 0001 alone counts, and one with an error changes nothing
-abbrev pub decided_opened : Session → ℕ → maybe.Option model.Error → Decision
+abbrev pub decided_opened : Session → ℕ → Maybe model.Error → Decision
 decided_opened x mid error =
     cond (eqb mid 0001) (cond (no_error error) start (replied (Some (reply.Error mid (error_number error))) x)) (replied None x)
 
-abbrev pub decided : Phase → Session → ℕ → ℕ → Bool → ℕ → maybe.Option model.Error → Decision
+abbrev pub decided : Phase → Session → ℕ → ℕ → Bool → ℕ → Maybe model.Error → Decision
 decided Closed x mid revision no_acknowledge number error = replied None x
 decided Opened x mid revision no_acknowledge number error = decided_opened x mid error
 decided Started x mid revision no_acknowledge number error =
     decided_started mid revision no_acknowledge number (effect_listed (entry_of mid)) error
 
--- of a run with that header and that data field, by what the tests look at besides; one that is dropped changes nothing
-unfoldable pub decision : Session → Standing → Header → List ℕ → Decision
-decision x standing Dropped bs = replied None x
-decision x standing (Message size mid revision no_acknowledge) bs =
-    decided x.phase x mid revision no_acknowledge (meant standing.common (number_asked bs))
-    (error_of (standing_of standing) mid size revision bs)
+-- of a run with that header, if it is a message, and that data field, by what the tests look at besides; what is dropped changes nothing
+unfoldable pub decision : Session → Standing → Option Header → List ℕ → Decision
+decision x standing None bs = replied None x
+decision x standing (Some h) bs =
+    decided x.phase x h.mid h.revision h.no_acknowledge (meant standing.common (number_asked bs))
+    (error_of (standing_of standing) h.mid h.size h.revision bs)

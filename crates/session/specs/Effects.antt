@@ -1,7 +1,6 @@
 -- What this crate's answers come to for a whole session, in the model's terms, whatever subscriptions it has.
 use Rattle.std.specs.Prelude.{ℕ, ◌≤◌, ◌≡◌, Bool, true, false, cond, List, [], ◌∷◌, ◌++◌, map, length, take, drop, Option, Some, None}
-use Rattle.std.proofs.Math.Option as maybe
-use Rattle.std.proofs.Math.Option.{none, some}
+use Rattle.std.proofs.Math.Option.{Option as Maybe, none, some}
 use Rattle.model.specs.declared.Kind.{Kind}
 use Rattle.model.specs.Named.{place_of}
 use Rattle.model.specs.Limits.{header_length, identifier_length}
@@ -89,7 +88,7 @@ abbrev pub carried_out : Shared → List ℕ → Decision → List Subscription 
 carried_out g header d subs = let c = dealt_by g.settings d subs in (c.0, replies g header d.reply ++ c.1)
 
 -- the identifier that is made known, if the decision does that
-abbrev pub announced : Bool → List ℕ → maybe.Option (List ℕ)
+abbrev pub announced : Bool → List ℕ → Maybe (List ℕ)
 announced false bs = none
 announced true bs = some (padded identifier_length bs)
 

@@ -320,7 +320,8 @@ pub fn dealt(x: Subscription, deed: Deed) -> Step
 // ---- an event, to a subscription
 
 // What becomes of its notice: it is not taken; sent once, and not held; held at place 0 as the open one, and sent; held at the
-// place that is named, and not sent yet. (Not taken is no `None` beside the others: of one that is sent once the subscription stays, too.)
+// place that is named, and not sent yet. (Not taken is a case beside the others, and no `None`: of one that is sent once the subscription
+// stays as it is, too.)
 #[derive(Clone, Copy, PartialEq, Eq)]
 pub enum Take {
     Not,
@@ -447,57 +448,41 @@ fn deal(reply: Option<Reply>, kind: Kind, deed: Deed) -> Decision
 fn refused(mid: u64, effect: Option<Effect>, error: Error) -> Decision
     ensures { result ≡ refused_with mid (effect_found effect) (error_in (Err error)) }
 {
-    if message::gets_reply(effect) {
-        let code = message::error_code(Err(error));
-        replied(Some(Reply::Error { mid, code }), begun())
-    } else {
-        replied(None, begun())
-    }
+    let code = message::error_code(Err(error));
+    let reply = message::gets_reply(effect).then_some(Reply::Error { mid, code });
+    replied(reply, begun())
 }
 
 // A message with no error, to a session that is started; the number is that of the tightening that it asks for, if it asks for one.
-fn accepted(
-    mid: u64,
-    revision: u64,
-    no_acknowledge: bool,
-    number: u64,
-    effect: Option<Effect>,
-) -> Decision
-    ensures { result ≡ accepted_as mid revision no_acknowledge number (effect_found effect) }
+fn accepted(h: Header, number: u64, effect: Option<Effect>) -> Decision
+    ensures { result ≡ accepted_as h.mid h.revision h.no_acknowledge number (effect_found effect) }
 {
+    let reply = Some(Reply::Accepted { mid: h.mid });
     match effect {
         None | Some(Effect::Starts) => replied(None, begun()),
-        Some(Effect::Stops) => replied(Some(Reply::Accepted { mid }), Session::fresh()),
-        Some(Effect::Identifies { .. }) => identify(mid),
+        Some(Effect::Stops) => replied(reply, Session::fresh()),
+        Some(Effect::Identifies { .. }) => identify(h.mid),
         Some(Effect::Subscribes { kind, .. }) => {
             let asks = Deed::Asks {
-                revision,
-                no_acknowledge,
+                revision: h.revision,
+                no_acknowledge: h.no_acknowledge,
             };
-            deal(Some(Reply::Accepted { mid }), kind, asks)
+            deal(reply, kind, asks)
         }
-        Some(Effect::Unsubscribes { kind, .. }) => {
-            deal(Some(Reply::Accepted { mid }), kind, Deed::Drops)
-        }
+        Some(Effect::Unsubscribes { kind, .. }) => deal(reply, kind, Deed::Drops),
         Some(Effect::Acknowledges { kind }) => deal(None, kind, Deed::Acks),
         Some(Effect::Fetches { .. }) => replied(Some(Reply::Kept { number }), begun()),
         Some(Effect::Mirrors) => replied(Some(Reply::Mirrored), begun()),
     }
 }
 
-fn decide_started(
-    mid: u64,
-    revision: u64,
-    no_acknowledge: bool,
-    number: u64,
-    found: Result<(), Error>,
-) -> Decision
-    ensures { result ≡ decided_started mid revision no_acknowledge number (effect_listed (entry_of mid)) (error_in found) }
+fn decide_started(h: Header, number: u64, found: Result<(), Error>) -> Decision
+    ensures { result ≡ decided_started h.mid h.revision h.no_acknowledge number (effect_listed (entry_of h.mid)) (error_in found) }
 {
-    let effect = message::effect_of(mid);
+    let effect = message::effect_of(h.mid);
     match found {
-        Ok(()) => accepted(mid, revision, no_acknowledge, number, effect),
-        Err(error) => refused(mid, effect, error),
+        Ok(()) => accepted(h, number, effect),
+        Err(error) => refused(h.mid, effect, error),
     }
 }
 
@@ -510,48 +495,33 @@ fn decide_opened(x: Session, mid: u64, found: Result<(), Error>) -> Decision
     }
     match found {
         Ok(()) => start(),
-        Err(_) => {
-            let code = message::error_code(found);
+        Err(error) => {
+            let code = message::error_code(Err(error));
             replied(Some(Reply::Error { mid, code }), x)
         }
     }
 }
 
-// What a run does whose header is h.
-#[tactic(auto, unfolding(crate::specs::Decisions::decision))]
-fn decide_read(x: Session, standing: Standing, h: Header, data_field: &[u8]) -> Decision
-    ensures { result ≡ decision x standing h data_field.now }
-{
-    let Header::Message {
-        size,
-        mid,
-        revision,
-        no_acknowledge,
-    } = h
-    else {
-        return replied(None, x);
-    };
-    let number = message::number_meant(standing, data_field);
-    let found = message::judge(
-        standing,
-        Outline { mid, size },
-        revision,
-        number,
-        data_field,
-    );
-    match x.phase {
-        Phase::Closed => replied(None, x),
-        Phase::Opened => decide_opened(x, mid, found),
-        Phase::Started => decide_started(mid, revision, no_acknowledge, number, found),
-    }
-}
-
 // What a run of count bytes does, whose first are these.
+#[tactic(auto, using(message::proofs::Order::by_number), unfolding(crate::specs::Decisions::decision))]
 pub fn decide(x: Session, standing: Standing, run: &[u8], count: usize) -> Decision
     ensures { result ≡ decision x standing (header_of run.now «count») (drop header_length run.now) }
 {
     let read = frame::read_header(run, count);
-    decide_read(x, standing, read.header, read.field)
+    let Some(h) = read.header else {
+        return replied(None, x);
+    };
+    let number = message::number_meant(standing, read.field);
+    let outline = Outline {
+        mid: h.mid,
+        size: h.size,
+    };
+    let found = message::judge(standing, outline, h.revision, number, read.field);
+    match x.phase {
+        Phase::Closed => replied(None, x),
+        Phase::Opened => decide_opened(x, h.mid, found),
+        Phase::Started => decide_started(h, number, found),
+    }
 }
 
 // ---- the reply, as an output record

@@ -1,7 +1,8 @@
 -- An event: who takes it, and what it leaves to all sessions.
-use mathlib.Core.Path.{◌≡◌, refl, sym, ap, ap₂, subst, ◌∙◌}
-use Prim.Native.Nat.{ℕ, suc, ◌+◌, ◌*◌, ◌^◌, ◌≤◌, ◌<◌}
-use native.Mathlib.Nat.{add-zero, add-suc, suc-add, pow-suc, pow-le-pow_right}
+use mathlib.Core.Path.{◌≡◌, refl, sym, ap, subst, ◌∙◌}
+use borrow.Author.Rules.{rules}
+use Prim.Native.Nat.{ℕ, suc, ◌+◌, ◌*◌, ◌%◌, ◌^◌, ◌≤◌, ◌<◌}
+use native.Mathlib.Nat.{add-zero, add-suc, suc-add, pow-le-pow_right}
 use native.Mathlib.Numerals.{add-one}
 use lib.Dec.{lit≤}
 use native.Mathlib.Omega.{arith}
@@ -13,7 +14,7 @@ use Rattle.model.specs.Limits.{session_count}
 use Rattle.model.specs.Records.{settings_of}
 use Rattle.model.specs.Sharing.{Shared}
 use Rattle.model.specs.Session.{Session, closed}
-use Rattle.model.specs.Kinds.{kinds, identifiers, tightenings, alarms}
+use Rattle.model.specs.Kinds.{identifiers, tightenings, alarms}
 use Rattle.model.specs.Events.{Event, Result, result_as}
 use Rattle.model.specs.Memory.{kept_with}
 use Rattle.model.specs.Local.{Local, event, takes, step}
@@ -51,46 +52,42 @@ takers_below kind t =
     let e : 2 ^ (0 + length all) ≡ 2 ^ session_count = ap (λ (n : ℕ). 2 ^ (0 + n)) (length_regions (session_of (reading_in t)) t) in
     omega arith
 
--- a loop that adds them up: the bit of the next session, and what is left to add is all of it
-pub record Summing (kind : ℕ) (t₀ t : List ℕ) (s bit taken : ℕ) : Type 0 where
-  pub power : bit ≡ 2 ^ s
+-- a loop that adds them up: what is left to add is all of it
+pub record Summing (kind : ℕ) (t₀ t : List ℕ) (s taken : ℕ) : Type 0 where
   pub sum : taken + takers kind s (drop s (decode t).sessions) ≡ takers kind 0 (decode t₀).sessions
 
 pub sum_fits : 2 ^ session_count ≤ 65_536
 sum_fits = lit≤ tt
+
+-- the bit of a session, as the code has it
+pub bit_of : (s : ℕ) → s < session_count → 1 * 2 ^ s % 2 ^ 64 ≡ 2 ^ s
+bit_of s few = search rules
 
 -- the others are as they were when one has had its turn: y takes the place of the one at s
 takers_next : (l : List Session) (s : ℕ) (y : Session) → s < length l → (kind : ℕ)
     → takers kind s (drop s l) ≡ cond (takes kind (get_or l s closed)) (2 ^ s) 0 + takers kind (s + 1) (drop (s + 1) (set l s y))
 takers_next l s y h kind = rw (add-one s, drop-set-lt (suc s) l s y (omega arith)) (ap (takers kind s) (drop-cons l s closed h))
 
-module _ {kind : ℕ} {t₀ t : List ℕ} {s bit taken : ℕ} (w : Summing kind t₀ t s bit taken) where
-  -- both the bit and the sum are small
-  pub bit_small : s < session_count → bit ≤ 65_536
-  bit_small few =
+module _ {kind : ℕ} {t₀ t : List ℕ} {s taken : ℕ} (w : Summing kind t₀ t s taken) where
+  -- the sum is small, and what a session adds
+  pub adds : s < session_count → taken + 2 ^ s ≤ 131_072
+  adds few =
       let n : s ≤ session_count = omega arith in
       let two : 0 < 2 = omega arith in
-      omega (arith, w.power, pow-le-pow_right two n, sum_fits)
+      omega (arith, w.sum, takers_below kind t₀, sum_fits, pow-le-pow_right two n)
 
-  module _ (b : Bool) {share : ℕ} (es : share ≡ cond b bit 0) (few : s < session_count) where
-    pub adds : taken + share ≤ 131_072
-    adds = omega (arith, w.sum, es, takers_below kind t₀, sum_fits, at_most b bit, bit_small few)
-
-    pub sums_next : {t₁ o o₁ : List ℕ} {at to : ℕ} (e : Event) → Went t o at (alone s (event e) ∷ []) to t₁ o₁
-        → b ≡ takes kind (session_at (decode t) s) → Summing kind t₀ t₁ (s + 1) (bit * 2) (taken + share)
-    sums_next {t₁} e v eb =
-        let l = (decode t).sessions in
-        let h : s < length l = rw (so_many_sessions t) few in
-        let y = (step (decode t).shared (event e) (session_at (decode t) s)).0 in
-        let new : (decode t₁).sessions ≡ set l s y =
-        ap (λ (z : World). z.sessions) (v.table.meaning ∙ ap uncounted (next_to (decode t) s (event e) h)) in
-        let mine : share ≡ cond (takes kind (session_at (decode t) s)) (2 ^ s) 0 =
-        es ∙ ap₂ (λ (z : Bool) (n : ℕ). cond z n 0) eb w.power in
-        let others = ap (λ (z : List Session). takers kind (s + 1) (drop (s + 1) z)) new in
-        record {
-          power = rw (add-one s, pow-suc 2 s) (ap (λ (n : ℕ). n * 2) w.power);
-          sum = omega (arith, takers_next l s y h kind, others, mine, w.sum);
-        }
+  pub sums_next : (b : Bool) {t₁ o o₁ : List ℕ} {at to : ℕ} (e : Event) → s < session_count
+      → Went t o at (alone s (event e) ∷ []) to t₁ o₁ → b ≡ takes kind (session_at (decode t) s)
+      → Summing kind t₀ t₁ (s + 1) (taken + cond b (2 ^ s) 0)
+  sums_next b {t₁} e few v eb =
+      let l = (decode t).sessions in
+      let h : s < length l = rw (so_many_sessions t) few in
+      let y = (step (decode t).shared (event e) (session_at (decode t) s)).0 in
+      let new : (decode t₁).sessions ≡ set l s y =
+      ap (λ (z : World). z.sessions) (v.table.meaning ∙ ap uncounted (next_to (decode t) s (event e) h)) in
+      let mine = ap (λ (z : Bool). cond z (2 ^ s) 0) eb in
+      let others = ap (λ (z : List Session). takers kind (s + 1) (drop (s + 1) z)) new in
+      record { sum = omega (arith, takers_next l s y h kind, others, mine, w.sum) }
 
   pub sums_all : session_count ≤ s → taken ≡ takers kind 0 (decode t₀).sessions
   sums_all h =
@@ -112,21 +109,20 @@ front_means t a payload x n rs h k =
 
 -- what is no tightening has no number
 module _ {t place : List ℕ} (h : Table t) where
-  other_to : (kind : ℕ) → kind < length kinds → (kind ≡ tightenings → ⊥) → length place ≡ place_size kind → EventTo t kind place
-  other_to kind few n e = record { table = h; known = few; place = e; number = λ q. absurd (n q) }
+  other_to : (kind : ℕ) → (kind ≡ tightenings → ⊥) → length place ≡ place_size kind → EventTo t kind place
+  other_to kind n e = record { table = h; place = e; number = λ q. absurd (n q) }
 
   pub identifier_to : length place ≡ place_size identifiers → EventTo t identifiers place
-  identifier_to e = other_to identifiers (omega arith) (λ q. omega arith) e
+  identifier_to e = other_to identifiers (λ q. omega arith) e
 
   pub alarm_to : length place ≡ place_size alarms → EventTo t alarms place
-  alarm_to e = other_to alarms (omega arith) (λ q. omega arith) e
+  alarm_to e = other_to alarms (λ q. omega arith) e
 
 -- the sessions that see it leave the last number as it was
 pub still_to : {t t₁ place : List ℕ} {kind : ℕ} (l : Local) → EventTo t kind place → Becomes t (next (decode t) (to_all l)) t₁
     → EventTo t₁ kind place
 still_to l h b = record {
   table = b.table;
-  known = h.known;
   place = h.place;
   number = λ q. h.number q ∙ ap (λ (w : World). suc w.shared.last) (sym b.meaning);
 }

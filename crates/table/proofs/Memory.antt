@@ -4,6 +4,7 @@ use Prim.Native.Nat.{ℕ, ◌-◌}
 use native.Mathlib.Omega.{arith}
 use mathlib.Core.Bool.{Bool, true, false, cond, ◌&&◌}
 use mathlib.Core.List.{List}
+use Rattle.std.specs.Prelude.{Option, Some, None}
 use mathlib.Core.Option.{none, some}
 use lib.Dec.{leb, ltb, eqb}
 use lib.ListN.{take}
@@ -16,7 +17,8 @@ use Rattle.message.specs.Meaning.{Remembers}
 use Rattle.message.specs.declared.Common.{Common}
 use Rattle.session.specs.Effects.{replies, written}
 use Rattle.session.specs.declared.Reply.{Reply}
-use Rattle.session.specs.declared.Reply.TheVariants.{Nothing, Started, Accepted, Error, Kept, Mirrored}
+use Rattle.session.specs.declared.Reply.TheVariants.{Started, Accepted, Error, Kept, Mirrored}
+use Rattle.region.specs.Said.{Shows}
 use Rattle.shared.specs.Memory.{payload_kept}
 use Rattle.shared.specs.Shared.{last_of, count_of, kept_of, Area}
 use Rattle.shared.proofs.Results.{numbered_is, newest_is}
@@ -53,7 +55,7 @@ module _ (a : List ℕ) (h : Area a) where
     asked n true = at_last ∙ ap (λ (m : ℕ). numbered m (kept_of a)) (sym last)
     asked n false = refl
 
-    pub remembers : Remembers x (kept_of a)
+    remembers : Remembers x (kept_of a)
     unfolding asked_for
     remembers = record {
       kept = λ n. ap is_there (at_number n) ∙ there_if (among n) (result_at n) ∙ rw (last, count);
@@ -65,14 +67,20 @@ module _ (a : List ℕ) (h : Area a) where
   found n e =
       let b : among n ≡ true = sym (ap is_there (at_number n) ∙ there_if (among n) (result_at n)) ∙ e in at_number n ∙ rw b
 
+-- what the tests of a message look at of what all share
+pub shown : {x : Common} (t : List ℕ) → Table t → x.granted ≡ (settings_in t).granted → x.newest ≡ last_of (shared_area t)
+    → x.kept ≡ count_of (shared_area t) → Shows x (decode t).shared
+unfolding decode
+shown {x} t h granted newest kept = record { granted = granted; remembers = remembers (shared_area t) (shared_good t h) x newest kept }
+
 -- a reply as it is written is the reply by what all share
 module _ (t : List ℕ) (h : Table t) (run : List ℕ) where
-  pub reply_said : (r : Reply) → ((n : ℕ) → r ≡ Kept n → is_there (numbered n (decode t).shared.kept) ≡ true)
+  pub reply_said : (r : Option Reply) → ((n : ℕ) → r ≡ Some (Kept n) → is_there (numbered n (decode t).shared.kept) ≡ true)
       → written (settings_in t) (told_by (shared_area t) run r) r ≡ replies (decode t).shared (take header_length run) r
   unfolding decode
-  reply_said Nothing k = refl
-  reply_said Started k = refl
-  reply_said (Accepted mid) k = refl
-  reply_said (Error mid code) k = refl
-  reply_said (Kept n) k = sym (ap fetched (found (shared_area t) (shared_good t h) n (k n refl)))
-  reply_said Mirrored k = refl
+  reply_said None k = refl
+  reply_said (Some Started) k = refl
+  reply_said (Some (Accepted mid)) k = refl
+  reply_said (Some (Error mid code)) k = refl
+  reply_said (Some (Kept n)) k = sym (ap fetched (found (shared_area t) (shared_good t h) n (k n refl)))
+  reply_said (Some Mirrored) k = refl

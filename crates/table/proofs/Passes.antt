@@ -2,10 +2,15 @@
 use mathlib.Core.Path.{◌≡◌, refl, sym, ap, ◌∙◌}
 use Prim.Native.Nat.{ℕ, ◌+◌, ◌≤◌, ◌<◌}
 use native.Mathlib.Omega.{arith}
-use mathlib.Core.Bool.{true, false, cond}
+use borrow.Author.Tests.{eqb-false}
+use mathlib.Core.Bool.{Bool, true, false, cond}
+use Rattle.std.specs.Prelude.{Option, Some, None, IfSome}
+use Rattle.std.proofs.lemmas.Option.{IfSome_then}
 use mathlib.Core.List.{List, [], ◌∷◌}
 use lib.ListN.{length}
 use Rattle.model.specs.Sharing.{Shared}
+use Rattle.model.specs.Named.{place_of}
+use Rattle.model.specs.declared.Kind.{Kind}
 use Rattle.model.specs.Kinds.{kinds, tightenings, kind_at, copy_most, copies_most}
 use Rattle.model.specs.Records.{settings_of}
 use Rattle.model.specs.Limits.{session_count}
@@ -19,26 +24,25 @@ use Rattle.frame.specs.Places.{event_in, notice_in}
 use Rattle.frame.specs.declared.To.{To}
 use Rattle.frame.specs.declared.Asked.{Asked}
 use Rattle.session.specs.Effects.{out_bytes}
-use Rattle.places.specs.Places.{place_count, place_in}
+use Rattle.places.specs.Places.{place_in}
 use Rattle.session.specs.declared.Take.{Take}
-use Rattle.lane.specs.Lane.{Reading}
+use Rattle.session.specs.Meaning.{is_taken}
+use Rattle.lane.specs.Kinds.{is_placed}
+use Rattle.lane.specs.Lane.{Reading, is_told}
 use Rattle.shared.specs.Shared.{settings_part}
 use Rattle.region.specs.Region.{session_of, subscription_in, places_held, Good}
 use Rattle.region.specs.Said.{copies_out, Ticks, tick_said, Takes, event_said}
-use Rattle.region.specs.declared.Ticked.{Ticked}
 use Rattle.table.specs.Table.{shared_area, region_in, reading_in, decode, settings_in, Becomes, Went}
 use Rattle.table.specs.Says.{Lent, DueLent, asked_in}
-use Rattle.table.specs.Passes.{Last, AskedLent, Copies, Stands, Adds, no_more, kept_by, KeepLent, Keeps, EventLent, TellsOne}
+use Rattle.table.specs.Passes.{Last, AskedLent, Copies, Stands, no_more, AddsIf, held_by, KeepLent, Keeps, EventLent, TellsOne}
 use Rattle.table.specs.declared.Copied.{Copied}
-use Rattle.table.specs.declared.Took.{Took}
 use Rattle.table.specs.declared.Next.{Next}
-use Rattle.table.specs.declared.Kept.{Kept}
 use Rattle.table.proofs.Regions.{part, put, part_in, part_is, put_in, put_means, put_settings, put_same_to_all, put_places}
 use Rattle.table.proofs.Regions.{put_reading, put_other, so_many_sessions}
 use Rattle.table.proofs.Alone.{went_one, went_alone, became_alone, stayed_alone, by_settings}
 use Rattle.table.proofs.Events.{becomes_then}
 use Rattle.table.proofs.Says.{copy_said}
-use Rattle.table.proofs.Again.{copied_so, last_now}
+use Rattle.table.proofs.Again.{last_now}
 
 -- ==== the region of a session has become r, and what that leaves to say was written
 
@@ -64,20 +68,19 @@ module _ {t o : List ℕ} {to : To} {most : ℕ} (l : Lent t o to most) {r : Lis
 
 -- ==== a tick
 
-module _ {t o : List ℕ} {to : To} (l : Lent t o to (copies_most kinds)) {ticked : Ticked} {r : List ℕ}
-    (w : Ticks (reading_in t) (part t to.session) ticked r) where
-  pub due_lent : DueLent (put t to.session r) o to ticked.due
-  due_lent = record {
+module _ {t o : List ℕ} {to : To} (l : Lent t o to (copies_most kinds)) {r : List ℕ} where
+  pub due_lent : {due : List Bool} → Ticks (reading_in t) (part t to.session) (Some due) r → DueLent (put t to.session r) o to due
+  due_lent w = record {
     lent = still_lent l w.good;
     ready = rw (there l w.good, put_reading t to.session r l.table.size l.session w.good.size) w.ready;
   }
 
-  pub tick_passed : {next : ℕ} {o' : List ℕ}
-      → Put o to.at (out_bytes to.session (tick_said (reading_in (put t to.session r)) (settings_in (put t to.session r)) ticked
+  pub tick_passed : {left : Option (List Bool)} {next : ℕ} {o' : List ℕ} → Ticks (reading_in t) (part t to.session) left r
+      → Put o to.at (out_bytes to.session (tick_said (reading_in (put t to.session r)) (settings_in (put t to.session r)) left
       (region_in to.session (put t to.session r)))) next o'
       → Went t o to.at (to_one to.session tick ∷ []) next (put t to.session r) o'
   unfolding decode
-  tick_passed = passed l w.good tick (λ read g z. tick_said read g.settings ticked z) (w.steps (decode t).shared)
+  tick_passed {left = left} w = passed l w.good tick (λ read g z. tick_said read g.settings left z) (w.steps (decode t).shared)
 
 -- ==== an event
 
@@ -103,8 +106,8 @@ module _ {t : List ℕ} {s kind : ℕ} {p t₁ r : List ℕ} {take : Take} (few 
   sees : session_at (decode t) s ≡ session_of (reading_in t₁) (part t₁ s)
   sees = ap (λ (v : World). session_at v s) (sym b.meaning) ∙ part_is t₁ s few
 
-  pub kept_so : {before place : ℕ} → (kind ≡ tightenings → Stands t₁ p place) → (before < place_count → place ≡ before)
-      → (kind ≡ tightenings → Adds (places_held (part t₁ s)) place (places_held r)) → Keeps t s kind p before (kept_by take place) t₂
+  pub kept_so : {before place : Option ℕ} → (kind ≡ tightenings → IfSome place (Stands t₁ p)) → IfSome before (λ q. place ≡ Some q)
+      → (kind ≡ tightenings → AddsIf (places_held (part t₁ s)) place (places_held r)) → Keeps t s kind p before take t₂ place
   kept_so {place = place} stands still adds = record {
     becomes = becomes_then (λ (v : World). uncounted (next v (to_one s (event (event_in kind p))))) b
         (became_alone t₁ s (event (event_in kind p)) b.table few r w.good
@@ -121,17 +124,32 @@ module _ {t : List ℕ} {s kind : ℕ} {p t₁ r : List ℕ} {take : Take} (few 
           ← ap (λ (a : List ℕ). settings_of (settings_part a)) same,
         )
         (ap (λ (z : Session × List Emission). z.1) steps_so);
-    stands = λ e h. ap (place_in place) (put_places t₁ s r b.table.size few w.good.size) ∙ stands e h;
+    stands = λ e. IfSome_then place (stands e) (λ q there. record {
+      there = there.there;
+      bytes = ap (place_in q) (put_places t₁ s r b.table.size few w.good.size) ∙ there.bytes;
+    });
     same = still;
     adds = λ e. rw (there_now, ← regions s few, ← part_in t₁ s) (adds e);
     others = λ j k ne. ap places_held (put_other t₁ s r b.table.size few w.good.size j k ne ∙ regions j k);
   }
 
+same_place : (place : Option ℕ) → IfSome place (λ q. place ≡ Some q)
+same_place None = tt
+same_place (Some q) = refl
+
+-- no place is told: it is held in the region itself
+pub kept_there : {t : List ℕ} {s kind : ℕ} {p r : List ℕ} {take : Take} {place : Option ℕ} → KeepLent t s kind p place
+    → is_placed kind ≡ false → Takes (reading_in t) kind p (part t s) take r
+    → Keeps t s kind p place take (put t s r) place
+kept_there {kind = kind} {place = place} k e w =
+    kept_so k.session (record { table = k.table; size = refl; past = refl; meaning = refl }) refl (λ j few. refl) w k.stands
+    (same_place place) (λ q. absurd (eqb-false kind tightenings e q))
+
 -- it is not held: the table is as it was
-pub kept_not : {t : List ℕ} {s kind : ℕ} {p : List ℕ} {take : Take} {place : ℕ} → KeepLent t s kind p place
+pub kept_not : {t : List ℕ} {s kind : ℕ} {p : List ℕ} {take : Take} {place : Option ℕ} → KeepLent t s kind p place
     → Takes (reading_in t) kind p (part t s) take (part t s)
-    → Keeps t s kind p place (kept_by take place) t
-kept_not {t} {s} {kind} {p} {take} k w =
+    → Keeps t s kind p place take t place
+kept_not {t} {s} {kind} {p} {take} {place} k w =
     let steps : step (decode t).shared (event (event_in kind p)) (session_of (reading_in t) (part t s))
     ≡ (session_of (reading_in t) (part t s), event_said (reading_in t) (settings_in t) kind p take (part t s)) =
     by_settings t (event_in kind p) (session_of (reading_in t) (part t s)) ∙ w.steps (settings_in t) in
@@ -143,39 +161,41 @@ kept_not {t} {s} {kind} {p} {take} k w =
       ready = λ q. rw (← part_in t s) (w.ready q);
       says = rw (part_is t s k.session, ← part_in t s) (ap (λ (z : Session × List Emission). z.1) steps);
       stands = k.stands;
-      same = λ h. refl;
-      adds = λ e. no_more;
+      same = same_place place;
+      adds = λ e. none_more place (held_by s t);
       others = λ j h ne. refl;
     }
+  where
+    none_more : (place : Option ℕ) (held : List ℕ) → AddsIf held place held
+    none_more None held = refl
+    none_more (Some q) held = no_more
 
-module _ {t o : List ℕ} {n : Next} {kind : ℕ} {p : List ℕ} (e : EventLent t o n kind p) {k : Kept} {t₁ : List ℕ}
-    (w : Keeps t n.to.session kind p n.place k t₁) where
+module _ (k : Kind) {t o : List ℕ} {n : Next} {p : List ℕ} (e : EventLent t o n (place_of k) p) {take : Take} {t₁ : List ℕ}
+    {place : Option ℕ} (w : Keeps t n.to.session (place_of k) p n.place take t₁ place) where
+  abbrev kind : ℕ
+  kind = place_of k
+
   -- what was written last is so by the settings, which are as they were
-  last_still : Last (settings_in t₁) kind p n.copied n.to.at o
+  last_still : IfSome n.copied (Last (settings_in t₁) kind p n.to.at o)
   last_still = rw w.settings e.last
 
   pub keeps_lent : Lent t₁ o n.to (copy_most (kind_at kind))
   keeps_lent = record { table = w.becomes.table; session = e.lent.session; room = e.lent.room }
 
-  pub asked_lent : {asked : Asked} → asked ≡ asked_in kind (region_in n.to.session t₁) → AskedLent t₁ o n.to asked p n.copied
-  asked_lent q = rw q (record { known = e.known; lent = keeps_lent; place = e.notice; last = last_still })
+  pub asked_lent : {asked : Asked} → asked ≡ asked_in k (region_in n.to.session t₁)
+      → AskedLent t₁ o (record { to = n.to; copied = n.copied; place = place }) asked p
+  asked_lent q = rw q (record { lent = keeps_lent; place = e.notice; last = last_still })
 
-  -- what it tells, where it came to next and that copy is the last
-  abbrev took : ℕ → Copied → Took
-  took next c' = record {
-    at = next;
-    taken = k.taken;
-    from = c'.from;
-    revision = c'.revision;
-    no_acknowledge = c'.no_acknowledge;
-    place = k.place;
-  }
-
-  told_one : {next : ℕ} {o' : List ℕ} (c' : Copied) → next ≤ n.to.at + copy_most (kind_at kind)
-      → Put o n.to.at (out_bytes n.to.session (cond k.tell (copies_out (settings_in t) kind
-      (subscription_in (reading_in t₁) kind (region_in n.to.session t₁)) (notice_in kind p ∷ [])) [])) next o'
-      → Last (settings_in t₁) kind p c' next o' → TellsOne t o n kind p (took next c') t₁ o'
-  told_one c' within v last =
+  told_one : {at : ℕ} {o' : List ℕ} {copied : Option Copied} → at ≤ n.to.at + copy_most (kind_at kind)
+      → Put o n.to.at (out_bytes n.to.session (cond (is_told take) (copies_out (settings_in t) kind
+      (subscription_in (reading_in t₁) kind (region_in n.to.session t₁)) (notice_in kind p ∷ [])) [])) at o'
+      → IfSome copied (Last (settings_in t₁) kind p at o')
+      → TellsOne t o n kind p (is_taken take) t₁ o' (record {
+        to = record { session = n.to.session; at = at };
+        copied = copied;
+        place = place;
+      })
+  told_one within v last =
       let few : n.to.session < length (decode t).sessions = rw (so_many_sessions t) e.lent.session in
       record {
         within = within;
@@ -190,14 +210,20 @@ module _ {t o : List ℕ} {n : Next} {kind : ℕ} {p : List ℕ} (e : EventLent 
       }
 
   -- nothing went out: what was written last still is
-  pub told_nothing : k.tell ≡ false → TellsOne t o n kind p (took n.to.at n.copied) t₁ o
-  told_nothing b = told_one n.copied (omega arith) (rw b (put_nothing o n.to.at)) last_still
+  pub told_nothing : is_told take ≡ false
+      → TellsOne t o n kind p (is_taken take) t₁ o (record { to = n.to; copied = n.copied; place = place })
+  told_nothing b = told_one (omega arith) (rw b (put_nothing o n.to.at)) last_still
 
   -- a copy went out: it is the last
-  pub told_copy : {next : ℕ} {o' : List ℕ} {asked : Asked} → k.tell ≡ true → asked ≡ asked_in kind (region_in n.to.session t₁)
-      → Copies (settings_in t₁) asked p n.to o next o' → TellsOne t o n kind p (took next (copied_so n.to.at asked)) t₁ o'
+  pub told_copy : {at : ℕ} {o' : List ℕ} {asked : Asked} → is_told take ≡ true → asked ≡ asked_in k (region_in n.to.session t₁)
+      → Copies (settings_in t₁) asked p n.to o at o'
+      → TellsOne t o n kind p (is_taken take) t₁ o' (record {
+        to = record { session = n.to.session; at = at };
+        copied = Some (record { from = n.to.at; asked = asked });
+        place = place;
+      })
   told_copy b q v =
       let u = rw q at v in
-      rw q (told_one (copied_so n.to.at (asked_in kind (region_in n.to.session t₁))) u.within
-      (rw (b, ← w.settings) (put_as (copy_said (reading_in t₁) (settings_in t₁) n.to.session kind (region_in n.to.session t₁) p
+      rw q (told_one u.within
+      (rw (b, ← w.settings) (put_as (copy_said (reading_in t₁) (settings_in t₁) n.to.session k (region_in n.to.session t₁) p
       (w.ready b)) u.bytes)) (last_now e.lent.room u))

@@ -3,7 +3,8 @@ use mathlib.Core.Path.{◌≡◌, refl, sym, ap, subst, ◌∙◌, fun_ext}
 use Prim.Native.Nat.{ℕ, ◌+◌, ◌*◌, ◌≤◌, ◌<◌}
 use native.Mathlib.Omega.{arith}
 use mathlib.Core.Bool.{Bool, true, false, cond}
-use mathlib.Core.List.{List, [], ◌∷◌, ◌++◌}
+use Rattle.std.specs.Prelude.{Option, Some, None, IfSome}
+use mathlib.Core.List.{List, []}
 use lib.ListN.{length, get_or, drop, replicate, drop_of_length-le}
 use lib.Dec.{eqb}
 use borrow.Author.Tests.{ne_eqb, eqb-true, eqb-false}
@@ -15,13 +16,12 @@ use Rattle.places.specs.Places.{place_count, places_size, place_in, Putting, Put
 use Rattle.places.specs.Free.{lacks, is_free, marked, marked_by_all, first_free}
 use Rattle.places.proofs.Marks.{Fewer, free_there}
 use Rattle.lane.specs.Kinds.{most}
-use Rattle.region.specs.Region.{region_size, region_formed, session_of, places_held, Good}
+use Rattle.region.specs.Region.{region_size, region_formed, session_of, places_held}
 use Rattle.region.proofs.Places.{Agree, areas_alike, same_session, holds_few}
 use Rattle.table.specs.Table.{places_area, region_at, region_in, regions, reading, reading_in, decode, Table}
-use Rattle.table.specs.Passes.{Stands, Adds, no_more, one_more, held_by, Roomy, StandLent, Stood, TellsOne, OneCopy, Notes}
+use Rattle.table.specs.Passes.{Stands, Adds, no_more, AddsIf, held_by, Roomy, StandLent, Stood, TellsOne, OneCopy, Notes}
 use Rattle.table.specs.declared.Next.{Next}
-use Rattle.table.specs.declared.Took.{Took}
-use Rattle.table.proofs.Regions.{part_in, part_good, length_regions, region_read, formed_parts, becomes_of, holds_as_before}
+use Rattle.table.proofs.Regions.{part_in, region_good, length_regions, region_read, formed_parts, becomes_of, holds_as_before}
 use Rattle.table.proofs.Regions.{length_places, middle, middle_size, middle_past, middle_shared, middle_places, middle_region}
 use Rattle.table.proofs.Regions.{middle_regions}
 
@@ -30,9 +30,6 @@ abbrev pub each_holds : List ℕ → List (List ℕ)
 each_holds t = regions places_held t
 
 module _ (t : List ℕ) (h : Table t) where
-  good_in : (s : ℕ) → s < session_count → Good (region_in s t)
-  good_in s few = subst Good (part_in t s) (part_good t s h few)
-
   holds_at : (s : ℕ) → s < session_count → get_or (each_holds t) s [] ≡ places_held (region_in s t)
   holds_at s few = region_read places_held t s [] few ∙ ap places_held (part_in t s)
 
@@ -42,7 +39,7 @@ module _ (t : List ℕ) (h : Table t) where
       let n = length_regions places_held t in
       record {
         most_each = λ i few. let k : i < session_count = omega arith in
-            rw (holds_at i k) (holds_few (region_in i t) (good_in i k));
+            rw (holds_at i k) (holds_few (region_in i t) (region_good t i h k));
         session = rw n room.there;
         fewer = rw (holds_at room.session room.there) room.fewer;
       }
@@ -89,12 +86,11 @@ module _ (t : List ℕ) (h : Table t) where
     none_holds s k =
         ap (lacks q) (sym (holds_at s k)) ∙ all_at (lacks q) (each_holds t) s [] free (rw (length_regions places_held t) k)
 
-    pub put_there : {place : ℕ} → place_count ≤ place → Stood t p place q (middle t a)
+    pub put_there : Stood t p None q (middle t a)
     unfolding decode
-    put_there none = record {
-      there = few;
-      same = λ some. absurd (omega arith);
-      stands = ap (place_in q) (middle_places t a h.size long) ∙ w.there;
+    put_there = record {
+      same = tt;
+      stands = record { there = few; bytes = ap (place_in q) (middle_places t a h.size long) ∙ w.there };
       becomes = becomes_of h.size (middle_size t a h.size long) (middle_past t a h.size long)
           (holds_as_before t (middle t a) h (middle_shared t a h.size long))
           (rw (middle_regions t a h.size long region_formed) (formed_parts t h).1)
@@ -102,62 +98,68 @@ module _ (t : List ℕ) (h : Table t) where
           ∙ middle_regions t a h.size long (session_of (reading a))
           ∙ areas_alike (λ (s : ℕ). session_of (reading a)) (λ (s : ℕ). session_of (reading_in t)) region_at (λ (s : ℕ). region_size) t 0
           session_count (λ j k. let b : j < session_count = omega arith in
-          same_session q (reading a) (reading_in t) agree (region_in j t) (good_in j b) (none_holds j b)));
+          same_session q (reading a) (reading_in t) agree (region_in j t) (region_good t j h b) (none_holds j b)));
       shared = middle_shared t a h.size long;
       regions = λ s k. middle_region t a h.size long s;
     }
 
   -- it stands in one already
-  pub stands_there : {p : List ℕ} {q : ℕ} → q < place_count → Stands t p q → Stood t p q q t
-  stands_there few s = record {
-    there = few;
-    same = λ some. refl;
-    stands = s few;
+  pub stands_there : {p : List ℕ} {q : ℕ} → Stands t p q → Stood t p (Some q) q t
+  stands_there s = record {
+    same = refl;
+    stands = s;
     becomes = record { table = h; size = refl; past = refl; meaning = refl };
     shared = refl;
     regions = λ s k. refl;
   }
 
-pub putting : {t p : List ℕ} {place q : ℕ} → StandLent t p place → q < place_count → Putting q p (places_area t)
+pub putting : {t p : List ℕ} {place : Option ℕ} {q : ℕ} → StandLent t p place → q < place_count → Putting q p (places_area t)
 putting {t} k few = record { size = length_places t k.table.size; place = few; whole = k.result }
 
 -- ==== one copy, session by session
 
-adds_still : {held : List ℕ} {place q : ℕ} {after : List ℕ} → (place < place_count → q ≡ place) → Adds held place after → Adds held q after
-adds_still same no_more = no_more
-adds_still {held} {place} {q} same (one_more few) =
-    subst (λ (z : ℕ). Adds held q (held ++ (z ∷ []))) (same few) (one_more (rw (same few) few))
+adds_still : (held : List ℕ) (place q : Option ℕ) (after : List ℕ) → IfSome place (λ before. q ≡ Some before) → AddsIf held place after
+    → AddsIf held q after
+adds_still held None None after same adds = adds
+adds_still held None (Some q) after same adds = subst (Adds held q) (sym adds) no_more
+adds_still held (Some place) q after same adds = subst (λ (z : Option ℕ). AddsIf held z after) (sym same) adds
 
 module _ (kind : ℕ) (t₀ : List ℕ) where
   -- those before s have had their turn, and those from s on hold what they held
-  pub record Copying (t : List ℕ) (place s : ℕ) : Type 0 where
-    pub before : kind ≡ tightenings → (j : ℕ) → j < s → Adds (held_by j t₀) place (held_by j t)
+  pub record Copying (t : List ℕ) (place : Option ℕ) (s : ℕ) : Type 0 where
+    pub before : kind ≡ tightenings → (j : ℕ) → j < s → AddsIf (held_by j t₀) place (held_by j t)
     pub from : (j : ℕ) → s ≤ j → j < session_count → held_by j t ≡ held_by j t₀
 
-  pub copying_none : (place : ℕ) → Copying t₀ place 0
+  pub copying_none : (place : Option ℕ) → Copying t₀ place 0
   copying_none place = record { before = λ e j h. absurd (omega arith); from = λ j h k. refl }
 
-  pub copying_next : {t o t₁ o₁ : List ℕ} {n : Next} {p : List ℕ} {r : Took} → n.to.session < session_count
-      → Copying t n.place n.to.session → TellsOne t o n kind p r t₁ o₁ → Copying t₁ r.place (n.to.session + 1)
-  copying_next {t} {t₁ = t₁} {n = n} {r = r} few w v = record {
+  pub copying_next : {t o t₁ o₁ : List ℕ} {n n₁ : Next} {p : List ℕ} {taken : Bool} → n.to.session < session_count
+      → Copying t n.place n.to.session → TellsOne t o n kind p taken t₁ o₁ n₁ → Copying t₁ n₁.place (n.to.session + 1)
+  copying_next {t} {t₁ = t₁} {n = n} {n₁} few w v = record {
     before = λ e j h. turn e j h (eqb j n.to.session) refl;
     from = λ j h k. v.others j k (λ z. omega arith) ∙ w.from j (omega arith) k;
   }
     where
       turn : kind ≡ tightenings → (j : ℕ) → j < n.to.session + 1 → (b : Bool) → eqb j n.to.session ≡ b
-          → Adds (held_by j t₀) r.place (held_by j t₁)
+          → AddsIf (held_by j t₀) n₁.place (held_by j t₁)
       turn e j h true q =
           let z = eqb-true j n.to.session q in
-          subst (λ (i : ℕ). Adds (held_by i t₀) r.place (held_by i t₁)) (sym z)
-          (subst (λ (ps : List ℕ). Adds ps r.place (held_by n.to.session t₁)) (w.from n.to.session (omega arith) few)
+          subst (λ (i : ℕ). AddsIf (held_by i t₀) n₁.place (held_by i t₁)) (sym z)
+          (subst (λ (ps : List ℕ). AddsIf ps n₁.place (held_by n.to.session t₁)) (w.from n.to.session (omega arith) few)
           (v.adds e))
       turn e j h false q =
           let ne = eqb-false j n.to.session q in
           let less : j < n.to.session = omega (arith, ne) in
-          subst (Adds (held_by j t₀) r.place) (sym (v.others j (omega arith) ne)) (adds_still v.same (w.before e j less))
+          subst (AddsIf (held_by j t₀) n₁.place) (sym (v.others j (omega arith) ne))
+          (adds_still (held_by j t₀) n.place n₁.place (held_by j t) v.same (w.before e j less))
 
-  pub copied_all : {t : List ℕ} {place s : ℕ} → session_count ≤ s → Copying t place s → OneCopy kind t₀ t
-  copied_all {place = place} h w = record { place = place; each = λ e j k. w.before e j (omega arith) }
+  -- where the result stands in no place, it is in none that a session came to hold
+  pub copied_all : {t : List ℕ} (place : Option ℕ) {s : ℕ} → session_count ≤ s → Copying t place s → OneCopy kind t₀ t
+  copied_all None h w = record {
+    place = 0;
+    each = λ e j k. subst (Adds (held_by j t₀) 0) (sym (w.before e j (omega arith))) no_more;
+  }
+  copied_all (Some place) h w = record { place = place; each = λ e j k. w.before e j (omega arith) }
 
   -- and behind what is left to all
   pub copied_then : {t t₁ p : List ℕ} → OneCopy kind t₀ t → Notes t kind p t₁ → OneCopy kind t₀ t₁

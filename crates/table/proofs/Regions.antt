@@ -104,6 +104,9 @@ part_good t s h b = record {
       ∙ passes (λ (s : ℕ). region_formed) region_at (λ (s : ℕ). region_size) session_count t (formed_parts t h).1 s b;
 }
 
+pub region_good : (t : List ℕ) (s : ℕ) → Table t → s < session_count → Good (region_in s t)
+region_good t s h few = subst Good (part_in t s) (part_good t s h few)
+
 -- the parts of what is shared are as long as they are to be
 pub length_settings : (a : List ℕ) → length a ≡ shared_size → length (settings_part a) ≡ settings_length
 unfolding settings_part

@@ -1,7 +1,9 @@
 -- What is said of a table, and what is lent for it: first the table has changed, and then it is lent beside the output.
 -- 01, "Frames we write" and "Notices and the clock".
-use Rattle.std.specs.Prelude.{◌≡◌, ℕ, ◌+◌, ◌≤◌, ◌<◌, Bool, true, List, length}
+use Rattle.std.specs.Prelude.{◌≡◌, ℕ, ◌+◌, ◌≤◌, ◌<◌, Bool, true, List, length, Option, Some, None}
 use Rattle.model.specs.Limits.{session_count, header_length}
+use Rattle.model.specs.Named.{place_of}
+use Rattle.model.specs.declared.Kind.{Kind}
 use Rattle.model.specs.Kinds.{kinds, kind_at, copy_most, copies_most, session_most}
 use Rattle.model.specs.Memory.{numbered, is_there}
 use Rattle.model.specs.Notices.{Subscription, is_subscribed}
@@ -13,10 +15,10 @@ use Rattle.frame.specs.declared.Asked.{Asked}
 use Rattle.lane.specs.Lane.{is_plain, control_of, open_one, any}
 use Rattle.session.specs.Effects.{out_bytes}
 use Rattle.session.specs.declared.Reply.{Reply}
-use Rattle.session.specs.declared.Reply.TheVariants.{Nothing, Started, Accepted, Error, Kept, Mirrored}
+use Rattle.session.specs.declared.Reply.TheVariants.{Started, Accepted, Error, Kept, Mirrored}
 use Rattle.shared.specs.Memory.{payload_kept}
 use Rattle.region.specs.Region.{lane_in, subscriptions_in, subscription_in}
-use Rattle.region.specs.Said.{Ready, AllReady, ended_in}
+use Rattle.region.specs.Said.{AllReady, IsReady, ended_in}
 use Rattle.region.specs.declared.Ended.{Ended}
 use Rattle.table.specs.Table.{region_in, reading_in, decode, Table}
 
@@ -28,20 +30,15 @@ abbrev pub subscriptions_to : To → List ℕ → List Subscription
 subscriptions_to to t = subscriptions_in (reading_in t) (region_in to.session t)
 
 -- how a session asked for notices of a kind, by its region
-abbrev pub asked_in : ℕ → List ℕ → Asked
+abbrev pub asked_in : Kind → List ℕ → Asked
 asked_in kind r =
-    let x = control_of (lane_in kind r) in
+    let x = control_of (lane_in (place_of kind) r) in
     record { kind = kind; revision = x.revision; no_acknowledge = is_plain x.form }
 
--- a table, one of its sessions, and a kind of notice
-pub record Asking (t : List ℕ) (s kind : ℕ) : Type 0 where
+-- a table, one of its sessions, and that session has a notice of that kind open
+pub record Opened (t : List ℕ) (s kind : ℕ) : Type 0 where
   pub table : Table t
   pub session : s < session_count
-  pub known : kind < length kinds
-
--- and that session has a notice of that kind open
-pub record Opened (t : List ℕ) (s kind : ℕ) : Type 0 where
-  pub asking : Asking t s kind
   pub one : any (open_one (subscription_in (reading_in t) kind (region_in s t))) ≡ true
 
 -- a table, one of its sessions, and room for so many bytes
@@ -57,16 +54,14 @@ pub record Wrote (most : ℕ) (es : List Emission) (to : To) (o : List ℕ) (nex
 
 -- for a copy of a notice
 pub record CopyLent (t o : List ℕ) (to : To) (kind : ℕ) (p : List ℕ) : Type 0 where
-  pub known : kind < length kinds
   pub lent : Lent t o to (copy_most (kind_at kind))
   pub place : length p ≡ place_size kind
   pub subscribed : is_subscribed (subscription_to to kind t) ≡ true
 
--- for a copy of the open notice of a kind, where one is due
-pub record OpenLent (t o : List ℕ) (to : To) (kind : ℕ) (due : Bool) : Type 0 where
-  pub known : kind < length kinds
+-- for a copy of the open notice of a kind, of which one is due
+pub record OpenLent (t o : List ℕ) (to : To) (kind : ℕ) : Type 0 where
   pub lent : Lent t o to (copy_most (kind_at kind))
-  pub ready : Ready due (subscription_to to kind t)
+  pub one : any (open_one (subscription_to to kind t)) ≡ true
 
 -- for copies of the kinds of which one is due
 pub record DueLent (t o : List ℕ) (to : To) (due : List Bool) : Type 0 where
@@ -74,18 +69,17 @@ pub record DueLent (t o : List ℕ) (to : To) (due : List Bool) : Type 0 where
   pub ready : AllReady due (subscriptions_to to t)
 
 -- what a reply tells besides the settings: of a tightening that is kept its payload, out of what all share; of a 9999 the run
-abbrev pub told_by : List ℕ → List ℕ → Reply → List ℕ
-told_by a run Nothing = run
-told_by a run Started = run
-told_by a run (Accepted mid) = run
-told_by a run (Error mid code) = run
-told_by a run (Kept number) = payload_kept number a
-told_by a run Mirrored = run
+abbrev pub told_by : List ℕ → List ℕ → Option Reply → List ℕ
+told_by a run None = run
+told_by a run (Some Started) = run
+told_by a run (Some (Accepted mid)) = run
+told_by a run (Some (Error mid code)) = run
+told_by a run (Some (Kept number)) = payload_kept number a
+told_by a run (Some Mirrored) = run
 
 -- for what the end of a run leaves to say, the bytes of the run and the tightening that is told of among it
 pub record EndLent (t o : List ℕ) (to : To) (bs : List ℕ) (e : Ended) : Type 0 where
   pub lent : Lent t o to session_most
-  pub known : e.kind < length kinds
-  pub ready : Ready e.sends (subscription_to to e.kind t)
-  pub whole : e.reply ≡ Mirrored → header_length ≤ length (ended_in e.whole bs (region_in to.session t))
-  pub kept : (number : ℕ) → e.reply ≡ Kept number → is_there (numbered number (decode t).shared.kept) ≡ true
+  pub ready : IsReady (reading_in t) e.due (region_in to.session t)
+  pub whole : e.reply ≡ Some Mirrored → header_length ≤ length (ended_in e.whole bs (region_in to.session t))
+  pub kept : (number : ℕ) → e.reply ≡ Some (Kept number) → is_there (numbered number (decode t).shared.kept) ≡ true

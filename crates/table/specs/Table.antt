@@ -1,6 +1,7 @@
 -- The lent table: what all sessions share, the places of the results that wait, and a region for each session. 01, "What the product
 -- holds"; 02, P2 and P7; docs/TABLE.md has the map.
 use Rattle.std.specs.Prelude.{◌≡◌, ℕ, ◌+◌, ◌*◌, ◌≤◌, ◌<◌, Bool, true, cond, ◌&&◌, List, length, get_or, take, drop}
+use Rattle.std.specs.declared.ops.Range.{Range}
 use Rattle.model.specs.Limits.{session_count, table_least}
 use Rattle.model.specs.Bytes.{all}
 use Rattle.model.specs.Records.{Settings, settings_of}
@@ -30,6 +31,10 @@ places_area t = take places_size (drop shared_size t)
 -- where the region of a session begins
 abbrev pub region_at : ℕ → ℕ
 region_at s = shared_size + places_size + s * region_size
+
+-- and where it is
+abbrev pub region_range : ℕ → Range ℕ
+region_range s = record { start = region_at s; end = region_at s + region_size }
 
 abbrev pub region_in : ℕ → List ℕ → List ℕ
 region_in s t = take region_size (drop (region_at s) t)

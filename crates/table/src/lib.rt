@@ -2,6 +2,7 @@
 #![tactic(auto)]
 
 ghost use Rattle.std.specs.Prelude.{◌≡◌, true, cond, [], ◌∷◌, suc, ◌+◌, ◌≤◌, ◌<◌, length};
+ghost use Rattle.model.specs.Named.{place_of};
 ghost use Rattle.model.specs.Limits.{session_count, table_least, identifier_length, number_greatest};
 ghost use Rattle.model.specs.Records.{settings_of, settings_length};
 ghost use Rattle.model.specs.Kinds.{kinds, tightenings, kind_at, copy_most, copies_most, session_most, event_most, receive_most, tick_most};
@@ -13,24 +14,25 @@ ghost use Rattle.frame.specs.Places.{notice_in};
 ghost use Rattle.run.specs.Area.{Ends};
 ghost use Rattle.places.specs.Places.{place_count};
 ghost use Rattle.places.specs.Free.{is_free};
-ghost use Rattle.lane.specs.Lane.{is_plain as is_plain_so, first_in};
-ghost use Rattle.region.specs.Region.{lane_in, places_held};
+ghost use Rattle.lane.specs.Lane.{first_in};
+ghost use Rattle.region.specs.Region.{region_size, lane_in, places_held};
 ghost use Rattle.region.specs.Said.{copies_out, due_copy, due_copies, ending, Shows, end_said};
 ghost use Rattle.shared.specs.Shared.{settings_part};
 ghost use Rattle.table.specs.Table.{shared_area, places_area, region_in, regions, kept_in, reading_in, decode, settings_in};
 ghost use Rattle.table.specs.Table.{table_formed, Table, Openable, Becomes};
-ghost use Rattle.table.specs.Table.{WentUpTo};
+ghost use Rattle.table.specs.Table.{WentUpTo, region_range};
 ghost use Rattle.table.specs.Says.{Lent, Wrote, CopyLent, OpenLent, DueLent, EndLent, subscription_to, subscriptions_to};
-ghost use Rattle.table.specs.Says.{Asking, Opened, asked_in, told_by as told_so};
-ghost use Rattle.table.specs.Passes.{EventTo, Repeats, AskedLent, Copies, EventLent, TellsOne, Tells, Happens, Hears, unended};
-ghost use Rattle.table.specs.Passes.{Roomy, StandLent, Stood, PlacedLent, kept_by, KeepLent, Keeps, Notes};
+ghost use Rattle.table.specs.Says.{Opened, asked_in, told_by as told_so};
+ghost use Rattle.table.specs.Passes.{EventTo, AskedLent, Copies, EventLent, TellsOne, Tells, Happens, unended};
+ghost use Rattle.table.specs.Passes.{Roomy, StandLent, Stood, PlacedLent, KeepLent, Keeps, Notes};
 ghost use Rattle.table.specs.Passes.{Received};
 
 use frame::{Asked, To};
 use message::Common;
-use model::{ALARMS, IDENTIFIER_LENGTH, IDENTIFIERS, KIND_COUNT, SESSION_COUNT, TIGHTENINGS};
+use model::{KIND_COUNT, KINDS, Kind, SESSION_COUNT};
 use region::Ended;
-use session::{Form, Reply, Taken};
+use session::{Form, Reply, Take, Taken};
+use std::ops::Range;
 
 // Where the places begin.
 const SHARED: usize = shared::SIZE;
@@ -40,16 +42,25 @@ const REGIONS: usize = shared::SIZE + places::SIZE;
 
 const SIZE: usize = region::SIZE;
 
-// ---- reading
+// Where the region of session s is.
+fn range_of(s: u64) -> Range<usize>
+    requires { s < session_count }
+    ensures { result ≡ region_range s }
+{
+    let at = REGIONS + s as usize * SIZE;
+    at..at + SIZE
+}
 
 // The region of session s, as it stands.
 fn region_of(table: &[u8], s: u64) -> &[u8]
     requires { (table_least ≤ length table.now) × (s < session_count) }
-    ensures { result.now ≡ region_in s table.now }
+    ensures bytes { result.now ≡ region_in s table.now }
+    ensures size { length result.now ≡ region_size }
 {
-    let a = REGIONS + s as usize * SIZE;
-    &table[a..a + SIZE]
+    &table[range_of(s)]
 }
+
+// ---- reading
 
 pub fn is_formed(table: &[u8]) -> bool
     requires { table_least ≤ length table.now }
@@ -58,17 +69,16 @@ pub fn is_formed(table: &[u8]) -> bool
     if !shared::is_formed(&table[0..SHARED]) {
         return false;
     }
-    let mut s: u64 = 0;
-    while s < SESSION_COUNT {
+    for s in 0..SESSION_COUNT {
         if !region::is_formed(region_of(table, s)) {
             return false;
         }
-        s += 1;
     }
     true
 }
 
 // Whether session s is closed.
+#[tactic(auto, using(crate::proofs::Regions::part_is, crate::proofs::Regions::region_good, crate::proofs::Regions::part_in))]
 pub fn is_closed(table: &[u8], s: u64) -> bool
     requires { Table table.now × (s < session_count) }
     ensures { result ≡ is_closed_session (session_at (decode table.now) s) }
@@ -77,6 +87,7 @@ pub fn is_closed(table: &[u8], s: u64) -> bool
 }
 
 // The last tightening number.
+#[tactic(auto, unfolding(crate::specs::Table::decode))]
 pub fn last(table: &[u8]) -> u64
     requires { Table table.now }
     ensures { (result ≡ (decode table.now).shared.last) × (result < suc number_greatest) }
@@ -85,6 +96,7 @@ pub fn last(table: &[u8]) -> u64
 }
 
 // The identifier in force, as it stands.
+#[tactic(auto, using(crate::proofs::Regions::length_in_force, crate::proofs::Regions::length_shared), unfolding(crate::specs::Table::decode))]
 pub fn in_force(table: &[u8]) -> &[u8]
     requires { Table table.now }
     ensures { (result.now ≡ (decode table.now).shared.in_force) × (length result.now ≡ identifier_length) }
@@ -93,6 +105,7 @@ pub fn in_force(table: &[u8]) -> &[u8]
 }
 
 // The settings' payload, as it stands.
+#[tactic(auto, using(crate::proofs::Regions::length_settings, crate::proofs::Regions::length_shared))]
 pub fn settings(table: &[u8]) -> &[u8]
     requires { Table table.now }
     ensures { (result.now ≡ settings_part (shared_area table.now)) × (length result.now ≡ settings_length) }
@@ -120,11 +133,8 @@ pub fn start(table: &mut [u8], payload: &[u8])
     requires { (table_least ≤ length table.old) × (length payload.now ≡ settings_length) }
     ensures { Becomes table.old (begun (settings_of payload.now) 0) table.new }
 {
-    let mut s: u64 = 0;
-    while s < SESSION_COUNT {
-        let a = REGIONS + s as usize * SIZE;
-        region::start(&mut table[a..a + SIZE]);
-        s += 1;
+    for s in 0..SESSION_COUNT {
+        region::start(&mut table[range_of(s)]);
     }
     shared::start(&mut table[0..SHARED], payload);
 }
@@ -136,8 +146,7 @@ pub fn open(table: &mut [u8], s: u64)
     requires { Openable table.old s }
     ensures { Becomes table.old (uncounted (next (decode table.old) (opens s))) table.new }
 {
-    let a = REGIONS + s as usize * SIZE;
-    region::open(&mut table[a..a + SIZE]);
+    region::open(&mut table[range_of(s)]);
 }
 
 // Session s is hung up.
@@ -145,77 +154,54 @@ pub fn hang_up(table: &mut [u8], s: u64)
     requires { Table table.old × (s < session_count) }
     ensures { Becomes table.old (uncounted (next (decode table.old) (hangs_up s))) table.new }
 {
-    let a = REGIONS + s as usize * SIZE;
-    region::hang_up(&mut table[a..a + SIZE]);
+    region::hang_up(&mut table[range_of(s)]);
 }
 
 // ---- saying: the table is lent beside the output
 
-// Whether it is subscribed to with no acknowledge asked.
-fn is_plain(form: Form) -> bool
-    ensures { result ≡ is_plain_so form }
-{
-    match form {
-        Form::Not => false,
-        Form::Plain => true,
-        Form::Acknowledged => false,
-    }
-}
-
 // How a session asked for notices of that kind.
-fn asked_by(table: &[u8], s: u64, kind: usize) -> Asked
-    requires { Asking table.now s kind }
+fn asked_by(table: &[u8], s: u64, kind: Kind) -> Asked
+    requires { Table table.now × (s < session_count) }
     ensures { result ≡ asked_in kind (region_in s table.now) }
 {
-    let x = lane::load(region::lane(region_of(table, s), kind));
-    let form = x.form;
+    let subscription = lane::load(region::lane(region_of(table, s), kind));
     Asked {
         kind,
-        revision: x.revision,
-        no_acknowledge: is_plain(form),
+        revision: subscription.revision,
+        no_acknowledge: matches!(subscription.form, Form::Plain),
     }
-}
-
-// The place that a slot is.
-fn number(b: u8) -> usize
-    ensures { result ≡ b }
-{
-    b as usize
 }
 
 // The bytes of the open notice of that kind: they stand in a place, or in the lane itself.
-fn open_notice(table: &[u8], s: u64, kind: usize) -> &[u8]
-    requires { Opened table.now s kind }
-    ensures { result.now ≡ kept_in (places_area table.now) kind
-        (first_in kind (lane_in kind (region_in s table.now))) }
+fn open_notice(table: &[u8], s: u64, kind: Kind) -> &[u8]
+    requires { Opened table.now s (place_of kind) }
+    ensures { result.now ≡ kept_in (places_area table.now) (place_of kind)
+        (first_in (place_of kind) (lane_in (place_of kind) (region_in s table.now))) }
 {
     let slot = lane::first(region::lane(region_of(table, s), kind), kind);
-    if kind == TIGHTENINGS {
-        return places::at(&table[SHARED..REGIONS], number(slot[0]));
+    if kind == Kind::Tightenings {
+        return places::at(&table[SHARED..REGIONS], usize::from(slot[0]));
     }
     slot
 }
 
 // A copy of a notice, to a session that is subscribed to its kind.
-fn put_copy(table: &[u8], out: &mut [u8], to: To, kind: usize, notice: &[u8]) -> usize
-    requires { CopyLent table.now out.old to kind notice.now }
-    ensures { Wrote (copy_most (kind_at kind)) (copies_out (settings_in table.now) kind
-        (subscription_to to kind table.now) (notice_in kind notice.now ∷ [])) to out.old result
-        out.new }
+fn put_copy(table: &[u8], out: &mut [u8], to: To, kind: Kind, notice: &[u8]) -> usize
+    requires { CopyLent table.now out.old to (place_of kind) notice.now }
+    ensures { Wrote (copy_most (kind_at (place_of kind))) (copies_out (settings_in table.now) (place_of kind)
+        (subscription_to to (place_of kind) table.now) (notice_in (place_of kind) notice.now ∷ []))
+        to out.old result out.new }
 {
     let asked = asked_by(table, to.session, kind);
     frame::put_copy(out, to, asked, settings(table), notice)
 }
 
-// A copy of the open notice of that kind, where one is due.
-fn say_one(table: &[u8], out: &mut [u8], to: To, kind: usize, due: bool) -> usize
-    requires { OpenLent table.now out.old to kind «due» }
-    ensures { Wrote (copy_most (kind_at kind)) (due_copy (settings_in table.now) kind «due»
-        (subscription_to to kind table.now)) to out.old result out.new }
+// A copy of the open notice of that kind, of which one is due.
+fn say_one(table: &[u8], out: &mut [u8], to: To, kind: Kind) -> usize
+    requires { OpenLent table.now out.old to (place_of kind) }
+    ensures { Wrote (copy_most (kind_at (place_of kind))) (due_copy (settings_in table.now) (place_of kind)
+        true (subscription_to to (place_of kind) table.now)) to out.old result out.new }
 {
-    if !due {
-        return to.at;
-    }
     put_copy(table, out, to, kind, open_notice(table, to.session, kind))
 }
 
@@ -225,12 +211,11 @@ fn say(table: &[u8], out: &mut [u8], to: To, due: [bool; KIND_COUNT]) -> usize
     ensures { Wrote (copies_most kinds) (due_copies (settings_in table.now) 0 due
         (subscriptions_to to table.now)) to out.old result out.new }
 {
-    let session = to.session;
     let mut at = to.at;
-    let mut kind = 0;
-    while kind < KIND_COUNT {
-        at = say_one(table, out, To { session, at }, kind, due[kind]);
-        kind += 1;
+    for kind in KINDS {
+        if due[kind.place()] {
+            at = say_one(table, out, To { at, ..to }, kind);
+        }
     }
     at
 }
@@ -243,13 +228,10 @@ fn tick_session(table: &mut [u8], out: &mut [u8], to: To) -> usize
     ensures { WentUpTo table.old out.old to.at (copies_most kinds)
         (to_one to.session one_tick ∷ []) result table.new out.new }
 {
-    let a = REGIONS + to.session as usize * SIZE;
-    let ticked = region::tick(&mut table[a..a + SIZE]);
-    if ticked.closes {
-        return frame::put_close(out, to);
+    match region::tick(&mut table[range_of(to.session)]) {
+        Some(due) => say(table, out, to, due),
+        None => frame::put_close(out, to),
     }
-    let due = ticked.due;
-    say(table, out, to, due)
 }
 
 // To every session, in order.
@@ -259,10 +241,8 @@ pub fn tick(table: &mut [u8], out: &mut [u8], at: usize) -> usize
         out.new }
 {
     let mut at = at;
-    let mut session: u64 = 0;
-    while session < SESSION_COUNT {
+    for session in 0..SESSION_COUNT {
         at = tick_session(table, out, To { session, at });
-        session += 1;
     }
     at
 }
@@ -276,49 +256,33 @@ pub struct Told {
     pub taken: u64,
 }
 
-// The copy that was written last: where its record begins, which ends at the place where the next one goes, and how it was asked for.
-// Where none was written, it is empty.
+// A copy that was written: where its record begins, and how it was asked for.
 #[derive(Clone, Copy)]
 struct Copied {
     from: usize,
-    revision: u64,
-    no_acknowledge: bool,
+    asked: Asked,
 }
 
-// Where the next one goes, the one that was written last, and the place where the event's notice stands: as many as there are, where it
-// stands in none.
+// Where the next copy of an event goes; the one that was written last, which ends there; and the place where the event's notice stands.
 #[derive(Clone, Copy)]
 struct Next {
     to: To,
-    copied: Copied,
-    place: usize,
-}
-
-// Whether there is one, and it was asked for alike.
-fn repeats(copied: Copied, at: usize, asked: Asked) -> bool
-    ensures { result ≡ true → Repeats copied at asked }
-{
-    if copied.from >= at {
-        return false;
-    }
-    if copied.revision != asked.revision {
-        return false;
-    }
-    copied.no_acknowledge == asked.no_acknowledge
+    copied: Option<Copied>,
+    place: Option<usize>,
 }
 
 // A copy of an event, to a session that asked for it so: the one that was written last, once more, where it was asked for alike.
 fn put_event(table: &[u8], out: &mut [u8], next: Next, asked: Asked, notice: &[u8]) -> usize
-    requires { AskedLent table.now out.old next.to asked notice.now next.copied }
+    requires { AskedLent table.now out.old next asked notice.now }
     ensures { Copies (settings_in table.now) asked notice.now next.to out.old result
         out.new }
 {
-    let to = next.to;
-    let copied = next.copied;
-    if repeats(copied, to.at, asked) {
-        return frame::put_again(out, to, copied.from);
+    if let Some(copied) = next.copied {
+        if copied.asked == asked {
+            return frame::put_again(out, next.to, copied.from);
+        }
     }
-    frame::put_copy(out, to, asked, settings(table), notice)
+    frame::put_copy(out, next.to, asked, settings(table), notice)
 }
 
 // The first place that no session has open or waiting.
@@ -327,182 +291,119 @@ fn free_place(table: &[u8]) -> usize
     ensures { (result < place_count) × (is_free result (regions places_held table.now) ≡ true) }
 {
     let mut used = [0; places::COUNT];
-    let mut s: u64 = 0;
-    while s < SESSION_COUNT {
+    for s in 0..SESSION_COUNT {
         region::mark(region_of(table, s), &mut used);
-        s += 1;
     }
     places::first_free(&used)
 }
 
 // A result that a session is to hold stands in a place: the one where it stands already, or one that is free.
-fn stand(table: &mut [u8], res: &[u8], place: usize) -> usize
+fn stand(table: &mut [u8], res: &[u8], place: Option<usize>) -> usize
     requires { StandLent table.old res.now place }
     ensures { Stood table.old res.now place result table.new }
 {
-    if place < places::COUNT {
-        return place;
+    match place {
+        Some(stands) => stands,
+        None => {
+            let free = free_place(table);
+            places::put(&mut table[SHARED..REGIONS], free, res);
+            free
+        }
     }
-    let free = free_place(table);
-    places::put(&mut table[SHARED..REGIONS], free, res);
-    free
-}
-
-// What an event did to one session: whether it was taken, whether a copy is to be sent now, and the place where its notice stands then.
-#[derive(Clone, Copy)]
-struct Kept {
-    taken: bool,
-    tell: bool,
-    place: usize,
 }
 
 // A tightening of which that becomes, to one session, which holds its place: where it stands then.
-fn keep_placed(table: &mut [u8], s: u64, taken: Taken, res: &[u8], place: usize) -> usize
+fn keep_placed(table: &mut [u8], s: u64, taken: Taken, res: &[u8], place: Option<usize>) -> usize
     requires { PlacedLent table.old s taken res.now place }
-    ensures { Keeps table.old s tightenings res.now place (kept_by taken.take result)
-        table.new }
+    ensures { Keeps table.old s tightenings res.now place taken.take table.new (Some result) }
 {
     let stands = stand(table, res, place);
-    let slot = [stands as u8];
-    let a = REGIONS + s as usize * SIZE;
-    region::take(&mut table[a..a + SIZE], TIGHTENINGS, taken, &slot);
+    region::take(
+        &mut table[range_of(s)],
+        Kind::Tightenings,
+        taken,
+        &[stands as u8],
+    );
     stands
 }
 
-// An event of that kind, to one session, which holds its notice or does not.
-fn keep(table: &mut [u8], s: u64, kind: usize, notice: &[u8], place: usize) -> Kept
-    requires { KeepLent table.old s kind notice.now place }
-    ensures { Keeps table.old s kind notice.now place result table.new }
+// An event of that kind, to one session, which holds its notice or does not: what becomes of it, and the place where it stands then.
+fn keep(table: &mut [u8], s: u64, kind: Kind, notice: &[u8], place: &mut Option<usize>) -> Take
+    requires { KeepLent table.old s (place_of kind) notice.now place.old }
+    ensures { Keeps table.old s (place_of kind) notice.now place.old result table.new place.new }
 {
     let taken = region::taking(region_of(table, s), kind);
-    let take = taken.take;
-    let told = lane::is_taken(take);
-    let tell = lane::is_told(take);
-    if !lane::is_held(take) {
-        return Kept {
-            taken: told,
-            tell,
-            place,
-        };
+    if lane::is_held(taken.take) {
+        if kind == Kind::Tightenings {
+            *place = Some(keep_placed(table, s, taken, notice, *place));
+        } else {
+            region::take(&mut table[range_of(s)], kind, taken, notice);
+        }
     }
-    let a = REGIONS + s as usize * SIZE;
-    if kind != TIGHTENINGS {
-        region::take(&mut table[a..a + SIZE], kind, taken, notice);
-        return Kept {
-            taken: told,
-            tell,
-            place,
-        };
-    }
-    let place = keep_placed(table, s, taken, notice, place);
-    Kept {
-        taken: told,
-        tell,
-        place,
-    }
+    taken.take
 }
 
-// What came of it: the place behind what went out, whether it was taken, the copy that was written last, and where its notice stands.
-#[derive(Clone, Copy)]
-struct Took {
-    at: usize,
-    taken: bool,
-    from: usize,
-    revision: u64,
-    no_acknowledge: bool,
-    place: usize,
-}
-
-// An event of that kind, to one session.
-fn tell_session(table: &mut [u8], out: &mut [u8], next: Next, kind: usize, notice: &[u8]) -> Took
-    requires { EventLent table.old out.old next kind notice.now }
-    ensures { TellsOne table.old out.old next kind notice.now result table.new
-        out.new }
+// An event of that kind, to one session: whether it is taken.
+fn tell_session(
+    table: &mut [u8],
+    out: &mut [u8],
+    next: &mut Next,
+    kind: Kind,
+    notice: &[u8],
+) -> bool
+    requires { EventLent table.old out.old next.old (place_of kind) notice.now }
+    ensures { TellsOne table.old out.old next.old (place_of kind) notice.now result table.new
+        out.new next.new }
 {
-    let to = next.to;
-    let copied = next.copied;
-    let kept = keep(table, to.session, kind, notice, next.place);
-    if !kept.tell {
-        return Took {
-            at: to.at,
-            taken: kept.taken,
-            from: copied.from,
-            revision: copied.revision,
-            no_acknowledge: copied.no_acknowledge,
-            place: kept.place,
-        };
+    let take = keep(table, next.to.session, kind, notice, &mut next.place);
+    if lane::is_told(take) {
+        let asked = asked_by(table, next.to.session, kind);
+        let from = next.to.at;
+        next.to.at = put_event(table, out, *next, asked, notice);
+        next.copied = Some(Copied { from, asked });
     }
-    let asked = asked_by(table, to.session, kind);
-    let at = put_event(table, out, next, asked, notice);
-    Took {
-        at,
-        taken: kept.taken,
-        from: to.at,
-        revision: asked.revision,
-        no_acknowledge: asked.no_acknowledge,
-        place: kept.place,
-    }
-}
-
-// What a session adds to the sum, whose 2^s is `bit`.
-fn share(taken: bool, bit: u64) -> u64
-    ensures { result ≡ cond taken bit 0 }
-{
-    if taken { bit } else { 0 }
+    lane::is_taken(take)
 }
 
 // An event of that kind to every session, in order.
-fn tell(table: &mut [u8], out: &mut [u8], at: usize, kind: usize, notice: &[u8]) -> Told
-    requires { EventTo table.old kind notice.now × (at + event_most kind ≤ length out.old) }
-    ensures { Tells table.old out.old at kind notice.now result table.new out.new }
+fn tell(table: &mut [u8], out: &mut [u8], at: usize, kind: Kind, notice: &[u8]) -> Told
+    requires { EventTo table.old (place_of kind) notice.now × (at + event_most (place_of kind) ≤ length out.old) }
+    ensures { Tells table.old out.old at (place_of kind) notice.now result table.new out.new }
 {
-    let mut at = at;
-    let mut from = at;
-    let mut revision: u64 = 0;
-    let mut no_acknowledge = false;
-    let mut place = places::COUNT;
-    let mut taken: u64 = 0;
-    let mut bit: u64 = 1;
-    let mut session: u64 = 0;
-    while session < SESSION_COUNT {
-        let copied = Copied {
-            from,
-            revision,
-            no_acknowledge,
-        };
-        let to = To { session, at };
-        let took = tell_session(table, out, Next { to, copied, place }, kind, notice);
-        at = took.at;
-        from = took.from;
-        revision = took.revision;
-        no_acknowledge = took.no_acknowledge;
-        place = took.place;
-        taken += share(took.taken, bit);
-        bit *= 2;
-        session += 1;
+    let mut next = Next {
+        to: To { session: 0, at },
+        copied: None,
+        place: None,
+    };
+    let mut taken = 0;
+    for session in 0..SESSION_COUNT {
+        next.to.session = session;
+        if tell_session(table, out, &mut next, kind, notice) {
+            taken += 1 << session;
+        }
     }
-    Told { at, taken }
+    Told {
+        at: next.to.at,
+        taken,
+    }
 }
 
 // What the event leaves to all sessions: the identifier in force, or the last number and the tightening that has it; an alarm nothing.
-fn note(table: &mut [u8], kind: usize, notice: &[u8])
-    requires { EventTo table.old kind notice.now }
-    ensures { Notes table.old kind notice.now table.new }
+fn note(table: &mut [u8], kind: Kind, notice: &[u8])
+    requires { EventTo table.old (place_of kind) notice.now }
+    ensures { Notes table.old (place_of kind) notice.now table.new }
 {
-    if kind == IDENTIFIERS {
-        shared::put_in_force(&mut table[0..SHARED], notice);
-        return;
+    match kind {
+        Kind::Identifiers => shared::put_in_force(&mut table[0..SHARED], notice),
+        Kind::Tightenings => shared::remember(&mut table[0..SHARED], notice),
+        Kind::Alarms => {}
     }
-    if kind == ALARMS {
-        return;
-    }
-    shared::remember(&mut table[0..SHARED], notice);
 }
 
 // An event of that kind, whose notice is in those bytes.
-pub fn happens(table: &mut [u8], out: &mut [u8], at: usize, kind: usize, notice: &[u8]) -> Told
-    requires { EventTo table.old kind notice.now × (at + event_most kind ≤ length out.old) }
-    ensures { Happens table.old out.old at kind notice.now result table.new
+pub fn happens(table: &mut [u8], out: &mut [u8], at: usize, kind: Kind, notice: &[u8]) -> Told
+    requires { EventTo table.old (place_of kind) notice.now × (at + event_most (place_of kind) ≤ length out.old) }
+    ensures { Happens table.old out.old at (place_of kind) notice.now result table.new
         out.new }
 {
     let told = tell(table, out, at, kind, notice);
@@ -518,32 +419,24 @@ fn lengthen(table: &mut [u8], s: u64, bytes: &[u8])
     ensures { Becomes table.old
         (uncounted (next (decode table.old) (hears s (unended bytes.now)))) table.new }
 {
-    let a = REGIONS + s as usize * SIZE;
-    region::lengthen(&mut table[a..a + SIZE], bytes);
+    region::lengthen(&mut table[range_of(s)], bytes);
 }
 
 // Where the bytes of a run are that is over: in the slice that it ended in, if it began there, or where they were kept.
 fn ended_in<'a>(bytes: &'a [u8], kept: &'a [u8], whole: bool) -> &'a [u8]
     ensures { result.now ≡ cond whole bytes.now kept.now }
 {
-    if whole {
-        return bytes;
-    }
-    kept
+    if whole { bytes } else { kept }
 }
 
 // What a reply tells besides the settings: of a tightening that is kept its payload, as it stands; of a 9999 the run.
-fn told_by<'a>(table: &'a [u8], run: &'a [u8], reply: Reply) -> &'a [u8]
+fn told_by<'a>(table: &'a [u8], run: &'a [u8], reply: Option<Reply>) -> &'a [u8]
     requires { table_least ≤ length table.now }
     ensures { result.now ≡ told_so (shared_area table.now) run.now reply }
 {
     match reply {
-        Reply::Nothing => run,
-        Reply::Started => run,
-        Reply::Accepted { mid: _ } => run,
-        Reply::Error { mid: _, code: _ } => run,
-        Reply::Kept { number } => shared::kept(&table[0..SHARED], number),
-        Reply::Mirrored => run,
+        Some(Reply::Kept { number }) => shared::kept(&table[0..SHARED], number),
+        _ => run,
     }
 }
 
@@ -555,35 +448,11 @@ fn answer<'a>(table: &'a [u8], out: &mut [u8], to: To, bytes: &'a [u8], ended: E
 {
     let kept = region::run_bytes(region_of(table, to.session));
     let run = ended_in(bytes, kept, ended.whole);
-    let reply = ended.reply;
-    let at = session::put_reply(out, to, settings(table), told_by(table, run, reply), reply);
-    let behind = To {
-        session: to.session,
-        at,
-    };
-    say_one(table, out, behind, ended.kind, ended.sends)
-}
-
-// What came of the end of a run: the place behind what went out, and whether an identifier was made known.
-#[derive(Clone, Copy)]
-struct Heard {
-    at: usize,
-    identified: bool,
-}
-
-// The bytes end a run of a session. An identifier that is made known is put in `place`.
-fn hear(table: &mut [u8], out: &mut [u8], to: To, bytes: &[u8], place: &mut [u8]) -> Heard
-    requires { Lent table.old out.old to session_most × (length place.old ≡ identifier_length) }
-    ensures { Hears table.old out.old to bytes.now place.old result table.new
-        out.new place.new }
-{
-    let common = common(table);
-    let a = REGIONS + to.session as usize * SIZE;
-    let ended = region::end_run(&mut table[a..a + SIZE], common, bytes, place);
-    let at = answer(table, out, to, bytes, ended);
-    Heard {
-        at,
-        identified: ended.identified,
+    let told = told_by(table, run, ended.reply);
+    let at = session::put_reply(out, to, settings(table), told, ended.reply);
+    match ended.due {
+        Some(kind) => say_one(table, out, To { at, ..to }, kind),
+        None => at,
     }
 }
 
@@ -593,13 +462,13 @@ fn end_run(table: &mut [u8], out: &mut [u8], to: To, bytes: &[u8]) -> usize
     ensures { Received table.old out.old to (ending bytes.now) result table.new
         out.new }
 {
-    let mut place = [0; IDENTIFIER_LENGTH];
-    let heard = hear(table, out, to, bytes, &mut place);
-    if heard.identified {
-        let told = happens(table, out, heard.at, IDENTIFIERS, &place);
-        return told.at;
+    let common = common(table);
+    let ended = region::end_run(&mut table[range_of(to.session)], common, bytes);
+    let at = answer(table, out, to, bytes, ended);
+    match ended.identified {
+        Some(identifier) => happens(table, out, at, Kind::Identifiers, &identifier).at,
+        None => at,
     }
-    heard.at
 }
 
 // Received bytes to a session, which are read up to `end`.

@@ -3,3 +3,4 @@ pub mod Numbers
 pub mod Puts
 pub mod Cells
 pub mod Areas
+pub mod Slices

@@ -11,28 +11,14 @@ ghost use Rattle.text.specs.Put.{Put};
 pub fn is_digit(b: u8) -> bool
     ensures { result ≡ is_digit b }
 {
-    if b < b'0' {
-        return false;
-    }
-    b <= b'9'
+    b.is_ascii_digit()
 }
 
 // Whether every byte of s is least..greatest.
 pub fn all_within(s: &[u8], least: u8, greatest: u8) -> bool
     ensures { result ≡ all (within least greatest) s.now }
 {
-    let mut i = 0;
-    while i < s.len() {
-        let b = s[i];
-        if b < least {
-            return false;
-        }
-        if b > greatest {
-            return false;
-        }
-        i += 1;
-    }
-    true
+    s.iter().all(|b| (least..=greatest).contains(b))
 }
 
 pub fn is_text(s: &[u8]) -> bool
@@ -50,7 +36,7 @@ pub fn is_digits(s: &[u8]) -> bool
 pub fn is_spaces(s: &[u8]) -> bool
     ensures { result ≡ all is_space s.now }
 {
-    all_within(s, b' ', b' ')
+    s.iter().all(|&b| b == b' ')
 }
 
 // ---- numbers that bytes hold

@@ -3,4 +3,4 @@ use Rattle.lane.proofs.Lanes.{is_shifted}
 use Rattle.lane.proofs.shift_down.Goals as goal
 
 pub returns : goal.returns
-returns c = rw c.shift.ensures (is_shifted _ _ _ _ c.requires c.if-not-shift.false _ c.slot_size-size.ensures)
+returns c = is_shifted _ _ _ c.requires _ c.slot_size-size.ensures c.copy_within.ensures.after

@@ -9,7 +9,7 @@ use Rattle.table.proofs.free_place.Goals as goal
 pub mark-requires : goal.mark-requires
 mark-requires c =
     let t = c.args.table.now in (
-      subst Good (part_in t c.loop-s.s ∙ sym c.region_of.ensures)
+      subst Good (part_in t c.loop-s.s ∙ sym c.region_of.ensures.bytes)
           (part_good t c.loop-s.s c.requires.0 c.loop-s-test.true),
       c.loop-s.invariant.0,
     )
@@ -18,7 +18,7 @@ pub loop-s-preserved : goal.loop-s-preserved
 loop-s-preserved c =
     let t = c.args.table.now in
     let i = c.loop-s.invariant in
-    rw (c.mark.ensures, c.region_of.ensures) (
+    rw (c.mark.ensures, c.region_of.ensures.bytes) (
       length_marked c.loop-s.used _ ∙ i.0,
       sym (marks_next t c.requires.0 c.loop-s.used c.loop-s.s c.loop-s-test.true) ∙ i.1,
     )

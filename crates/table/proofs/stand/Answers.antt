@@ -1,25 +1,18 @@
 -- `table::stand` meets its contract, by whether it stands already.
-use borrow.Author.Rules.{rules}
 use Rattle.table.proofs.Places.{put_there, stands_there, putting}
 use Rattle.table.proofs.stand.Goals as goal
 
-pub returns-then-place-lt-COUNT : goal.returns-then-place-lt-COUNT
-returns-then-place-lt-COUNT c =
-    let p = c.requires in stands_there _ p.table c.if-place-lt-COUNT.true p.stands
+pub returns-in-Some : goal.returns-in-Some
+returns-in-Some c =
+    let stands = rw c.in-Some.is at c.requires.stands in
+    rw c.in-Some.is (stands_there _ c.requires.table stands)
 
 pub free_place-free-requires : goal.free_place-free-requires
-free_place-free-requires c =
-    let p = c.requires in (p.table, p.room)
-
-pub slice_bounds-put-end : goal.slice_bounds-put-end
-slice_bounds-put-end c =
-    let h = c.requires.table.size in search rules
+free_place-free-requires c = (c.requires.table, c.requires.room)
 
 pub put-requires : goal.put-requires
-put-requires c =
-    putting c.requires c.free_place-free.ensures.0
+put-requires c = putting c.requires c.free_place-free.ensures.0
 
-pub returns : goal.returns
-returns c =
-    put_there _ c.requires.table c.free_place-free.ensures.0 c.free_place-free.ensures.1
-    c.put.ensures c.if-place-lt-COUNT.false
+pub returns-in-None : goal.returns-in-None
+returns-in-None c =
+    rw c.in-None.is (put_there _ c.requires.table c.free_place-free.ensures.0 c.free_place-free.ensures.1 c.put.ensures)

@@ -1,31 +1,29 @@
 -- `table::tell_session` meets its contract, by whether it is sent.
-use borrow.Author.Tests.{not-true, not-false}
+use Rattle.std.proofs.Common.{sym, ◌∙◌}
 use Rattle.table.proofs.Passes.{asked_lent, keeps_lent, told_nothing, told_copy}
 use Rattle.table.proofs.tell_session.Goals as goal
+use Rattle.table.proofs.tell_session.Goals.{then-is_told, else-is_told}
 
-pub keep-kept-requires : goal.keep-kept-requires
-keep-kept-requires c =
+pub keep-take-requires : goal.keep-take-requires
+keep-take-requires c =
     let p = c.requires in
-    record { table = p.lent.table; session = p.lent.session; known = p.known; notice = p.notice; stands = p.stands }
-
-pub returns-then-not-kept : goal.returns-then-not-kept
-returns-then-not-kept c =
-    told_nothing c.requires c.keep-kept.ensures (not-true _ c.if-not-kept.true)
+    record { table = p.lent.table; session = p.lent.session; notice = p.notice; stands = p.stands }
 
 pub asked_by-asked-requires : goal.asked_by-asked-requires
 asked_by-asked-requires c =
-    let p = c.requires in
-    let l = keeps_lent p c.keep-kept.ensures in
-    record { table = l.table; session = l.session; known = p.known }
+    let l = keeps_lent c.args.kind c.requires c.keep-take.ensures in (l.table, l.session)
 
-pub put_event-at-requires : goal.put_event-at-requires
-put_event-at-requires c =
-    asked_lent c.requires c.keep-kept.ensures c.asked_by-asked.ensures
+pub put_event-next-requires : goal.put_event-next-requires
+put_event-next-requires c = asked_lent c.args.kind c.requires c.keep-take.ensures c.asked_by-asked.ensures
 
 pub returns : goal.returns
 returns c =
-    let i = c in
-    let k = i in
-    told_copy k.requires k.keep-kept.ensures (not-false _ i.if-not-kept.false)
-    c.asked_by-asked.ensures
-    c.put_event-at.ensures
+    elim c.if-is_told.branch [
+      | then-is_told w ↦
+          rw (w.out-is, w.next-is, c.is_taken.ensures)
+          (told_copy c.args.kind c.requires c.keep-take.ensures (sym c.is_told.ensures ∙ w.if-is_told.true) w.asked_by-asked.ensures
+          w.put_event-next.ensures)
+      | else-is_told w ↦
+          rw (w.out-is, w.next-is, c.is_taken.ensures)
+          (told_nothing c.args.kind c.requires c.keep-take.ensures (sym c.is_told.ensures ∙ w.if-is_told.false))
+    ]

@@ -1,36 +1,32 @@
 -- `table::tick_session` meets its contract, by whether it times out.
-use mathlib.Core.Path.{sym}
+use Rattle.std.proofs.Common.{sym, arith}
 use mathlib.Core.List.{append-nil}
-use native.Mathlib.Omega.{arith}
 use Rattle.text.proofs.Puts.{put_as}
 use Rattle.table.specs.Table.{reading_in}
 use Rattle.table.proofs.Regions.{part_good}
 use Rattle.table.proofs.Passes.{due_lent, tick_passed}
 use Rattle.table.proofs.tick_session.Goals as goal
 
-pub returns-then-ticked : goal.returns-then-ticked
-returns-then-ticked c =
-    let l = c.put_close.ensures.place in
-    record {
-      within = omega arith;
-      went = tick_passed c.requires (c.tick-ticked.ensures (reading_in c.args.table.now))
-          (rw c.if-ticked.true (put_as (sym (append-nil _)) c.put_close.ensures.put));
-    }
-
-pub returns : goal.returns
-returns c =
-    record {
-      within = c.say.ensures.within;
-      went = tick_passed c.requires (c.tick-ticked.ensures (reading_in c.args.table.now))
-          (rw c.if-ticked.false c.say.ensures.bytes);
-    }
+pub tick-requires : goal.tick-requires
+tick-requires c = rw c.range_of.ensures (part_good _ _ c.requires.table c.requires.session)
 
 pub say-requires : goal.say-requires
 say-requires c =
-    let k = c in
-    let s = k in
-    due_lent s.requires (k.tick-ticked.ensures (reading_in s.args.table.now))
+    let ticks = rw c.range_of.ensures at c.in-Some.ensures (reading_in c.args.table.now) in
+    rw c.range_of.ensures (due_lent c.requires ticks)
 
-pub tick-ticked-requires : goal.tick-ticked-requires
-tick-ticked-requires c =
-    let p = c.requires in part_good _ _ p.table p.session
+pub returns-in-Some : goal.returns-in-Some
+returns-in-Some c =
+    let ticks = rw c.range_of.ensures at c.in-Some.ensures (reading_in c.args.table.now) in
+    let said = rw c.range_of.ensures at c.say.ensures in
+    rw c.range_of.ensures record { within = said.within; went = tick_passed c.requires ticks said.bytes }
+
+pub returns-in-None : goal.returns-in-None
+returns-in-None c =
+    let ticks = rw c.range_of.ensures at c.in-None.ensures (reading_in c.args.table.now) in
+    let closed = c.put_close.ensures in
+    let place = closed.place in
+    rw c.range_of.ensures record {
+      within = omega arith;
+      went = tick_passed c.requires ticks (put_as (sym (append-nil _)) closed.put);
+    }

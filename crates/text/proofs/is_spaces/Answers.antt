@@ -1,0 +1,9 @@
+-- What `all` answered is the model's test of every byte.
+use borrow.Author.Rules.{rules}
+use borrow.Author.Tests.{tests}
+use Rattle.model.specs.Bytes.{is_space}
+use Rattle.text.proofs.Slices.{all_answers}
+use Rattle.text.proofs.is_spaces.Goals as goal
+
+pub returns : goal.returns
+returns c = all_answers is_space c.args.s.now c.all.ensures.ran (search rules) (λ x b q k. search (rules, tests))
