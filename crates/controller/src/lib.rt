@@ -39,7 +39,10 @@ const DONE: Answer = Answer {
 fn refused(why: Refusal) -> Answer
     ensures { result ≡ record { number = number_of why; consumed = 0; written = 0; taken = 0 } }
 {
-    Answer { number: why.number(), ..DONE }
+    Answer {
+        number: why.number(),
+        ..DONE
+    }
 }
 
 pub fn start(table: &mut [u8], settings: &[u8]) -> Answer
@@ -81,7 +84,10 @@ pub fn tick(table: &mut [u8], output: &mut [u8]) -> Answer
         return refused(why);
     }
     let at = table::tick(table, output, 0);
-    Answer { written: at as u64, ..DONE }
+    Answer {
+        written: at as u64,
+        ..DONE
+    }
 }
 
 // ---- received bytes
@@ -96,7 +102,11 @@ pub fn bytes(table: &mut [u8], output: &mut [u8], session: u64, slice: &[u8]) ->
     }
     let end = run::ends_at(slice);
     let at = table::receive(table, output, To { session, at: 0 }, slice, end);
-    Answer { consumed: run::consumed(slice, end) as u64, written: at as u64, ..DONE }
+    Answer {
+        consumed: run::consumed(slice, end) as u64,
+        written: at as u64,
+        ..DONE
+    }
 }
 
 // What a call left of the bytes that it was given, for the next call.
@@ -148,7 +158,11 @@ pub fn tool_record(table: &mut [u8], output: &mut [u8], slice: &[u8]) -> Answer
         Err(why) => refused(why),
         Ok(tool_record) => {
             let told = report(table, output, slice, tool_record);
-            Answer { written: told.at as u64, taken: told.taken, ..DONE }
+            Answer {
+                written: told.at as u64,
+                taken: told.taken,
+                ..DONE
+            }
         }
     }
 }

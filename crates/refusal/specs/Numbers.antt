@@ -48,6 +48,6 @@ number_of why.LastNumberReached = 8
 number_of why.SettingsBad = 9
 
 -- what is told of a call: that number, and 0 where it is not refused
-abbrev pub told : {A : Type 0} → Result A Refusal → ℕ
-told (Ok x) = 0
-told (Err refusal) = number_of refusal
+abbrev pub number_told : {A : Type 0} → Result A Refusal → ℕ
+number_told (Ok x) = 0
+number_told (Err refusal) = number_of refusal

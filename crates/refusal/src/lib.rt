@@ -10,7 +10,7 @@ ghost use Rattle.model.specs.Calls.{
   one_tick,
 };
 ghost use Rattle.table.specs.Table.{decode, Openable};
-ghost use Rattle.refusal.specs.Numbers.{number_of, told, number, tool_number, Ready, Startable};
+ghost use Rattle.refusal.specs.Numbers.{number_of, number_told, number, tool_number, Ready, Startable};
 
 use model::{NUMBER_GREATEST, OUTPUT_LEAST, SESSION_COUNT, TABLE_LEAST};
 use record::ToolRecord;
@@ -40,7 +40,7 @@ impl Refusal {
 // A start asks nothing of the table but its length, and for no output.
 #[tactic(auto, unfolding(model::specs::Calls::refusal))]
 pub fn start(table: &[u8], settings: &[u8]) -> Result<(), Refusal>
-    ensures number { told result ≡ number table.now 0 (start_call settings.now) }
+    ensures number { number_told result ≡ number table.now 0 (start_call settings.now) }
     ensures ready { OnOk result (Startable table.now settings.now) }
 {
     if table.len() < TABLE_LEAST {
@@ -55,7 +55,7 @@ pub fn start(table: &[u8], settings: &[u8]) -> Result<(), Refusal>
 // A tick asks no more than every call does that is lent an output, which has so many bytes.
 #[tactic(auto, unfolding(model::specs::Calls::refusal))]
 pub fn tick(table: &[u8], output: usize) -> Result<(), Refusal>
-    ensures number { told result ≡ number table.now «output» one_tick }
+    ensures number { number_told result ≡ number table.now «output» one_tick }
     ensures ready { OnOk result (Ready table.now «output») }
 {
     if table.len() < TABLE_LEAST {
@@ -72,7 +72,7 @@ pub fn tick(table: &[u8], output: usize) -> Result<(), Refusal>
 
 #[tactic(auto, unfolding(model::specs::Calls::refusal))]
 pub fn open(table: &[u8], output: usize, session: u64) -> Result<(), Refusal>
-    ensures number { told result ≡ number table.now «output» (open_session session) }
+    ensures number { number_told result ≡ number table.now «output» (open_session session) }
     ensures ready { OnOk result (Openable table.now session) }
 {
     tick(table, output)?;
@@ -88,7 +88,7 @@ pub fn open(table: &[u8], output: usize, session: u64) -> Result<(), Refusal>
 // A hang-up; received bytes are refused as it is.
 #[tactic(auto, unfolding(model::specs::Calls::refusal))]
 pub fn hang_up(table: &[u8], output: usize, session: u64) -> Result<(), Refusal>
-    ensures number { told result ≡ number table.now «output» (hang_up_session session) }
+    ensures number { number_told result ≡ number table.now «output» (hang_up_session session) }
     ensures ready { OnOk result (Ready table.now «output») }
     ensures session { OnOk result (session < session_count) }
 {
@@ -109,7 +109,7 @@ pub fn tool_record(
     output: usize,
     record_kind: Option<ToolRecord>,
 ) -> Result<ToolRecord, Refusal>
-    ensures number { told result ≡ tool_number table.now «output» record_kind }
+    ensures number { number_told result ≡ tool_number table.now «output» record_kind }
     ensures ready { OnOk result (Ready table.now «output») }
     ensures same { IfOk result (λ kind. record_kind ≡ Some kind) }
     ensures left { IfOk result (λ kind. kind ≡ ToolRecord.Tightening → (decode table.now).shared.last ≢ number_greatest) }

@@ -9,4 +9,5 @@ returns-in-Err c = refuse _ _ _ c.in-Err.why (bytes_refused _ _ _ _ c.in-Err.ens
 
 pub returns : goal.returns
 returns c =
-    finish _ _ _ (bytes_refused _ _ _ _ c.in_default.ensures.number) c.consumed.ensures refl c.receive-at.ensures.went (omega (arith, c.receive-at.ensures.within))
+    finish _ _ _ (bytes_refused _ _ _ _ c.in_default.ensures.number) c.consumed.ensures refl c.receive-at.ensures.went
+    (omega (arith, c.receive-at.ensures.within))

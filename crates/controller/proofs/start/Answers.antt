@@ -8,4 +8,5 @@ returns-in-Err c = refuse _ _ _ c.in-Err.why c.in-Err.ensures.number c.refused.e
 
 pub returns : goal.returns
 returns c =
-    finish _ _ [] c.in_default.ensures.number refl refl (started_quietly _ [] _ c.in_default.ensures.ready.reads (rw c.payload.ensures at c.start-2.ensures)) (omega arith)
+    finish _ _ [] c.in_default.ensures.number refl refl
+    (started_quietly _ [] _ c.in_default.ensures.ready.reads (rw c.payload.ensures at c.start-2.ensures)) (omega arith)
