@@ -54,7 +54,8 @@ module _ {t o p : List ℕ} {n : Next} {asked : Asked} (l : AskedLent t o n aske
   again_lent =
       let s = last.shown in
       let e = s.stands.ends in
-      let long = record_long s.session (event_frame (settings_in t) c.asked.revision c.asked.no_acknowledge (event_in (place_of asked.kind) p)) in
+      let long = record_long s.session
+      (event_frame (settings_in t) c.asked.revision c.asked.no_acknowledge (event_in (place_of asked.kind) p)) in
       let f = last.few in
       let few = l.lent.session in
       let room = l.lent.room in
