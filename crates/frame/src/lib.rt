@@ -538,7 +538,7 @@ fn put_notice(out: &mut [u8], at: usize, asked: Asked, settings: &[u8], told: &[
     }
 }
 
-// Any frame.
+// Any frame. The settings and what is told are two parameters: with a struct of both a notice takes 15 instructions more.
 #[tactic(auto, unfolding(crate::specs::Layout::data_in, model::specs::Layouts::data_from, model::specs::Layouts::characters))]
 fn put_data(out: &mut [u8], at: usize, content: Content, settings: &[u8], told: &[u8]) -> usize
     requires { Layable content (payloads settings.now told.now) at (length out.old) }
@@ -623,7 +623,7 @@ fn notice_heading(size: usize, asked: Asked) -> Heading
 }
 
 // The header of a frame of so many bytes. The number and the length of a reply stand in an arm for each, so that the compiler knows their
-// digits.
+// digits: with one call behind the match a reply takes 50 instructions more.
 fn put_header(out: &mut [u8], at: usize, content: Content, size: usize) -> usize
     requires { Headable content size at (length out.old) }
     ensures { Written out.old at header_length (heading_bytes (heading_of content)) result out.new }
