@@ -44,7 +44,7 @@ pub shown_behind : (l p frame : List ℕ) {waited s : List ℕ} {size end : ℕ}
     → end ≡ size + length frame → take end (take size l ++ (s ++ p)) ≡ waited ++ shown frame
 shown_behind l p frame {waited = waited} {size = size} {end = end} e h f g =
     let long : length (waited ++ shown frame) ≡ end =
-        omega (arith, length-append waited (shown frame), shown_length frame, ap length e, length-take-le size l h) in
+    omega (arith, length-append waited (shown frame), shown_length frame, ap length e, length-take-le size l h) in
     rw (e, f, ← append_assoc waited (shown frame) p) (take_at (waited ++ shown frame) p end long)
 
 -- ==== a line
