@@ -1,6 +1,6 @@
 -- Bytes that come behind others.
-use Rattle.std.proofs.Common.{◌≡◌, ap, ap₂, ◌∙◌, ◌+◌, ◌≤◌, List, ◌++◌, length, take, drop, sym, ℕ, ◌-◌, arith, length-append, length-drop, zero-add}
-use lib.Seq.{length-take-le, take_at, drop_at, take-add, paste, take-paste}
+use Rattle.std.proofs.Common.{◌≡◌, ap, ap₂, ◌∙◌, ◌+◌, ◌≤◌, List, ◌++◌, length, take, drop, sym, ℕ, ◌-◌, arith, length-drop, zero-add}
+use lib.Seq.{length-take-le, paste, take-paste}
 use Rattle.std.specs.List.{copy_within}
 use Rattle.text.specs.Put.{Put}
 use Rattle.text.proofs.Lists.{take_sets, drop-take}
@@ -14,21 +14,6 @@ pub put_behind : {o o' bs waited : List ℕ} {at r : ℕ} → take at o ≡ wait
     → Put o at bs r o' → take r o' ≡ waited ++ bs
 put_behind {o = o} {bs = bs} {at = at} e f h p =
     ap₂ take p.place p.output ∙ take_sets bs o at (omega (arith, ap length e, length-take-le at o f)) ∙ ap (λ (z : List ℕ). z ++ bs) e
-
--- of those that wait the first, and the last
-module _ (l waited bs : List ℕ) {from size : ℕ} (e : take size l ≡ waited ++ bs) (h : size ≤ length l) (at : from ≡ length waited) where
-  pub all_waiting : size ≡ from + length bs
-  all_waiting = omega (arith, size_waiting l e h, length-append waited bs)
-
-  pub first_waiting : take from l ≡ waited
-  first_waiting =
-      let n = all_waiting in
-      let both : take size l ≡ take from l ++ take (length bs) (drop from l) = ap (λ (k : ℕ). take k l) n ∙ take-add from (length bs) l in
-      sym (take_at (take from l) (take (length bs) (drop from l)) from (length-take-le from l (omega arith)))
-      ∙ ap (take from) (sym both ∙ e) ∙ take_at waited bs from (sym at)
-
-  pub last_waiting : take (size - from) (drop from l) ≡ bs
-  last_waiting = let n = all_waiting in sym (drop-take from size l (omega arith)) ∙ ap (drop from) e ∙ drop_at waited bs from (sym at)
 
 -- the last of them, moved to the front
 pub kept : (l : List ℕ) {l' waited : List ℕ} {size left : ℕ} → take size l ≡ waited → size ≤ length l → left ≤ length waited

@@ -4,8 +4,6 @@ use lib.ListN.{set, drop_of_length-le}
 use lib.Seq.{length-take-le, take_all, take_at}
 use mathlib.Core.List.{append-nil}
 use borrow.Author.Tests.{eq-eqb, ne_eqb, eqb-true, eqb-false}
-use borrow.Rule.Slice.PartMut.{put_mid}
-use Rattle.replay.proofs.Lists.{all_waiting, first_waiting, last_waiting}
 use Rattle.model.specs.Bytes.{space, little, digits}
 use Rattle.model.specs.Program.{shown, printed}
 use Rattle.model.specs.Records.{record_head}
@@ -23,31 +21,31 @@ shown_length (b ∷ l) = ap suc (shown_length l)
 abbrev pub byte_shown : ℕ → ℕ
 byte_shown b = cond (eqb b space) 0x5F b
 
--- so many bytes of a frame are shown
-abbrev pub shown_up_to : ℕ → List ℕ → List ℕ
-shown_up_to i l = shown (take i l) ++ drop i l
+-- so many bytes of a frame are shown, over what was there
+abbrev pub shown_up_to : ℕ → List ℕ → List ℕ → List ℕ
+shown_up_to i l o = shown (take i l) ++ drop i o
 
-shown_after : (i : ℕ) (l : List ℕ) → i < length l → set (shown_up_to i l) i (byte_shown (get_or (shown_up_to i l) i 0)) ≡ shown_up_to (suc i) l
-shown_after i [] h = absurd (omega arith)
-shown_after zero (b ∷ l) h = refl
-shown_after (suc i) (b ∷ l) h = ap (byte_shown b ∷◌) (shown_after i l (omega arith))
+shown_after : (i : ℕ) (l o : List ℕ) → i < length l → length o ≡ length l
+    → set (shown_up_to i l o) i (byte_shown (get_or l i 0)) ≡ shown_up_to (suc i) l o
+shown_after i [] o h e = absurd (omega arith)
+shown_after i (b ∷ l) [] h e = absurd (omega arith)
+shown_after zero (b ∷ l) (x ∷ o) h e = refl
+shown_after (suc i) (b ∷ l) (x ∷ o) h e = ap (byte_shown b ∷◌) (shown_after i l o (omega arith) (omega arith))
 
-pub shown_next : {f : List ℕ} (i : ℕ) (l : List ℕ) → i < length l → f ≡ shown_up_to i l
-    → set f i (byte_shown (get_or f i 0)) ≡ shown_up_to (i + 1) l
-shown_next i l h e = rw (add-one, e) (shown_after i l h)
+pub shown_next : {f : List ℕ} (i : ℕ) (l o : List ℕ) → i < length l → length o ≡ length l → f ≡ shown_up_to i l o
+    → set f i (byte_shown (get_or l i 0)) ≡ shown_up_to (i + 1) l o
+shown_next i l o h g e = rw (add-one, e) (shown_after i l o h g)
 
-pub shown_all : {f : List ℕ} (i : ℕ) (l : List ℕ) → length l ≤ i → f ≡ shown_up_to i l → f ≡ shown l
-shown_all i l h e = rw (take_all i l h, drop_of_length-le l {i = i} h) at e ∙ append-nil (shown l)
+pub shown_all : {f : List ℕ} (i : ℕ) (l o : List ℕ) → length l ≤ i → length o ≡ length l → f ≡ shown_up_to i l o → f ≡ shown l
+shown_all i l o h g e = rw (take_all i l h, drop_of_length-le o {i = i} (omega arith)) at e ∙ append-nil (shown l)
 
--- the last bytes of those that wait are shown
-pub shown_behind : (l waited frame : List ℕ) {s : List ℕ} {from size : ℕ} → take size l ≡ waited ++ frame → size ≤ length l
-    → from ≡ length waited → s ≡ shown (take (size - from) (drop from l)) → take size (put_mid from (size - from) l s) ≡ waited ++ shown frame
-shown_behind l waited frame {s = s} {from = from} {size = size} e h at f =
-    let n = all_waiting l waited frame e h at in
-    let k : s ≡ shown frame = f ∙ ap shown (last_waiting l waited frame e h at) in
-    let long : length (waited ++ shown frame) ≡ size = omega (arith, length-append waited (shown frame), shown_length frame) in
-    rw (first_waiting l waited frame e h at, k, ← append_assoc waited (shown frame) (drop (size - from) (drop from l)))
-    (take_at (waited ++ shown frame) (drop (size - from) (drop from l)) size long)
+-- a frame shown behind the bytes that wait
+pub shown_behind : (l p frame : List ℕ) {waited s : List ℕ} {size end : ℕ} → take size l ≡ waited → size ≤ length l → s ≡ shown frame
+    → end ≡ size + length frame → take end (take size l ++ (s ++ p)) ≡ waited ++ shown frame
+shown_behind l p frame {waited = waited} {size = size} {end = end} e h f g =
+    let long : length (waited ++ shown frame) ≡ end =
+    omega (arith, length-append waited (shown frame), shown_length frame, ap length e, length-take-le size l h) in
+    rw (e, f, ← append_assoc waited (shown frame) p) (take_at (waited ++ shown frame) p end long)
 
 -- ==== a line
 
@@ -113,7 +111,9 @@ module _ (left waited : List ℕ) {all : List ℕ} (so_far : waited ++ printed (
       → w ++ printed (lines_in behind) ≡ all
   lines_on front behind p e =
       let next = lines_next left front behind p in
-      rw (e, append_assoc, append_assoc) (ap (λ (z : List ℕ). waited ++ z) (sym next) ∙ so_far)
+      let rest = printed (lines_in behind) in
+      ap (λ (z : List ℕ). z ++ rest) e ∙ append_assoc (waited ++ line_in front) (0x0A ∷ []) rest
+      ∙ append_assoc waited (line_in front) (0x0A ∷ rest) ∙ ap (λ (z : List ℕ). waited ++ z) (sym next) ∙ so_far
 
   pub lines_all : whole_size left ≡ 0 → waited ≡ all
   lines_all e = sym (append-nil waited) ∙ ap (λ (z : List ℕ). waited ++ z) (sym (lines_none left e)) ∙ so_far

@@ -4,6 +4,8 @@ use Rattle.model.specs.Limits.{session_count, output_least}
 use Rattle.model.specs.Program.{State, all_given, printed}
 use Rattle.model.specs.Erased.{erase_world}
 use Rattle.table.specs.Table.{decode, table_formed}
+use Rattle.replay.specs.declared.TheConstants.{BUFFER}
+use Rattle.replay.specs.declared.Program.{Program}
 use Rattle.replay.specs.Whole.{too_long, records, waits}
 
 -- a table means a state: it has as many sessions, is well formed where the state is, and has then the state's world, but for the numbers
@@ -34,6 +36,10 @@ pub record Follows (f : State → State) (room : ℕ) (t waited t' waits : List 
   pub new : List ℕ
   pub leads : Leads f t new t'
   pub behind : Behind room waited new waits
+
+-- the same of the program: p has become q
+abbrev pub ProgramFollows : (State → State) → Program → Program → Type 0
+ProgramFollows f p q = Follows f BUFFER p.table p.lines q.table q.lines
 
 -- ==== what was read, which nothing says, and what was written out
 

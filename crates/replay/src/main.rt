@@ -1,7 +1,7 @@
 // The test program: house records on standard input, a line for each output record and each refusal on standard output.
 #![tactic(auto)]
 
-ghost use Rattle.std.specs.Prelude.{◌≡◌, true, false, cond, eqb, [], ◌∷◌, ◌++◌, suc, ◌+◌, ◌-◌, ◌≤◌, ◌<◌, length, take, drop, map, MatchOption};
+ghost use Rattle.std.specs.Prelude.{◌≡◌, false, cond, eqb, [], ◌∷◌, ◌++◌, suc, ◌+◌, ◌-◌, ◌≤◌, ◌<◌, length, drop, MatchOption};
 ghost use Rattle.model.specs.Limits.{output_least};
 ghost use Rattle.model.specs.Bytes.{space, digits};
 ghost use Rattle.model.specs.Records.{record_head};
@@ -9,7 +9,7 @@ ghost use Rattle.model.specs.Program.{shown as shown_bytes, bytes_record_kind, i
 ghost use Rattle.model.specs.Program.{fed, given as given_state, all_given};
 ghost use Rattle.controller.specs.Contract.{Outcome};
 ghost use Rattle.replay.specs.Lines.{line_in, lines_in, text_of};
-ghost use Rattle.replay.specs.States.{room_made, Behind, Follows, Filled, OneTurn, Ran};
+ghost use Rattle.replay.specs.States.{room_made, Behind, ProgramFollows, Filled, OneTurn, Ran};
 ghost use Rattle.replay.specs.Whole.{Announces, whole_size, Parted, too_long, records, waits};
 
 use controller::Answer;
@@ -22,7 +22,8 @@ const PAYLOAD_LONGEST: u64 = 8192;
 // How many bytes of the input, and of the lines, wait at most.
 const BUFFER: usize = 65536;
 
-// The kinds of record that stand for the calls of a session, of session 0 and of the last one; and the kind of a tick.
+// The kinds of record, by the numbers that the input has, that stand for the calls of a session, of session 0 and of the last one; and the
+// kind of a tick.
 const SESSION_GREATEST: u64 = 15;
 
 const OPEN_RECORD_KIND: u64 = 16;
@@ -78,11 +79,12 @@ fn shown_byte(b: u8) -> u8
 
 // A frame's bytes, spaces as `_`.
 #[tactic(auto, using(crate::proofs::Printed::shown_next, crate::proofs::Printed::shown_all))]
-fn shown(frame: &mut [u8])
-    ensures { frame.new ≡ shown_bytes frame.old }
+fn shown(frame: &[u8], out: &mut [u8])
+    requires { length out.old ≡ length frame.now }
+    ensures { out.new ≡ shown_bytes frame.now }
 {
-    for b in frame.iter_mut() {
-        *b = shown_byte(*b);
+    for (i, &b) in frame.iter().enumerate() {
+        out[i] = shown_byte(b);
     }
 }
 
@@ -168,14 +170,14 @@ impl Lines {
     }
 
     // A frame's bytes, spaces as `_`.
-    #[tactic(auto, using(crate::proofs::Lists::size_waiting, crate::proofs::Printed::shown_behind))]
+    #[tactic(auto, using(crate::proofs::Printed::shown_behind))]
     fn put_shown(&mut self, frame: &[u8])
         requires { length self.old + length frame.now ≤ BUFFER }
         ensures { self.new ≡ self.old ++ shown_bytes frame.now }
     {
-        let from = self.size;
-        self.put(frame);
-        shown(&mut self.bytes[from..self.size]);
+        let end = self.size + frame.len();
+        shown(frame, &mut self.bytes[self.size..end]);
+        self.size = end;
     }
 
     // The line of an output record: a frame has a payload, the order to close has none.
@@ -263,8 +265,8 @@ struct Program {
 impl Program {
     // Received bytes: one call at least, and with what is left of them again until nothing is, or a call is refused.
     fn feed(&mut self, session: u64, bytes: &[u8])
-        ensures { Follows (λ x. fed (suc (length bytes.now)) x session bytes.now) BUFFER
-            self.old.table self.old.lines self.new.table self.new.lines }
+        ensures { ProgramFollows (λ x. fed (suc (length bytes.now)) x session bytes.now) self.old
+            self.new }
     {
         let mut left = bytes;
         loop {
@@ -308,7 +310,7 @@ impl Program {
     // One record, as a slice.
     fn given(&mut self, slice: &[u8])
         requires { record_head ≤ length slice.now }
-        ensures { Follows (λ x. given_state x slice.now) BUFFER self.old.table self.old.lines self.new.table self.new.lines }
+        ensures { ProgramFollows (λ x. given_state x slice.now) self.old self.new }
     {
         let record_kind = text::little(slice, 2, 2);
         match record_kind {
@@ -324,8 +326,7 @@ impl Program {
 
     // Serves the whole records that an input begins with; what waits behind them.
     fn serve<'a>(&mut self, input: &'a [u8]) -> &'a [u8]
-        ensures follows { Follows (λ x. all_given x (records input.now)) BUFFER
-            self.old.table self.old.lines self.new.table self.new.lines }
+        ensures follows { ProgramFollows (λ x. all_given x (records input.now)) self.old self.new }
         ensures left { result.now ≡ waits input.now }
     {
         let mut left = input;

@@ -3,5 +3,5 @@ use Rattle.std.proofs.Common.{◌≡◌}
 use Rattle.replay.proofs.Printed.{shown_up_to}
 use Rattle.replay.proofs.shown.Given as goal
 
-abbrev pub invariant-loop-b : goal.invariant-loop-b
-invariant-loop-b l = l.frame ≡ shown_up_to l.b-index l.fn.frame
+abbrev pub invariant-loop-i : goal.invariant-loop-i
+invariant-loop-i l = l.out ≡ shown_up_to l.i l.fn.frame l.fn.out
