@@ -118,10 +118,9 @@ fn common(table: &[u8]) -> Common
     requires { Table table.now }
     ensures { Shows result (decode table.now).shared }
 {
-    let granted = session::is_granted(settings(table));
     Common {
-        granted,
-        newest: shared::last(&table[0..SHARED]),
+        granted: session::is_granted(settings(table)),
+        newest: last(table),
         kept: shared::count(&table[0..SHARED]),
     }
 }
