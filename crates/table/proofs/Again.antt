@@ -43,7 +43,8 @@ record_long s bs = omega arith
 pub alike : {a b : Asked} → true ≡ sameb the_type a.kind b.kind && (eqb a.revision b.revision && beq a.no_acknowledge b.no_acknowledge)
     → a ≡ b
 alike {a} {b} e =
-    let parts = (and-eq-true_iff (sameb the_type a.kind b.kind) (eqb a.revision b.revision && beq a.no_acknowledge b.no_acknowledge)).0 (sym e) in
+    let parts = (and-eq-true_iff (sameb the_type a.kind b.kind)
+    (eqb a.revision b.revision && beq a.no_acknowledge b.no_acknowledge)).0 (sym e) in
     let kind : a.kind ≡ b.kind = same_true the_type (search rules) _ _ parts.0 in
     search rules
 

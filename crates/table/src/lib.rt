@@ -66,7 +66,7 @@ pub fn is_formed(table: &[u8]) -> bool
     requires { table_least ≤ length table.now }
     ensures { result ≡ table_formed table.now }
 {
-    if !shared::is_formed(&table[..SHARED]) {
+    if !shared::is_formed(&table[0..SHARED]) {
         return false;
     }
     for s in 0..SESSION_COUNT {
@@ -92,7 +92,7 @@ pub fn last(table: &[u8]) -> u64
     requires { Table table.now }
     ensures { (result ≡ (decode table.now).shared.last) × (result < suc number_greatest) }
 {
-    shared::last(&table[..SHARED])
+    shared::last(&table[0..SHARED])
 }
 
 // The identifier in force, as it stands.
@@ -101,7 +101,7 @@ pub fn in_force(table: &[u8]) -> &[u8]
     requires { Table table.now }
     ensures { (result.now ≡ (decode table.now).shared.in_force) × (length result.now ≡ identifier_length) }
 {
-    shared::in_force(&table[..SHARED])
+    shared::in_force(&table[0..SHARED])
 }
 
 // The settings' payload, as it stands.
@@ -110,7 +110,7 @@ pub fn settings(table: &[u8]) -> &[u8]
     requires { Table table.now }
     ensures { (result.now ≡ settings_part (shared_area table.now)) × (length result.now ≡ settings_length) }
 {
-    shared::settings(&table[..SHARED])
+    shared::settings(&table[0..SHARED])
 }
 
 // What the tests of a message look at of what all sessions share.
@@ -121,7 +121,7 @@ fn common(table: &[u8]) -> Common
     Common {
         granted: session::is_granted(settings(table)),
         newest: last(table),
-        kept: shared::count(&table[..SHARED]),
+        kept: shared::count(&table[0..SHARED]),
     }
 }
 
@@ -135,7 +135,7 @@ pub fn start(table: &mut [u8], payload: &[u8])
     for s in 0..SESSION_COUNT {
         region::start(&mut table[range_of(s)]);
     }
-    shared::start(&mut table[..SHARED], payload);
+    shared::start(&mut table[0..SHARED], payload);
 }
 
 // ---- an opening, a hang-up
@@ -393,8 +393,8 @@ fn note(table: &mut [u8], kind: Kind, notice: &[u8])
     ensures { Notes table.old (place_of kind) notice.now table.new }
 {
     match kind {
-        Kind::Identifiers => shared::put_in_force(&mut table[..SHARED], notice),
-        Kind::Tightenings => shared::remember(&mut table[..SHARED], notice),
+        Kind::Identifiers => shared::put_in_force(&mut table[0..SHARED], notice),
+        Kind::Tightenings => shared::remember(&mut table[0..SHARED], notice),
         Kind::Alarms => {}
     }
 }
@@ -434,7 +434,7 @@ fn told_by<'a>(table: &'a [u8], run: &'a [u8], reply: Option<Reply>) -> &'a [u8]
     ensures { result.now ≡ told_so (shared_area table.now) run.now reply }
 {
     match reply {
-        Some(Reply::Kept { number }) => shared::kept(&table[..SHARED], number),
+        Some(Reply::Kept { number }) => shared::kept(&table[0..SHARED], number),
         _ => run,
     }
 }
@@ -477,7 +477,7 @@ pub fn receive(table: &mut [u8], out: &mut [u8], to: To, bytes: &[u8], end: usiz
         out.new }
 {
     if end < bytes.len() {
-        return end_run(table, out, to, &bytes[..end]);
+        return end_run(table, out, to, &bytes[0..end]);
     }
     lengthen(table, to.session, bytes);
     to.at

@@ -8,7 +8,8 @@ use Rattle.replay.proofs.Called.{called_follows}
 use Rattle.replay.proofs.Records.{given_bytes, given_call}
 use Rattle.replay.proofs.Turns.{is_below, is_above}
 use Rattle.replay.proofs.Program.given.Goals as goal
-use Rattle.replay.proofs.Program.given.Goals.{in_default-via-then-record_kind-lt48, in_default-via-else-record_kind-lt48+else-record_kind-lt64}
+use Rattle.replay.proofs.Program.given.Goals.{in_default-via-then-record_kind-lt48}
+use Rattle.replay.proofs.Program.given.Goals.{in_default-via-else-record_kind-lt48+else-record_kind-lt64}
 
 pub returns-in-48-to-63 : goal.returns-in-48-to-63
 returns-in-48-to-63 c =
