@@ -65,7 +65,8 @@ module _ {s room : ℕ} {bs t waited t' waits left o t₁ o₁ waits₁ rest : L
     pub more : ℕ
     pub enough : length left < suc more
     pub follows : Follows (λ x. called (f.so_far x) (bytes s left)) room t waited t₁ waits₁
-    pub goes_on : (x : State) → Means t x → cond on (fed more (called (f.so_far x) (bytes s left)) s rest) (called (f.so_far x) (bytes s left))
+    pub goes_on : (x : State) → Means t x
+        → cond on (fed more (called (f.so_far x) (bytes s left)) s rest) (called (f.so_far x) (bytes s left))
         ≡ fed (suc (length bs)) x s bs
 
   next : (on : Bool) → on ≡ (eqb r.number 0 && not (eqb (length rest) 0)) → Next on
@@ -95,5 +96,6 @@ module _ {s room : ℕ} {bs t waited t' waits left o t₁ o₁ waits₁ rest : L
       }
 
   -- nothing is left, or the call is refused
-  pub feeding_ends : false ≡ (eqb r.number 0 && not (eqb (length rest) 0)) → Follows (λ x. fed (suc (length bs)) x s bs) room t waited t₁ waits₁
+  pub feeding_ends : false ≡ (eqb r.number 0 && not (eqb (length rest) 0))
+      → Follows (λ x. fed (suc (length bs)) x s bs) room t waited t₁ waits₁
   feeding_ends g = let n = next false g in follows_as n.goes_on n.follows

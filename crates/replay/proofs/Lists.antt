@@ -23,6 +23,7 @@ kept l {l' = l'} {waited = waited} {size = size} {left = left} e h f m =
     let back : size - (size - left) ≡ left = omega arith in
     let d = length-drop (size - left) l in
     let front = take-paste l 0 (drop (size - left) l) left (omega arith) (omega arith) in
-    ap (take left) (m ∙ ap (paste l 0 (drop (size - left) l)) back) ∙ sym (ap (λ (k : ℕ). take k (paste l 0 (drop (size - left) l) left)) (zero-add left)) ∙ front
+    ap (take left) (m ∙ ap (paste l 0 (drop (size - left) l)) back)
+    ∙ sym (ap (λ (k : ℕ). take k (paste l 0 (drop (size - left) l) left)) (zero-add left)) ∙ front
     ∙ ap (λ (k : ℕ). take k (drop (size - left) l)) (sym back) ∙ sym (drop-take (size - left) size l (omega arith))
     ∙ ap₂ drop (ap (λ (k : ℕ). k - left) n) e
