@@ -66,8 +66,7 @@ module _ {s room : ℕ} {bs t waited t' waits left o t₁ o₁ waits₁ rest : L
     pub enough : length left < suc more
     pub follows : Follows (λ x. called (f.so_far x) (bytes s left)) room t waited t₁ waits₁
     pub goes_on : (x : State) → Means t x
-        → cond on (fed more (called (f.so_far x) (bytes s left)) s rest) (called (f.so_far x) (bytes s left))
-        ≡ fed (suc (length bs)) x s bs
+        → cond on (fed more (called (f.so_far x) (bytes s left)) s rest) (called (f.so_far x) (bytes s left)) ≡ fed (suc (length bs)) x s bs
 
   next : (on : Bool) → on ≡ (eqb r.number 0 && not (eqb (length rest) 0)) → Next on
   next on g = go f.more f.enough f.rest

@@ -123,8 +123,8 @@ pub parted : (bs : List ℕ) (n : ℕ) → Announces bs n → n ≤ payload_long
     → MatchOption r (whole_size bs ≡ 0) (λ p. Parted bs p.0.now p.1.now)
 parted bs n a h None k = sym (size_missing bs (omega arith))
 parted bs n a h (Some p) k =
-    let size : record_head + n ≡ whole_size bs =
-    ap (λ (m : ℕ). record_head + m) a.payload_length ∙ size_whole bs (omega arith) (omega arith) in
+    let whole = size_whole bs (omega arith) (omega arith) in
+    let size : record_head + n ≡ whole_size bs = ap (λ (m : ℕ). record_head + m) a.payload_length ∙ whole in
     record {
       some = omega arith;
       first = k.1 ∙ ap (λ (m : ℕ). take m bs) size;
