@@ -330,7 +330,7 @@ fn put_torques<const FIRST: u64>(out: &mut [u8], at: usize, told: &[u8]) -> usiz
     put_number(out, at, FIRST + 3, 6, text::little(told, 47, 4))
 }
 
-// Angles: minimum, maximum, target, the angle.
+// Angles: minimum, maximum, target, the angle (no twin of the torques: the rows and the places of the values are others).
 fn put_angles<const FIRST: u64>(out: &mut [u8], at: usize, told: &[u8]) -> usize
     requires { (FIRST < 97) × Tellable angle_rows told.now at (length out.old) }
     ensures { FieldsPut (told_values tightening_items told.now) FIRST angle_rows out.old at result
@@ -646,7 +646,7 @@ pub struct To {
     pub at: usize,
 }
 
-// The kinds of the records to session 0: the session's number is added.
+// The kinds of the records to session 0: the session's number is added (so they are numbers, and no enum).
 const FRAME_RECORD_KIND: u64 = 256;
 
 const CLOSE_RECORD_KIND: u64 = 512;

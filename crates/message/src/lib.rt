@@ -175,7 +175,7 @@ static MESSAGES: [Row; 14] = [
 fn listed_of(mid: u64) -> Option<Row>
     ensures { row_found result ≡ entry_of mid }
 {
-    // A `match`, since a search in the table would store the table on the stack at each message.
+    // A `match` on the number, as 01 asks: what comes to its closing arm is unknown.
     match mid {
         1 => Some(MESSAGES[0]),
         3 => Some(MESSAGES[1]),
