@@ -10,12 +10,11 @@ use lib.ListN.{length, get_or, set, replicate, drop, length-set, length-replicat
 use lib.Seq.{get_or-set_other}
 use borrow.Author.Tests.{eqb-true, eqb-false, ltb-true, ltb-false}
 use Rattle.std.specs.Prelude.{Option, Some, None}
-use Rattle.std.specs.Option.{MatchOption}
 use Rattle.std.specs.List.{position, position_or_len}
 use Rattle.std.proofs.lemmas.List.Recursion.{is_position_or_len}
 use Rattle.std.proofs.lemmas.List.Sums.{prefix_len-le-length}
 use Rattle.text.proofs.Lists.{drop_next}
-use Rattle.places.specs.Free.{lacks, is_free, marked, marked_by_all, first_free}
+use Rattle.places.specs.Free.{lacks, is_free, marked, marked_by_all, first_free, FirstFree}
 
 -- ==== how many marks there are
 
@@ -193,13 +192,11 @@ unfolding first_free
 first_is = is_position_or_len first_free no_mark refl (λ u used. ap (cond (eqb u 0) 0) (omega arith))
 
 -- what the first one without a mark is, where there is one
-pub first_found : (used : List ℕ) (r : Option ℕ) → r ≡ position no_mark used
-    → MatchOption r (first_free used ≡ length used) (λ p. (p ≡ first_free used) × (p < length used))
+pub first_found : (used : List ℕ) (r : Option ℕ) → r ≡ position no_mark used → FirstFree used r
 first_found used r e = rw e (go (ltb (position_or_len no_mark used) (length used)) refl)
   where
     go : (b : Bool) → ltb (position_or_len no_mark used) (length used) ≡ b
-        → MatchOption (cond b (Some (position_or_len no_mark used)) None) (first_free used ≡ length used)
-        (λ p. (p ≡ first_free used) × (p < length used))
+        → FirstFree used (cond b (Some (position_or_len no_mark used)) None)
     go true h = (sym (first_is used), ltb-true (position_or_len no_mark used) (length used) h)
     go false h =
         let past = ltb-false (position_or_len no_mark used) (length used) h in

@@ -3,10 +3,9 @@
 #![tactic(auto)]
 
 ghost use Rattle.std.specs.Prelude.{◌≡◌, true, ◌<◌, length};
-ghost use Rattle.std.specs.Option.{MatchOption};
 ghost use Rattle.model.specs.Bytes.{all};
 ghost use Rattle.places.specs.Places.{place_count, places_size, is_place, place_in, Putting, Puts};
-ghost use Rattle.places.specs.Free.{marked, first_free as first_free_of};
+ghost use Rattle.places.specs.Free.{marked, FirstFree};
 
 use model::RESULT_LENGTH;
 
@@ -51,7 +50,7 @@ pub fn mark(used: &mut [u8], held: &[u8])
 
 // The first that is not marked, if there is one.
 pub fn first_free(used: &[u8]) -> Option<usize>
-    ensures { MatchOption result (first_free_of used.now ≡ length used.now) (λ p. (p ≡ first_free_of used.now) × (p < length used.now)) }
+    ensures { FirstFree used.now result }
 {
     used.iter().position(|&mark| mark == 0)
 }
