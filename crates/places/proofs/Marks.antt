@@ -202,3 +202,8 @@ first_found used r e = rw e (go (ltb (position_or_len no_mark used) (length used
         let past = ltb-false (position_or_len no_mark used) (length used) h in
         let most = prefix_len-le-length (λ u. not (no_mark u)) used in
         first_is used ∙ omega arith
+
+-- there is one, where it is known to be one of them
+pub first_some : (used : List ℕ) (r : Option ℕ) → FirstFree used r → first_free used < length used → r ≡ Some (first_free used)
+first_some used None f h = absurd (omega arith)
+first_some used (Some p) f h = ap Some f.0
