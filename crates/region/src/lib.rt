@@ -19,15 +19,16 @@ ghost use Rattle.places.specs.Places.{place_count};
 ghost use Rattle.places.specs.Free.{marked};
 ghost use Rattle.lane.specs.Kinds.{lane_size};
 ghost use Rattle.lane.specs.Lane.{Reading, lane_formed};
-ghost use Rattle.region.specs.Region.{region_size, head_area, run_area, lane_at as lane_begins, lane_in, subscriptions_in};
+ghost use Rattle.region.specs.Region.{region_size, head_area, run_area, lane_at as lane_begins, lane_range, lane_in, subscriptions_in};
 ghost use Rattle.region.specs.Region.{session_of, region_formed, Good, run_bytes as bytes_of_run, Becomes, Changes, LanesCleared};
 ghost use Rattle.region.specs.Region.{places_held};
 ghost use Rattle.region.specs.Said.{DealtTo, DealtToAll, TickStays, Ticks, Answers, Taking, Holds};
-ghost use Rattle.region.specs.Said.{StandsSo, Ruled, CarryingOut, CarriesOut, ended_by, EndingWhole, RunEnds, KeptEnds};
+ghost use Rattle.region.specs.Said.{StandsSo, Rules, CarryingOut, CarriesOut, ended_by, RunEnds};
 
 use message::{Common, Standing};
 use model::{IDENTIFIER_LENGTH, KIND_COUNT, KINDS, Kind};
 use session::{Decision, Deed, Phase, Reply, Session, Take, Taken};
+use std::ops::Range;
 
 // How many bytes it has.
 pub const SIZE: usize = 288;
@@ -50,6 +51,14 @@ fn lane_at(kind: Kind) -> usize
     }
 }
 
+// Where it is.
+fn range_of(kind: Kind) -> Range<usize>
+    ensures { result ≡ lane_range (place_of kind) }
+{
+    let at = lane_at(kind);
+    at..at + lane::size(kind)
+}
+
 // ---- reading
 
 // The lane of a kind, as it stands.
@@ -58,9 +67,7 @@ pub fn lane(region: &[u8], kind: Kind) -> &[u8]
     ensures bytes { result.now ≡ lane_in (place_of kind) region.now }
     ensures size { length result.now ≡ lane_size (place_of kind) }
 {
-    let a = lane_at(kind);
-    let e = a + lane::size(kind);
-    &region[a..e]
+    &region[range_of(kind)]
 }
 
 // The bytes of the run that it has received last, as they stand.
@@ -144,9 +151,7 @@ fn deal(region: &mut [u8], kind: Kind, deed: Deed) -> bool
     requires { Good region.old }
     ensures { (read : Reading) → DealtTo read (place_of kind) (deed_of deed) region.old result region.new }
 {
-    let a = lane_at(kind);
-    let e = a + lane::size(kind);
-    lane::deal(&mut region[a..e], kind, deed)
+    lane::deal(&mut region[range_of(kind)], kind, deed)
 }
 
 // A second passes for the notices of every kind: of which a copy is due.
@@ -156,9 +161,7 @@ fn beat(region: &mut [u8]) -> [bool; KIND_COUNT]
 {
     let mut due = [false; KIND_COUNT];
     for kind in KINDS {
-        let a = lane_at(kind);
-        let e = a + lane::size(kind);
-        due[kind.place()] = lane::beat(&mut region[a..e], kind);
+        due[kind.place()] = lane::beat(&mut region[range_of(kind)], kind);
     }
     due
 }
@@ -170,9 +173,7 @@ fn clear_lanes(region: &mut [u8])
     ensures { LanesCleared region.old region.new }
 {
     for kind in KINDS {
-        let a = lane_at(kind);
-        let e = a + lane::size(kind);
-        lane::clear(&mut region[a..e], kind);
+        lane::clear(&mut region[range_of(kind)], kind);
     }
 }
 
@@ -261,9 +262,7 @@ pub fn take(region: &mut [u8], kind: Kind, taken: Taken, slot: &[u8])
     requires { Taking (place_of kind) taken slot.now region.old }
     ensures { Holds (place_of kind) taken.take slot.now region.old region.new }
 {
-    let a = lane_at(kind);
-    let e = a + lane::size(kind);
-    lane::take(&mut region[a..e], kind, taken, slot);
+    lane::take(&mut region[range_of(kind)], kind, taken, slot);
 }
 
 // The places that it has open or waiting are marked as used.
@@ -327,13 +326,13 @@ struct Ruling {
     identified: Option<[u8; IDENTIFIER_LENGTH]>,
 }
 
-// On a run of so many bytes, of which `run` are kept, to one that stands so.
-#[tactic(auto, using(crate::proofs::Rulings::data_few))]
-fn rule(x: Session, standing: Standing, run: &[u8], count: usize) -> Ruling
-    requires { length run.now ≤ run_kept }
-    ensures { Ruled x standing (record { kept = run.now; count = count }) result }
+// On a run of so many bytes, of which `run` are kept.
+fn rule(region: &[u8], common: Common, run: &[u8], count: usize) -> Ruling
+    requires { Good region.now × (length run.now ≤ run_kept) }
+    ensures { Rules common region.now (record { kept = run.now; count = count }) result }
 {
-    let decision = session::decide(x, standing, run, count);
+    let x = load(region);
+    let decision = session::decide(x, standing(region, x, common), run, count);
     let identified = if decision.identifies {
         Some(announce(frame::data_field(run)))
     } else {
@@ -391,43 +390,21 @@ fn left_to_say(ruling: Ruling, whole: bool, due: Option<Kind>) -> Ended
     }
 }
 
-// A run ends that stands whole in the slice: it is read there.
-fn end_whole(region: &mut [u8], common: Common, bytes: &[u8]) -> Ended
-    requires { EndingWhole region.old }
-    ensures { (read : Reading) → RunEnds read common bytes.now region.old result region.new }
-{
-    let x = load(region);
-    let ruling = rule(
-        x,
-        standing(region, x, common),
-        run::kept_of(bytes),
-        run::count_of(bytes),
-    );
-    let due = carry_out(region, ruling.decision);
-    left_to_say(ruling, true, due)
-}
-
-// A run ends that began in earlier slices: it is read where it is kept.
-fn end_kept(region: &mut [u8], common: Common) -> Ended
-    requires { Good region.old }
-    ensures { (read : Reading) → KeptEnds read common region.old result region.new }
-{
-    let x = load(region);
-    let standing = standing(region, x, common);
-    let area = &region[RUN_AT..RUN_END];
-    let ruling = rule(x, standing, run::kept(area), run::count(area));
-    let due = carry_out(region, ruling.decision);
-    left_to_say(ruling, false, due)
-}
-
-// The bytes end a run; what all sessions share is told as far as the tests look at it.
+// The bytes end a run; what all sessions share is told as far as the tests look at it. A run that begins in the slice stands whole in it,
+// and is read there; one that began in an earlier slice is read where it is kept.
 pub fn end_run(region: &mut [u8], common: Common, bytes: &[u8]) -> Ended
     requires { Good region.old }
     ensures { (read : Reading) → RunEnds read common bytes.now region.old result region.new }
 {
     if run::count(&region[RUN_AT..RUN_END]) == 0 {
-        return end_whole(region, common, bytes);
+        let ruling = rule(region, common, run::kept_of(bytes), run::count_of(bytes));
+        let due = carry_out(region, ruling.decision);
+        return left_to_say(ruling, true, due);
     }
     lengthen(region, bytes);
-    end_kept(region, common)
+    let now: &[u8] = region;
+    let area = &now[RUN_AT..RUN_END];
+    let ruling = rule(now, common, run::kept(area), run::count(area));
+    let due = carry_out(region, ruling.decision);
+    left_to_say(ruling, false, due)
 }

@@ -68,7 +68,7 @@ module _ (a : List ℕ) (h : Area a) where
       let b : among n ≡ true = sym (ap is_there (at_number n) ∙ there_if (among n) (result_at n)) ∙ e in at_number n ∙ rw b
 
 -- what the tests of a message look at of what all share
-pub shown : {x : Common} (t : List ℕ) → Table t → x.granted ≡ (settings_in t).granted → x.newest ≡ last_of (shared_area t)
+pub shown : {x : Common} (t : List ℕ) → Table t → x.granted ≡ (settings_in t).granted → x.newest ≡ (decode t).shared.last
     → x.kept ≡ count_of (shared_area t) → Shows x (decode t).shared
 unfolding decode
 shown {x} t h granted newest kept = record { granted = granted; remembers = remembers (shared_area t) (shared_good t h) x newest kept }

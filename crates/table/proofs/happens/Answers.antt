@@ -1,16 +1,12 @@
 -- `table::happens` meets its contract.
 use Rattle.model.specs.Named.{place_of}
-use Rattle.model.specs.Local.{event}
 use Rattle.model.specs.World.{World}
 use Rattle.frame.specs.Places.{event_in}
 use Rattle.table.specs.Table.{noted}
 use Rattle.table.proofs.Alone.{went_one}
-use Rattle.table.proofs.Events.{takers_below, still_to, becomes_then}
+use Rattle.table.proofs.Events.{takers_below, becomes_then}
 use Rattle.table.proofs.Places.{copied_then}
 use Rattle.table.proofs.happens.Goals as goal
-
-pub note-requires : goal.note-requires
-note-requires c = still_to (event (event_in (place_of c.args.kind) c.args.notice.now)) c.requires.0 c.tell-told.ensures.becomes
 
 pub returns : goal.returns
 returns c =

@@ -1,21 +1,13 @@
 -- `table::is_formed` meets its contract.
-use Rattle.std.proofs.Common.{refl, sym, ap, ◌∙◌, length}
+use Rattle.std.proofs.Common.{sym, ap, ◌∙◌}
 use Rattle.text.proofs.Areas.{pass_on, pass_stops, pass_ends}
 use Rattle.region.specs.Region.{region_formed}
 use Rattle.table.specs.Table.{table_formed}
-use Rattle.table.proofs.Regions.{length_in}
 use Rattle.table.proofs.is_formed.Goals as goal
 
 pub returns-then-not-is_formed : goal.returns-then-not-is_formed
 unfolding table_formed
 returns-then-not-is_formed c = rw (sym c.is_formed.ensures ∙ c.if-not-is_formed.true)
-
-pub loop-s-init : goal.loop-s-init
-loop-s-init c = record { left = refl }
-
-pub is_formed-requires-in-loop-s : goal.is_formed-requires-in-loop-s
-is_formed-requires-in-loop-s c =
-    ap length c.region_of.ensures.bytes ∙ length_in c.args.table.now c.loop-s.s c.requires c.loop-s-test.true
 
 pub returns-then-not-is_formed-2 : goal.returns-then-not-is_formed-2
 unfolding table_formed

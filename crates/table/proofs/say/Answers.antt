@@ -1,11 +1,8 @@
 -- `table::say` meets its contract: the kind is the one of that place.
 use Rattle.region.proofs.Walks.{in_order}
-use Rattle.table.proofs.Says.{saying_none, open_lent, saying_due, saying_none_due, all_said}
+use Rattle.table.proofs.Says.{open_lent, saying_due, saying_none_due}
 use Rattle.table.proofs.say.Goals as goal
 use Rattle.table.proofs.say.Goals.{then-due-place, else-due-place}
-
-pub loop-kind-init : goal.loop-kind-init
-loop-kind-init c = saying_none _ _ _ _
 
 pub say_one-at-requires : goal.say_one-at-requires
 say_one-at-requires c =
@@ -27,6 +24,3 @@ loop-kind-preserved c =
           let due = rw (c.place.ensures, there) at w.if-due-place.false in
           rw (w.out-is, w.at-is) (saying_none_due c.requires c.loop-kind.invariant few due)
     ]
-
-pub returns : goal.returns
-returns c = all_said c.requires c.loop-kind.invariant c.loop-kind-test.false

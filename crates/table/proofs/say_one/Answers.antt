@@ -1,10 +1,7 @@
 -- `table::say_one` meets its contract.
 use Rattle.model.proofs.Named.{place_within}
-use Rattle.table.proofs.Says.{is_open, first_lent, first_said}
+use Rattle.table.proofs.Says.{first_lent, first_said}
 use Rattle.table.proofs.say_one.Goals as goal
-
-pub open_notice-requires : goal.open_notice-requires
-open_notice-requires c = is_open (place_within _) c.requires
 
 pub put_copy-requires : goal.put_copy-requires
 put_copy-requires c = first_lent (place_within _) c.requires c.open_notice.ensures

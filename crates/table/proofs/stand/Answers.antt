@@ -1,17 +1,11 @@
 -- `table::stand` meets its contract, by whether it stands already.
-use Rattle.table.proofs.Places.{put_there, stands_there, putting}
+use Rattle.table.proofs.Places.{put_there, stands_there}
 use Rattle.table.proofs.stand.Goals as goal
 
 pub returns-in-Some : goal.returns-in-Some
 returns-in-Some c =
     let stands = rw c.in-Some.is at c.requires.stands in
     rw c.in-Some.is (stands_there _ c.requires.table stands)
-
-pub free_place-free-requires : goal.free_place-free-requires
-free_place-free-requires c = (c.requires.table, c.requires.room)
-
-pub put-requires : goal.put-requires
-put-requires c = putting c.requires c.free_place-free.ensures.0
 
 pub returns-in-None : goal.returns-in-None
 returns-in-None c =

@@ -1,9 +1,6 @@
 -- `table::start` meets its contract.
-use Rattle.table.proofs.Starts.{closed_none, closed_next, closed_all}
+use Rattle.table.proofs.Starts.{closed_next, closed_all}
 use Rattle.table.proofs.start.Goals as goal
-
-pub loop-s-init : goal.loop-s-init
-loop-s-init c = closed_none _
 
 pub loop-s-preserved : goal.loop-s-preserved
 loop-s-preserved c =

@@ -3,31 +3,11 @@ use Rattle.std.proofs.Common.{◌≡◌, ◌+◌, ◌^◌, cond, sym, ◌∙◌,
 use Rattle.model.specs.Named.{place_of}
 use Rattle.frame.specs.Places.{event_in}
 use Rattle.table.specs.Table.{decode}
-use Rattle.table.proofs.Turns.{turns_none, turn_lent, turns_next, turns_all}
+use Rattle.table.proofs.Turns.{turns_next, turns_all}
 use Rattle.table.proofs.Events.{bit_of, adds, sums_next, sums_all}
-use Rattle.table.proofs.Places.{copying_none, copying_next, copied_all}
+use Rattle.table.proofs.Places.{copying_next, copied_all}
 use Rattle.table.proofs.tell.Goals as goal
 use Rattle.table.proofs.tell.Goals.{then-tell_session, else-tell_session}
-
-pub loop-session-init : goal.loop-session-init
-loop-session-init c = record {
-  turns = turns_none _ _ _ _ _ c.requires.0.table;
-  sums = record { sum = omega arith };
-  last = tt;
-  stands = λ e. tt;
-  one_copy = copying_none _ _ _;
-}
-
-pub tell_session-requires : goal.tell_session-requires
-tell_session-requires c =
-    let i = c.loop-session.invariant in
-    let p = c.requires in
-    record {
-      lent = turn_lent i.turns p.1 c.loop-session-test.true;
-      notice = p.0.place;
-      last = i.last;
-      stands = i.stands;
-    }
 
 pub overflow_add-taken : goal.overflow_add-taken
 overflow_add-taken c = omega (arith, adds c.loop-session.invariant.sums c.loop-session-test.true)

@@ -1,15 +1,8 @@
 -- `table::tick` meets its contract.
-use Rattle.model.specs.Local.{tick}
 use Rattle.model.specs.World.{ticks}
 use Rattle.table.proofs.Alone.{went_one}
-use Rattle.table.proofs.Turns.{turns_none, turn_lent, turns_next, turns_all}
+use Rattle.table.proofs.Turns.{turns_next, turns_all}
 use Rattle.table.proofs.tick.Goals as goal
-
-pub loop-session-init : goal.loop-session-init
-loop-session-init c = turns_none _ tick _ _ _ c.requires.0
-
-pub tick_session-at-requires : goal.tick_session-at-requires
-tick_session-at-requires c = turn_lent c.loop-session.invariant c.requires.1 c.loop-session-test.true
 
 pub loop-session-preserved : goal.loop-session-preserved
 loop-session-preserved c =
