@@ -10,9 +10,5 @@ use session::Session;
 pub fn longest_wait(most: u32) -> u64
     ensures { result ≡ longest most }
 {
-    if most == 0 {
-        0
-    } else {
-        (most as u64 - 1) * Session::GIVEN_UP_AT
-    }
+    u64::from(most.saturating_sub(1)) * Session::GIVEN_UP_AT
 }

@@ -13,10 +13,5 @@ const MOST_REPEATS: u64 = (Session::GIVEN_UP_AT - 1) / Session::COPY_EVERY;
 pub fn copies_due(ticks: u64) -> u64
     ensures { result ≡ copies_due ticks }
 {
-    let repeats = ticks / Session::COPY_EVERY;
-    if repeats < MOST_REPEATS {
-        1 + repeats
-    } else {
-        1 + MOST_REPEATS
-    }
+    1 + (ticks / Session::COPY_EVERY).min(MOST_REPEATS)
 }
