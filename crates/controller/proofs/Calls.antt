@@ -1,6 +1,6 @@
 -- How the outcome of a call is put together: of a refusal, and of what was done.
 use mathlib.Core.Path.{◌≡◌, refl, sym, ap, ◌∙◌}
-use Prim.Native.Nat.{ℕ, zero, suc, ◌≤◌}
+use Prim.Native.Nat.{ℕ, suc, ◌≤◌}
 use native.Mathlib.Nat.{zero-add}
 use native.Mathlib.Omega.{arith}
 use mathlib.Core.List.{List, [], ◌∷◌, ◌++◌}
@@ -19,7 +19,9 @@ use Rattle.text.proofs.Puts.{put_nothing}
 use Rattle.table.specs.Table.{decode, Table, Becomes, Went}
 use Rattle.table.proofs.Regions.{so_many_sessions}
 use Rattle.table.proofs.Alone.{opens_silent, hangs_up_silent}
-use Rattle.refusal.specs.Numbers.{number}
+use Rattle.refusal.specs.declared.Refusal.{Refusal}
+use Rattle.refusal.specs.declared.Refusal.TheVariants as why
+use Rattle.refusal.specs.Numbers.{number, number_of}
 use Rattle.controller.specs.declared.Answer.{Answer}
 use Rattle.controller.specs.Contract.{Said, said, Outcome}
 
@@ -27,6 +29,18 @@ use Rattle.controller.specs.Contract.{Said, said, Outcome}
 still : (t : List ℕ) → decode t ≡ uncounted (decode t)
 unfolding decode
 still t = refl
+
+-- no refusal has the number 0
+number_above : (why : Refusal) → (n : ℕ) × (number_of why ≡ suc n)
+number_above why.TableShort = (0, refl)
+number_above why.TableNotWellFormed = (1, refl)
+number_above why.OutputShort = (2, refl)
+number_above why.SessionTooHigh = (3, refl)
+number_above why.SessionClosed = (4, refl)
+number_above why.SessionNotClosed = (5, refl)
+number_above why.ToolRecordBad = (6, refl)
+number_above why.LastNumberReached = (7, refl)
+number_above why.SettingsBad = (8, refl)
 
 module _ (c : Call) (t o : List ℕ) where
   abbrev outcome : ℕ → Said
@@ -37,39 +51,38 @@ module _ (c : Call) (t o : List ℕ) where
   said_is n e = ap outcome (sym e)
 
   -- a refusal: nothing is altered
-  pub refuse : {n : ℕ} {r : Answer} → n ≡ number t (length o) c → (n ≡ 0 → ⊥)
-      → r ≡ record { number = n; consumed = 0; written = 0; taken = 0 } → Outcome c t o r t o
-  refuse {n = zero} e ne p = absurd (ne refl)
-  refuse {n = suc n} {r = r} e ne p =
-      let s = said_is (suc n) e in
+  pub refuse : {r : Answer} (why : Refusal) → number_of why ≡ number t (length o) c
+      → r ≡ record { number = number_of why; consumed = 0; written = 0; taken = 0 } → Outcome c t o r t o
+  refuse {r} why e p =
+      let a = number_above why in
+      let s = said_is (suc a.0) (sym a.1 ∙ e) in
       record {
-        answer = rw s p;
+        answer = rw (s, ← a.1) p;
         meaning = rw s (still t);
         output = rw s;
         fits = rw p (omega arith);
         size = refl;
         past = refl;
-        formed = λ z. absurd (omega (arith, ap (λ (x : Answer). x.number) p));
+        formed = λ z. absurd (omega (arith, a.1, ap (λ (x : Answer). x.number) p));
         kept = λ _. refl;
       }
 
   -- the moments of the call have passed, and what they emit stands in the output
-  pub finish : {n : ℕ} {r : Answer} (at consumed taken : ℕ) {t' o' : List ℕ} → n ≡ number t (length o) c → n ≡ 0
-      → r ≡ record { number = 0; consumed = consumed; written = at; taken = taken } → consumed ≡ (does (decode t) c).consumed → taken
-      ≡ (does (decode t) c).taken
-      → Went t o 0 (moments (decode t) c) at t' o' → at ≤ output_least → Outcome c t o r t' o'
-  finish {n} {r} at consumed taken e z p ec et w h =
-      let s = said_is 0 (sym z ∙ e) in
+  pub finish : {at consumed taken : ℕ} {t' o' : List ℕ} → 0 ≡ number t (length o) c → consumed ≡ (does (decode t) c).consumed
+      → taken ≡ (does (decode t) c).taken → Went t o 0 (moments (decode t) c) at t' o' → at ≤ output_least
+      → Outcome c t o (record { number = 0; consumed = consumed; written = at; taken = taken }) t' o'
+  finish {at} e ec et w h =
+      let s = said_is 0 e in
       let ew : at ≡ length (output (emitted (decode t) (moments (decode t) c))) = w.bytes.place ∙ zero-add _ in
       record {
-        answer = rw (s, ← ec, ← et, ← ew) p;
+        answer = rw (s, ← ec, ← et, ← ew);
         meaning = rw s w.table.meaning;
         output = rw s w.bytes.output;
-        fits = rw p h;
+        fits = h;
         size = w.table.size;
         past = w.table.past;
         formed = λ _. w.table.table.formed;
-        kept = λ ne. absurd (ne (ap (λ (x : Answer). x.number) p));
+        kept = λ ne. absurd (ne refl);
       }
 
 -- no moment has passed

@@ -2,7 +2,6 @@ pub mod Calls
 pub mod Determined
 pub mod Traces
 pub mod Results
-pub mod Tools
 pub mod Erased
 pub mod Outputs
 pub mod Modelled

@@ -8,12 +8,14 @@ ghost use Rattle.model.specs.Sharing.{reported};
 ghost use Rattle.model.specs.Calls.{start as start_call, open_session, hang_up_session, bytes as bytes_call, one_tick, tool};
 ghost use Rattle.frame.specs.Places.{result_of};
 ghost use Rattle.table.specs.Table.{decode};
+ghost use Rattle.refusal.specs.Numbers.{number_of};
 ghost use Rattle.controller.specs.Contract.{Outcome};
 ghost use Rattle.controller.specs.Tool.{Keeping, Reporting, Reports};
 
 use frame::To;
-use model::{IDENTIFIER_LENGTH, NUMBER_LENGTH, RESULT_LENGTH, TIGHTENING_LENGTH};
-use record::RecordKind;
+use model::{IDENTIFIER_LENGTH, Kind, NUMBER_LENGTH, RESULT_LENGTH, TIGHTENING_LENGTH};
+use record::ToolRecord;
+use refusal::Refusal;
 use table::Told;
 
 // 01, "What the product holds": what each call answers.
@@ -25,73 +27,67 @@ pub struct Answer {
     pub taken: u64,
 }
 
-// The number of a refusal: nothing is done.
-fn refused(number: u64) -> Answer
-    ensures { result ≡ record { number = number; consumed = 0; written = 0; taken = 0 } }
-{
-    Answer {
-        number,
-        consumed: 0,
-        written: 0,
-        taken: 0,
-    }
-}
+// A call that is done: each count that is not 0 is put in.
+const DONE: Answer = Answer {
+    number: 0,
+    consumed: 0,
+    written: 0,
+    taken: 0,
+};
 
-fn done(consumed: u64, written: u64, taken: u64) -> Answer
-    ensures { result ≡ record { number = 0; consumed = consumed; written = written; taken = taken } }
+// One that is refused: nothing is done.
+fn refused(why: Refusal) -> Answer
+    ensures { result ≡ record { number = number_of why; consumed = 0; written = 0; taken = 0 } }
 {
     Answer {
-        number: 0,
-        consumed,
-        written,
-        taken,
+        number: why.number(),
+        ..DONE
     }
 }
 
 pub fn start(table: &mut [u8], settings: &[u8]) -> Answer
     ensures { Outcome (start_call settings.now) table.old [] result table.new [] }
 {
-    let n = refusal::start(table, settings);
-    if n != 0 {
-        return refused(n);
+    if let Err(why) = refusal::start(table, settings) {
+        return refused(why);
     }
     table::start(table, record::payload(settings));
-    done(0, 0, 0)
+    DONE
 }
 
 pub fn open(table: &mut [u8], output: &mut [u8], session: u64) -> Answer
     ensures { Outcome (open_session session) table.old output.old result table.new
         output.new }
 {
-    let n = refusal::open(table, output.len(), session);
-    if n != 0 {
-        return refused(n);
+    if let Err(why) = refusal::open(table, output.len(), session) {
+        return refused(why);
     }
     table::open(table, session);
-    done(0, 0, 0)
+    DONE
 }
 
 pub fn hang_up(table: &mut [u8], output: &mut [u8], session: u64) -> Answer
     ensures { Outcome (hang_up_session session) table.old output.old result table.new
         output.new }
 {
-    let n = refusal::hang_up(table, output.len(), session);
-    if n != 0 {
-        return refused(n);
+    if let Err(why) = refusal::hang_up(table, output.len(), session) {
+        return refused(why);
     }
     table::hang_up(table, session);
-    done(0, 0, 0)
+    DONE
 }
 
 pub fn tick(table: &mut [u8], output: &mut [u8]) -> Answer
     ensures { Outcome one_tick table.old output.old result table.new output.new }
 {
-    let n = refusal::tick(table, output.len());
-    if n != 0 {
-        return refused(n);
+    if let Err(why) = refusal::tick(table, output.len()) {
+        return refused(why);
     }
     let at = table::tick(table, output, 0);
-    done(0, at as u64, 0)
+    Answer {
+        written: at as u64,
+        ..DONE
+    }
 }
 
 // ---- received bytes
@@ -101,54 +97,55 @@ pub fn bytes(table: &mut [u8], output: &mut [u8], session: u64, slice: &[u8]) ->
     ensures { Outcome (bytes_call session slice.now) table.old output.old result table.new
         output.new }
 {
-    let n = refusal::hang_up(table, output.len(), session);
-    if n != 0 {
-        return refused(n);
+    if let Err(why) = refusal::hang_up(table, output.len(), session) {
+        return refused(why);
     }
     let end = run::ends_at(slice);
     let at = table::receive(table, output, To { session, at: 0 }, slice, end);
-    done(run::consumed(slice, end) as u64, at as u64, 0)
+    Answer {
+        consumed: run::consumed(slice, end) as u64,
+        written: at as u64,
+        ..DONE
+    }
 }
 
 // What a call left of the bytes that it was given, for the next call.
 pub fn rest(bytes: &[u8], answer: Answer) -> &[u8]
     ensures { result.now ≡ drop answer.consumed bytes.now }
 {
-    let consumed = answer.consumed as usize;
-    text::rest(bytes, consumed)
+    text::rest(bytes, answer.consumed as usize)
 }
 
 // ---- a tool record
 
 // A tightening as it is kept: the tool record's payload with the identifier that is meant now, and its number, the next one.
-fn put_result<'a>(table: &'a [u8], payload: &'a [u8], place: &mut [u8])
-    requires { Keeping table.now payload.now place.old }
+fn put_result(table: &[u8], payload: &[u8], place: &mut [u8; RESULT_LENGTH])
+    requires { Keeping table.now payload.now }
     ensures { tightened (result_of place.new) ≡ reported (decode table.now).shared
         (tightening (identifier_in payload.now) (tightening_of payload.now)) }
 {
-    text::copy(payload, place, 0);
-    let identifier = record::meant(&payload[0..IDENTIFIER_LENGTH], table::in_force(table));
-    text::copy(identifier, place, 0);
+    let identifier = record::meant(&payload[..IDENTIFIER_LENGTH], table::in_force(table));
+    place[..IDENTIFIER_LENGTH].copy_from_slice(identifier);
+    place[IDENTIFIER_LENGTH..TIGHTENING_LENGTH].copy_from_slice(&payload[IDENTIFIER_LENGTH..]);
     let number = table::last(table) + 1;
     text::put_little(place, TIGHTENING_LENGTH, NUMBER_LENGTH, number);
 }
 
-// The event of a tool record, if it is good.
-fn report(table: &mut [u8], output: &mut [u8], slice: &[u8], record_kind: RecordKind) -> Told
-    requires { Reporting record_kind table.old output.old slice.now }
+// The event of a tool record.
+fn report(table: &mut [u8], output: &mut [u8], slice: &[u8], tool_record: ToolRecord) -> Told
+    requires { Reporting tool_record table.old output.old slice.now }
     ensures { Reports slice.now table.old output.old result.at result.taken table.new
         output.new }
 {
     let payload = record::payload(slice);
-    match record_kind {
-        RecordKind::Bad => Told { at: 0, taken: 0 },
-        RecordKind::Tightening => {
+    match tool_record {
+        ToolRecord::Tightening => {
             let mut place = [0; RESULT_LENGTH];
             put_result(table, payload, &mut place);
-            table::happens(table, output, 0, model::TIGHTENINGS, &place)
+            table::happens(table, output, 0, Kind::Tightenings, &place)
         }
-        RecordKind::Scanned => table::happens(table, output, 0, model::IDENTIFIERS, payload),
-        RecordKind::Alarm => table::happens(table, output, 0, model::ALARMS, payload),
+        ToolRecord::Scanned => table::happens(table, output, 0, Kind::Identifiers, payload),
+        ToolRecord::Alarm => table::happens(table, output, 0, Kind::Alarms, payload),
     }
 }
 
@@ -156,11 +153,16 @@ pub fn tool_record(table: &mut [u8], output: &mut [u8], slice: &[u8]) -> Answer
     ensures { Outcome (tool slice.now) table.old output.old result table.new
         output.new }
 {
-    let record_kind = record::tool_record_kind(slice);
-    let n = refusal::tool_record(table, output.len(), record_kind);
-    if n != 0 {
-        return refused(n);
+    let found = record::tool_record_kind(slice);
+    match refusal::tool_record(table, output.len(), found) {
+        Err(why) => refused(why),
+        Ok(tool_record) => {
+            let told = report(table, output, slice, tool_record);
+            Answer {
+                written: told.at as u64,
+                taken: told.taken,
+                ..DONE
+            }
+        }
     }
-    let told = report(table, output, slice, record_kind);
-    done(0, told.at as u64, told.taken)
 }

@@ -1,17 +1,17 @@
 -- What the writer of each frame's data leaves is that frame's data.
 use mathlib.Core.Path.{◌≡◌, refl, sym, ap, subst, ◌∙◌}
-use Prim.Native.Nat.{ℕ, zero, suc, ◌+◌, ◌-◌, ◌≤◌, ◌<◌}
+use Prim.Native.Nat.{ℕ, suc, ◌+◌, ◌-◌, ◌≤◌, ◌<◌}
 use native.Mathlib.Omega.{arith}
 use mathlib.Core.Bool.{true, false}
-use mathlib.Core.List.{List, [], ◌∷◌, append-nil, ◌++◌}
-use lib.ListN.{length, get_or, take, drop}
+use mathlib.Core.List.{List, append-nil, ◌++◌}
+use lib.ListN.{length, get_or}
 use lib.Seq.{take-add, take_all}
 use Rattle.model.specs.Limits.{identifier_length}
 use Rattle.model.specs.Bytes.{digits}
-use Rattle.model.specs.Records.{scanned_items, tightening_items, result_items, alarm_items}
-use Rattle.model.specs.Layouts.{Row, Layout, layouts_0052, layouts_0061, layout_at, first_of, controller_rows, identifier_rows}
-use Rattle.model.specs.Layouts.{layout_0065, result_rows, alarm_rows, later_rows, older_counts, newest_count, later_count}
-use Rattle.model.specs.Layouts.{characters, data_from, data_of, data_length, rows_length}
+use Rattle.model.specs.Records.{scanned_items, result_items, alarm_items}
+use Rattle.model.specs.Layouts.{Row, Layout, layouts_0052, layouts_0061, layout_at, first_of, identifier_rows}
+use Rattle.model.specs.Layouts.{result_rows, alarm_rows, later_rows, older_counts, newest_count, later_count}
+use Rattle.model.specs.Layouts.{characters, data_from, data_of, data_length}
 use Rattle.model.specs.Kinds.{identifiers, tightenings, kind_at}
 use Rattle.model.specs.Named.{place_of}
 use Rattle.model.specs.declared.Kind.{Kind}
@@ -20,9 +20,9 @@ use Rattle.model.proofs.Revisions.{later_layout, count_grows}
 use Rattle.text.specs.Put.{Put, Written}
 use Rattle.text.proofs.Puts.{put_as}
 use Rattle.frame.specs.Places.{place_items, place_size}
-use Rattle.frame.specs.Layout.{Payloads, held, set_values, told_values, DataPut, FieldsPut, FixedPut, Room, later, added, data_in}
+use Rattle.frame.specs.Layout.{Payloads, held, told_values, DataPut, FieldsPut, FixedPut, later, added, data_in}
 use Rattle.frame.specs.declared.Content.{Content}
-use Rattle.frame.specs.declared.Content.TheVariants.{Started, Refused, Accepted, Kept, Notice}
+use Rattle.frame.specs.declared.Content.TheVariants.{Refused, Accepted, Notice}
 use Rattle.frame.specs.declared.Asked.{Asked}
 use Rattle.frame.proofs.Fields.{fields_then, fixed}
 
@@ -52,19 +52,7 @@ later_0061 revision h =
     ∙ ap (λ (k : ℕ). first_of later_rows true k) e
     ∙ ap (λ (rows : List Row). record { numbered = true; rows = rows }) (take-add 46 (n - 46) later_rows)
 
--- ==== what is added: of an older revision no more, and above the newest no more than of that
-
-rows_fewer : (m n : ℕ) (rows : List Row) → m ≤ n → rows_length true (take m rows) ≤ rows_length true (take n rows)
-rows_fewer zero n rows h = omega arith
-rows_fewer (suc m) zero rows h = absurd (omega arith)
-rows_fewer (suc m) (suc n) [] h = omega arith
-rows_fewer (suc m) (suc n) (row ∷ rows) h = let r = rows_fewer m n rows (omega arith) in omega arith
-
-pub added_room : (older revision at size : ℕ) → older ≤ revision → Room (added revision) at size → Room (added older) at size
-added_room older revision at size h room =
-    let n = count_grows older revision h in
-    let fewer = rows_fewer (later_count older - 46) (later_count revision - 46) (drop 46 later_rows) (omega arith) in
-    omega (arith, fewer, room)
+-- ==== what is added: above the newest revision no more than of that
 
 module _ {o o' : List ℕ} {at r : ℕ} (revision : ℕ) where
   added_as : (count : ℕ) → later_count revision ≡ count → FixedPut 47 (later 47 (count - 46)) o at r o'
@@ -131,10 +119,6 @@ module _ (b : Payloads) {o o' : List ℕ} {at r : ℕ} where
   pub data_as : {content content' : Content} → content ≡ content' → DataPut content' b o at r o' → DataPut content b o at r o'
   data_as e w = subst (λ (x : Content). DataPut x b o at r o') (sym e) w
 
-  pub started : FieldsPut (set_values b.settings) 1 controller_rows o at r o' → DataPut Started b o at r o'
-  unfolding data_in
-  started w = w
-
   pub refused : (mid error : ℕ) → Written o at 6 (digits 4 mid ++ digits 2 error) r o' → DataPut (Refused mid error) b o at r o'
   unfolding data_in data_from characters digits
   refused mid error w = w
@@ -142,7 +126,3 @@ module _ (b : Payloads) {o o' : List ℕ} {at r : ℕ} where
   pub accepted : (mid : ℕ) → (r ≡ at + 4) × Put o at (digits 4 mid) r o' → DataPut (Accepted mid) b o at r o'
   unfolding data_in data_from characters digits
   accepted mid w = record { place = w.0; put = w.1 }
-
-  pub kept : (n : ℕ) → FieldsPut (told_values tightening_items b.told) 1 (layout_0065 n).rows o at r o' → DataPut (Kept n) b o at r o'
-  unfolding data_in data_from characters
-  kept n w = w

@@ -1,4 +1,3 @@
-pub mod Tests
 pub mod Headers
 pub mod Fields
 pub mod Contents

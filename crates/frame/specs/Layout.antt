@@ -1,8 +1,10 @@
 -- The data of the frames that we write, of values that stand as bytes. 01, "Frames we write".
-use Rattle.std.specs.Prelude.{◌≡◌, ℕ, ◌+◌, ◌-◌, ◌≤◌, true, List, [], ◌++◌, length, take, drop, replicate}
+use Rattle.std.specs.Prelude.{◌≡◌, ℕ, ◌+◌, ◌-◌, ◌≤◌, true, List, [], ◌∷◌, ◌++◌, length, take, drop, replicate}
 use Rattle.model.specs.Records.{Item, values, settings_items, tightening_items, tightening_length}
-use Rattle.model.specs.Layouts.{Sources, Row, unreported, Layout, label, data_from, data_of, data_length, rows_length, layout_at}
-use Rattle.model.specs.Layouts.{layout_0002, layout_0004, layout_0005, layout_0065, kept_rows, result_rows, later_rows, later_count}
+use Rattle.model.specs.Limits.{identifier_length}
+use Rattle.model.specs.Layouts.{Sources, told, Row, number, text, unreported, Layout, label, data_from, data_of, data_length, rows_length}
+use Rattle.model.specs.Layouts.{layout_at, layout_0002, layout_0004, layout_0005, layout_0065, kept_rows, result_rows, later_rows}
+use Rattle.model.specs.Layouts.{later_count}
 use Rattle.model.specs.Kinds.{kind_at}
 use Rattle.model.specs.Named.{place_of}
 use Rattle.text.specs.Put.{Put, Written}
@@ -91,6 +93,10 @@ results n count = take count (drop (n - 1) result_rows)
 
 abbrev pub later : ℕ → ℕ → List Row
 later n count = take count (drop (n - 1) later_rows)
+
+-- of either the identifier, the job in so many digits, the parameter set
+abbrev pub program_rows : ℕ → List Row
+program_rows job_digits = text identifier_length told 0 ∷ number job_digits told 1 ∷ number 3 told 2 ∷ []
 
 -- what a revision from 2 on has behind those of revision 2
 abbrev pub added : ℕ → List Row

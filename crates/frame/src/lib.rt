@@ -7,7 +7,7 @@ ghost use Rattle.model.specs.Bytes.{space, digit_0, is_digit, is_space, all, dig
 ghost use Rattle.model.specs.Runs.{is_flag as is_flag_byte, revision_of, is_message as is_message_run};
 ghost use Rattle.model.specs.Records.{record_head, payload_length, settings_of, settings_length, scanned_items};
 ghost use Rattle.model.specs.Records.{limit_of, tightening_items, tightening_length, result_items, alarm_items, alarm_length};
-ghost use Rattle.model.specs.Layouts.{limit_characters, controller_rows, identifier_rows, layout_0065, torque_rows, angle_rows};
+ghost use Rattle.model.specs.Layouts.{limit_characters, controller_rows, identifier_rows, layout_0065, torque_rows, angle_rows, time_rows};
 ghost use Rattle.model.specs.Layouts.{result_rows, alarm_rows};
 ghost use Rattle.model.specs.Kinds.{kind_at, copy_most, reply_most};
 ghost use Rattle.model.specs.Named.{place_of};
@@ -31,6 +31,7 @@ ghost use Rattle.frame.specs.Layout.{
   RoomFrom,
   results,
   later,
+  program_rows,
   added,
   kept_first,
   kept_last,
@@ -185,11 +186,11 @@ pub enum Content {
     // 0002
     Started,
     // 0004: the message that is answered, and the error
-    Refused(u64, u64),
+    Refused { mid: u64, error: u64 },
     // 0005: the message that is answered
-    Accepted(u64),
+    Accepted { mid: u64 },
     // 0065: the number of the tightening, which is what is told
-    Kept(u64),
+    Kept { number: u64 },
     // a notice, as it was subscribed to
     Notice(Asked),
 }
@@ -219,46 +220,34 @@ fn put_text(out: &mut [u8], at: usize, field: u64, s: &[u8]) -> usize
     text::copy_few(s, out, at)
 }
 
-// A text of spaces.
-fn put_blank(out: &mut [u8], at: usize, field: u64, width: usize) -> usize
+// One byte, so many times: spaces for a text that is not there, zeros for what the tool does not report, a number or a text.
+fn put_filled(out: &mut [u8], at: usize, field: u64, width: usize, b: u8) -> usize
     requires { at + (2 + width) ≤ length out.old }
-    ensures { Written out.old at (2 + width) (numbered field (spaces width)) result out.new }
+    ensures { Written out.old at (2 + width) (numbered field (replicate width b)) result out.new }
 {
     let at = text::put_digits(out, at, FIELD_DIGITS, field);
-    text::fill(out, at, width, b' ')
+    text::fill(out, at, width, b)
 }
 
-// A limit in so many characters: its digits, or spaces where it was never set.
+// A limit in so many characters: its digits, or spaces where it was never set, for which the tool's record has a number.
 fn put_limit(out: &mut [u8], at: usize, field: u64, width: usize, n: u64) -> usize
     requires { at + (2 + width) ≤ length out.old }
     ensures { Written out.old at (2 + width) (numbered field (limit_characters width (limit_of n))) result
         out.new }
 {
     if n == model::NEVER_SET {
-        return put_blank(out, at, field, width);
+        return put_filled(out, at, field, width, b' ');
     }
     put_number(out, at, field, width, n)
 }
 
-// What the tool does not report, a number or a text: zeros.
-fn put_zeros(out: &mut [u8], at: usize, field: u64, width: usize) -> usize
-    requires { at + (2 + width) ≤ length out.old }
-    ensures { Written out.old at (2 + width) (numbered field (replicate width digit_0)) result out.new }
-{
-    let at = text::put_digits(out, at, FIELD_DIGITS, field);
-    text::fill(out, at, width, b'0')
-}
-
-// So many of one width, the first of which has that number.
-fn put_unreported(out: &mut [u8], at: usize, field: u64, count: u64, width: usize) -> usize
+// What the tool does not report: so many fields of one width, the first of which has that number.
+fn put_unreported(out: &mut [u8], mut at: usize, field: u64, count: u64, width: usize) -> usize
     requires { RoomFrom field (unreported_rows count width) at (length out.old) }
     ensures { FixedPut field (unreported_rows count width) out.old at result out.new }
 {
-    let mut at = at;
-    let mut i = 0;
-    while i < count {
-        at = put_zeros(out, at, field + i, width);
-        i += 1;
+    for i in 0..count {
+        at = put_filled(out, at, field + i, width, b'0');
     }
     at
 }
@@ -292,67 +281,83 @@ fn put_parts(out: &mut [u8], at: usize, told: &[u8]) -> usize
         out.new }
 {
     let at = put_text(out, at, 1, told);
-    let at = put_blank(out, at, 2, IDENTIFIER_LENGTH);
-    let at = put_blank(out, at, 3, IDENTIFIER_LENGTH);
-    put_blank(out, at, 4, IDENTIFIER_LENGTH)
+    let at = put_filled(out, at, 2, IDENTIFIER_LENGTH, b' ');
+    let at = put_filled(out, at, 3, IDENTIFIER_LENGTH, b' ');
+    put_filled(out, at, 4, IDENTIFIER_LENGTH, b' ')
 }
 
-// Of 0061 and 0065, statuses: tightening, torque, angle.
-fn put_statuses(out: &mut [u8], at: usize, field: u64, told: &[u8]) -> usize
-    requires { (field < 97) × Tellable (results 9 3) told.now at (length out.old) }
-    ensures { FieldsPut (told_values tightening_items told.now) field (results 9 3) out.old at result
-        out.new }
-{
-    let at = put_number(out, at, field, 1, text::little(told, 32, 1));
-    let at = put_number(out, at, field + 1, 1, text::little(told, 33, 1));
-    put_number(out, at, field + 2, 1, text::little(told, 34, 1))
-}
-
-// Of 0061 in revision 1: identifier, job, parameter set, batch size, batch counter.
-fn put_batch(out: &mut [u8], at: usize, told: &[u8]) -> usize
-    requires { Tellable (results 4 5) told.now at (length out.old) }
-    ensures { FieldsPut (told_values tightening_items told.now) 4 (results 4 5) out.old at result
+// Of 0061, a part of a tightening: identifier, job, parameter set. The job's digits are not as many in each revision.
+fn put_program<const JOB_DIGITS: usize>(out: &mut [u8], at: usize, told: &[u8]) -> usize
+    requires { (tightening_length ≤ length told.now) × Room (program_rows JOB_DIGITS) at (length out.old) }
+    ensures { FieldsPut (told_values tightening_items told.now) 4 (program_rows JOB_DIGITS) out.old at result
         out.new }
 {
     let at = put_text(out, at, 4, &told[0..IDENTIFIER_LENGTH]);
-    let at = put_number(out, at, 5, 2, text::little(told, 25, 1));
-    let at = put_number(out, at, 6, 3, text::little(told, 26, 2));
-    let at = put_number(out, at, 7, 4, text::little(told, 28, 2));
-    put_number(out, at, 8, 4, text::little(told, 30, 2))
+    let at = put_number(out, at, 5, JOB_DIGITS, text::little(told, 25, 1));
+    put_number(out, at, 6, 3, text::little(told, 26, 2))
+}
+
+// Other parts, of which the first field has the number FIRST: batch size, batch counter.
+fn put_batch<const FIRST: u64>(out: &mut [u8], at: usize, told: &[u8]) -> usize
+    requires { (FIRST < 99) × Tellable (results 7 2) told.now at (length out.old) }
+    ensures { FieldsPut (told_values tightening_items told.now) FIRST (results 7 2) out.old at result
+        out.new }
+{
+    let at = put_number(out, at, FIRST, 4, text::little(told, 28, 2));
+    put_number(out, at, FIRST + 1, 4, text::little(told, 30, 2))
+}
+
+// Statuses: tightening, torque, angle.
+fn put_statuses<const FIRST: u64>(out: &mut [u8], at: usize, told: &[u8]) -> usize
+    requires { (FIRST < 98) × Tellable (results 9 3) told.now at (length out.old) }
+    ensures { FieldsPut (told_values tightening_items told.now) FIRST (results 9 3) out.old at result
+        out.new }
+{
+    let at = put_number(out, at, FIRST, 1, text::little(told, 32, 1));
+    let at = put_number(out, at, FIRST + 1, 1, text::little(told, 33, 1));
+    put_number(out, at, FIRST + 2, 1, text::little(told, 34, 1))
 }
 
 // Torques: minimum, maximum, target, the torque.
-fn put_torques(out: &mut [u8], at: usize, told: &[u8]) -> usize
-    requires { Tellable torque_rows told.now at (length out.old) }
-    ensures { FieldsPut (told_values tightening_items told.now) 12 torque_rows out.old at result
+fn put_torques<const FIRST: u64>(out: &mut [u8], at: usize, told: &[u8]) -> usize
+    requires { (FIRST < 97) × Tellable torque_rows told.now at (length out.old) }
+    ensures { FieldsPut (told_values tightening_items told.now) FIRST torque_rows out.old at result
         out.new }
 {
-    let at = put_limit(out, at, 12, 6, text::little(told, 35, 4));
-    let at = put_limit(out, at, 13, 6, text::little(told, 39, 4));
-    let at = put_limit(out, at, 14, 6, text::little(told, 43, 4));
-    put_number(out, at, 15, 6, text::little(told, 47, 4))
+    let at = put_limit(out, at, FIRST, 6, text::little(told, 35, 4));
+    let at = put_limit(out, at, FIRST + 1, 6, text::little(told, 39, 4));
+    let at = put_limit(out, at, FIRST + 2, 6, text::little(told, 43, 4));
+    put_number(out, at, FIRST + 3, 6, text::little(told, 47, 4))
 }
 
 // Angles: minimum, maximum, target, the angle.
-fn put_angles(out: &mut [u8], at: usize, told: &[u8]) -> usize
-    requires { Tellable angle_rows told.now at (length out.old) }
-    ensures { FieldsPut (told_values tightening_items told.now) 16 angle_rows out.old at result
+fn put_angles<const FIRST: u64>(out: &mut [u8], at: usize, told: &[u8]) -> usize
+    requires { (FIRST < 97) × Tellable angle_rows told.now at (length out.old) }
+    ensures { FieldsPut (told_values tightening_items told.now) FIRST angle_rows out.old at result
         out.new }
 {
-    let at = put_limit(out, at, 16, 5, text::little(told, 51, 4));
-    let at = put_limit(out, at, 17, 5, text::little(told, 55, 4));
-    let at = put_limit(out, at, 18, 5, text::little(told, 59, 4));
-    put_number(out, at, 19, 5, text::little(told, 63, 4))
+    let at = put_limit(out, at, FIRST, 5, text::little(told, 51, 4));
+    let at = put_limit(out, at, FIRST + 1, 5, text::little(told, 55, 4));
+    let at = put_limit(out, at, FIRST + 2, 5, text::little(told, 59, 4));
+    put_number(out, at, FIRST + 3, 5, text::little(told, 63, 4))
 }
 
-// Time, time of the last change of the parameter set, batch status, tightening number.
-fn put_times(out: &mut [u8], at: usize, told: &[u8]) -> usize
-    requires { (length told.now ≡ payload_length result_items) × Room (results 20 4) at (length out.old) }
-    ensures { FieldsPut (told_values result_items told.now) 20 (results 20 4) out.old at result
+// Time, time of the last change of the parameter set.
+fn put_times<const FIRST: u64>(out: &mut [u8], at: usize, told: &[u8]) -> usize
+    requires { (FIRST < 99) × Tellable time_rows told.now at (length out.old) }
+    ensures { FieldsPut (told_values tightening_items told.now) FIRST time_rows out.old at result
         out.new }
 {
-    let at = put_text(out, at, 20, &told[67..86]);
-    let at = put_text(out, at, 21, &told[86..105]);
+    let at = put_text(out, at, FIRST, &told[67..86]);
+    put_text(out, at, FIRST + 1, &told[86..105])
+}
+
+// The last fields in revision 1: batch status, tightening number.
+fn put_end(out: &mut [u8], at: usize, told: &[u8]) -> usize
+    requires { (length told.now ≡ payload_length result_items) × Room (results 22 2) at (length out.old) }
+    ensures { FieldsPut (told_values result_items told.now) 22 (results 22 2) out.old at result
+        out.new }
+{
     let at = put_number(out, at, 22, 1, text::little(told, 105, 1));
     put_number(out, at, 23, 10, text::little(told, 106, 4))
 }
@@ -364,72 +369,36 @@ fn put_result(out: &mut [u8], at: usize, settings: &[u8], told: &[u8]) -> usize
         out.old at result out.new }
 {
     let at = put_controller(out, at, settings);
-    let at = put_batch(out, at, told);
-    let at = put_statuses(out, at, 9, told);
-    let at = put_torques(out, at, told);
-    let at = put_angles(out, at, told);
-    put_times(out, at, told)
+    let at = put_program::<2>(out, at, told);
+    let at = put_batch::<7>(out, at, told);
+    let at = put_statuses::<9>(out, at, told);
+    let at = put_torques::<12>(out, at, told);
+    let at = put_angles::<16>(out, at, told);
+    let at = put_times::<20>(out, at, told);
+    put_end(out, at, told)
 }
 
-// 0061 from revision 2 on: identifier, job, parameter set, strategy, its options.
-fn put_later_program(out: &mut [u8], at: usize, told: &[u8]) -> usize
-    requires { Tellable (later 4 5) told.now at (length out.old) }
-    ensures { FieldsPut (told_values tightening_items told.now) 4 (later 4 5) out.old at result
-        out.new }
+// 0061 from revision 2 on: strategy and its options, which are not reported.
+fn put_strategy(out: &mut [u8], at: usize) -> usize
+    requires { Room (later 7 2) at (length out.old) }
+    ensures { FixedPut 7 (later 7 2) out.old at result out.new }
 {
-    let at = put_text(out, at, 4, &told[0..IDENTIFIER_LENGTH]);
-    let at = put_number(out, at, 5, 4, text::little(told, 25, 1));
-    let at = put_number(out, at, 6, 3, text::little(told, 26, 2));
     let at = put_unreported(out, at, 7, 1, 2);
     put_unreported(out, at, 8, 1, 5)
 }
 
-// Batch size, batch counter; statuses: tightening, batch.
-fn put_later_batch(out: &mut [u8], at: usize, told: &[u8]) -> usize
-    requires { Tellable (later 9 4) told.now at (length out.old) }
-    ensures { FieldsPut (told_values tightening_items told.now) 9 (later 9 4) out.old at result
-        out.new }
-{
-    let at = put_number(out, at, 9, 4, text::little(told, 28, 2));
-    let at = put_number(out, at, 10, 4, text::little(told, 30, 2));
-    let at = put_number(out, at, 11, 1, text::little(told, 32, 1));
-    put_number(out, at, 12, 1, text::little(told, 105, 1))
-}
-
-// Statuses: torque, angle; five that are not reported, and the error status.
+// Statuses: tightening, batch, torque, angle; five that are not reported, and the error status.
 fn put_later_statuses(out: &mut [u8], at: usize, told: &[u8]) -> usize
-    requires { Tellable (later 13 8) told.now at (length out.old) }
-    ensures { FieldsPut (told_values tightening_items told.now) 13 (later 13 8) out.old at result
+    requires { Tellable (later 11 10) told.now at (length out.old) }
+    ensures { FieldsPut (told_values tightening_items told.now) 11 (later 11 10) out.old at result
         out.new }
 {
+    let at = put_number(out, at, 11, 1, text::little(told, 32, 1));
+    let at = put_number(out, at, 12, 1, text::little(told, 105, 1));
     let at = put_number(out, at, 13, 1, text::little(told, 33, 1));
     let at = put_number(out, at, 14, 1, text::little(told, 34, 1));
     let at = put_unreported(out, at, 15, 5, 1);
     put_unreported(out, at, 20, 1, 10)
-}
-
-// Torques, as in revision 1, with other numbers.
-fn put_later_torques(out: &mut [u8], at: usize, told: &[u8]) -> usize
-    requires { Tellable torque_rows told.now at (length out.old) }
-    ensures { FieldsPut (told_values tightening_items told.now) 21 torque_rows out.old at result
-        out.new }
-{
-    let at = put_limit(out, at, 21, 6, text::little(told, 35, 4));
-    let at = put_limit(out, at, 22, 6, text::little(told, 39, 4));
-    let at = put_limit(out, at, 23, 6, text::little(told, 43, 4));
-    put_number(out, at, 24, 6, text::little(told, 47, 4))
-}
-
-// Angles, likewise.
-fn put_later_angles(out: &mut [u8], at: usize, told: &[u8]) -> usize
-    requires { Tellable angle_rows told.now at (length out.old) }
-    ensures { FieldsPut (told_values tightening_items told.now) 25 angle_rows out.old at result
-        out.new }
-{
-    let at = put_limit(out, at, 25, 5, text::little(told, 51, 4));
-    let at = put_limit(out, at, 26, 5, text::little(told, 55, 4));
-    let at = put_limit(out, at, 27, 5, text::little(told, 59, 4));
-    put_number(out, at, 28, 5, text::little(told, 63, 4))
 }
 
 // What the tool does not watch: rundown angle, current, selftap, prevail torque.
@@ -442,17 +411,15 @@ fn put_unmonitored(out: &mut [u8], at: usize) -> usize
     put_unreported(out, at, 35, 6, 6)
 }
 
-// Tightening number; job sequence number, sync number, the tool's serial number; the two times.
-fn put_later_end(out: &mut [u8], at: usize, told: &[u8]) -> usize
-    requires { (length told.now ≡ payload_length result_items) × Room (later 41 6) at (length out.old) }
-    ensures { FieldsPut (told_values result_items told.now) 41 (later 41 6) out.old at result
+// Tightening number; job sequence number, sync number, the tool's serial number.
+fn put_numbers(out: &mut [u8], at: usize, told: &[u8]) -> usize
+    requires { (length told.now ≡ payload_length result_items) × Room (later 41 4) at (length out.old) }
+    ensures { FieldsPut (told_values result_items told.now) 41 (later 41 4) out.old at result
         out.new }
 {
     let at = put_number(out, at, 41, 10, text::little(told, 106, 4));
     let at = put_unreported(out, at, 42, 2, 5);
-    let at = put_unreported(out, at, 44, 1, 14);
-    let at = put_text(out, at, 45, &told[67..86]);
-    put_text(out, at, 46, &told[86..105])
+    put_unreported(out, at, 44, 1, 14)
 }
 
 // 0061 in revision 2: the controller's fields, and a result's behind them.
@@ -462,13 +429,15 @@ fn put_later(out: &mut [u8], at: usize, settings: &[u8], told: &[u8]) -> usize
         out.old at result out.new }
 {
     let at = put_controller(out, at, settings);
-    let at = put_later_program(out, at, told);
-    let at = put_later_batch(out, at, told);
+    let at = put_program::<4>(out, at, told);
+    let at = put_strategy(out, at);
+    let at = put_batch::<9>(out, at, told);
     let at = put_later_statuses(out, at, told);
-    let at = put_later_torques(out, at, told);
-    let at = put_later_angles(out, at, told);
+    let at = put_torques::<21>(out, at, told);
+    let at = put_angles::<25>(out, at, told);
     let at = put_unmonitored(out, at);
-    put_later_end(out, at, told)
+    let at = put_numbers(out, at, told);
+    put_times::<45>(out, at, told)
 }
 
 // What revision 3 adds: the parameter set's name, the unit of the torques, the result type.
@@ -536,7 +505,7 @@ fn put_kept(out: &mut [u8], at: usize, number: u64, told: &[u8]) -> usize
         out.new }
 {
     let at = put_kept_batch(out, at, number, told);
-    let at = put_statuses(out, at, 5, told);
+    let at = put_statuses::<5>(out, at, told);
     put_kept_end(out, at, told)
 }
 
@@ -569,16 +538,17 @@ fn put_notice(out: &mut [u8], at: usize, asked: Asked, settings: &[u8], told: &[
     }
 }
 
-// Any frame.
+// Any frame. The settings and what is told are two parameters: with a struct of both a notice takes 15 instructions more.
+#[tactic(auto, unfolding(crate::specs::Layout::data_in, model::specs::Layouts::data_from, model::specs::Layouts::characters))]
 fn put_data(out: &mut [u8], at: usize, content: Content, settings: &[u8], told: &[u8]) -> usize
     requires { Layable content (payloads settings.now told.now) at (length out.old) }
     ensures { DataPut content (payloads settings.now told.now) out.old at result out.new }
 {
     match content {
         Content::Started => put_controller(out, at, settings),
-        Content::Refused(mid, error) => put_refused(out, at, mid, error),
-        Content::Accepted(mid) => text::put_digits(out, at, NUMBER_DIGITS, mid),
-        Content::Kept(number) => put_kept(out, at, number, told),
+        Content::Refused { mid, error } => put_refused(out, at, mid, error),
+        Content::Accepted { mid } => text::put_digits(out, at, NUMBER_DIGITS, mid),
+        Content::Kept { number } => put_kept(out, at, number, told),
         Content::Notice(asked) => put_notice(out, at, asked, settings, told),
     }
 }
@@ -586,7 +556,7 @@ fn put_data(out: &mut [u8], at: usize, content: Content, settings: &[u8], told: 
 // ---- the header of a frame
 
 // What it says.
-#[derive(Drop)]
+#[derive(Clone, Copy)]
 pub struct Heading {
     pub size: usize,
     pub mid: u64,
@@ -636,37 +606,34 @@ fn byte_12(no_acknowledge: bool) -> u8
 }
 
 // Of a notice: as it was subscribed to.
-fn notice_heading(size: usize, mid: u64, asked: Asked) -> Heading
+fn notice_heading(size: usize, asked: Asked) -> Heading
     ensures { result ≡ record {
       size = size;
-      mid = mid;
+      mid = (kind_at (place_of asked.kind)).notice;
       revision = asked.revision;
       byte_12 = notice_byte_12 asked.no_acknowledge;
     } }
 {
     Heading {
         size,
-        mid,
+        mid: notice_mid(asked.kind),
         revision: asked.revision,
         byte_12: byte_12(asked.no_acknowledge),
     }
 }
 
 // The header of a frame of so many bytes. The number and the length of a reply stand in an arm for each, so that the compiler knows their
-// digits.
+// digits: with one call behind the match a reply takes 50 instructions more.
 fn put_header(out: &mut [u8], at: usize, content: Content, size: usize) -> usize
     requires { Headable content size at (length out.old) }
     ensures { Written out.old at header_length (heading_bytes (heading_of content)) result out.new }
 {
     match content {
         Content::Started => put_heading(out, at, reply_heading(57, 2)),
-        Content::Refused(mid, error) => put_heading(out, at, reply_heading(26, 4)),
-        Content::Accepted(mid) => put_heading(out, at, reply_heading(24, 5)),
-        Content::Kept(number) => put_heading(out, at, reply_heading(118, 65)),
-        Content::Notice(asked) => {
-            let mid = notice_mid(asked.kind);
-            put_heading(out, at, notice_heading(size, mid, asked))
-        }
+        Content::Refused { .. } => put_heading(out, at, reply_heading(26, 4)),
+        Content::Accepted { .. } => put_heading(out, at, reply_heading(24, 5)),
+        Content::Kept { .. } => put_heading(out, at, reply_heading(118, 65)),
+        Content::Notice(asked) => put_heading(out, at, notice_heading(size, asked)),
     }
 }
 
@@ -741,7 +708,7 @@ pub fn put_0004(out: &mut [u8], to: To, mid: u64, error: u64) -> usize
     ensures { Written out.old to.at (record_length length_0004)
         (frame_record to.session (frame_0004 mid error)) result out.new }
 {
-    put_frame(out, to, Content::Refused(mid, error), &[], &[])
+    put_frame(out, to, Content::Refused { mid, error }, &[], &[])
 }
 
 // 0005: message mid is accepted.
@@ -750,7 +717,7 @@ pub fn put_0005(out: &mut [u8], to: To, mid: u64) -> usize
     ensures { Written out.old to.at (record_length length_0005)
         (frame_record to.session (frame_0005 mid)) result out.new }
 {
-    put_frame(out, to, Content::Accepted(mid), &[], &[])
+    put_frame(out, to, Content::Accepted { mid }, &[], &[])
 }
 
 // 0065: a tightening that is kept, by its number. What is told is its payload.
@@ -759,7 +726,7 @@ pub fn put_0065(out: &mut [u8], to: To, number: u64, told: &[u8]) -> usize
     ensures { WrittenUpTo out.old to.at reply_most
         (frame_record to.session (frame_0065 (result_as number told.now))) result out.new }
 {
-    put_frame(out, to, Content::Kept(number), &[], told)
+    put_frame(out, to, Content::Kept { number }, &[], told)
 }
 
 // 9999: the header as it came.
@@ -768,7 +735,7 @@ pub fn put_9999(out: &mut [u8], to: To, run: &[u8]) -> usize
     ensures { Written out.old to.at (record_length header_length)
         (frame_record to.session (take header_length run.now)) result out.new }
 {
-    let at = text::copy(&run[0..HEADER_LENGTH], out, to.at + model::RECORD_HEAD);
+    let at = text::copy(&run[..HEADER_LENGTH], out, to.at + model::RECORD_HEAD);
     let end = text::fill(out, at, 1, 0);
     put_record(out, to, FRAME_RECORD_KIND, end)
 }

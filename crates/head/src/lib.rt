@@ -9,12 +9,10 @@ use session::{Phase, Session};
 // The session's constant, which fits the byte that it bounds.
 const IDLE_LIMIT: u8 = Session::IDLE_LIMIT as u8;
 
-fn wide(x: u8) -> u64
-    ensures { result ≡ x }
-{
-    x as u64
-}
+// The last of the bytes that are a phase.
+const PHASE_LAST: u8 = Phase::Started as u8;
 
+// Every byte gives a phase, so that a load cannot fail. No `From`: it would stand in `session`, away from the map that the bytes follow.
 fn phase_from(b: u8) -> Phase
     ensures { result ≡ phase_of b }
 {
@@ -25,36 +23,24 @@ fn phase_from(b: u8) -> Phase
     }
 }
 
-// The last of the bytes that are a phase.
-const PHASE_LAST: u8 = 2;
+// The bytes are lent as a slice: callers cut them from the table, and an array would be a conversion more at each call.
 
-fn phase_byte(p: Phase) -> u8
-    ensures { (phase_of result ≡ p) × (result ≤ phase_last) }
-{
-    match p {
-        Phase::Closed => 0,
-        Phase::Opened => 1,
-        Phase::Started => PHASE_LAST,
-    }
-}
-
+#[tactic(auto, unfolding(crate::specs::Head::head_formed))]
 pub fn is_formed(head: &[u8]) -> bool
     requires { length head.now ≡ head_size }
     ensures { result ≡ head_formed head.now }
 {
-    if head[0] > PHASE_LAST {
-        return false;
-    }
-    head[1] < IDLE_LIMIT
+    head[0] <= PHASE_LAST && head[1] < IDLE_LIMIT
 }
 
+#[tactic(auto, unfolding(crate::specs::Head::head_of))]
 pub fn load(head: &[u8]) -> Session
     requires { length head.now ≡ head_size }
     ensures { result ≡ head_of head.now }
 {
     Session {
         phase: phase_from(head[0]),
-        idle: wide(head[1]),
+        idle: u64::from(head[1]),
     }
 }
 
@@ -62,7 +48,6 @@ pub fn store(head: &mut [u8], x: Session)
     requires { (length head.old ≡ head_size) × Storable x }
     ensures { (head_of head.new ≡ x) × Area head.new }
 {
-    let phase = x.phase;
-    head[0] = phase_byte(phase);
+    head[0] = x.phase as u8;
     head[1] = x.idle as u8;
 }

@@ -96,7 +96,8 @@ const CONTROL_SIZE: usize = 16;
 // Before it in the control: the form, the clock, how many are held.
 const REVISION_AT: usize = 8;
 
-// How many bytes a lane of that kind takes.
+// How many bytes a lane of that kind takes. Here and below a cast is proved to lose nothing: no `From` narrows, and the error of a
+// `TryFrom` would never come.
 pub fn size(kind: Kind) -> usize
     ensures { result ≡ lane_size (place_of kind) }
 {
@@ -110,7 +111,7 @@ const FORM_GREATEST: u8 = Form::Acknowledged as u8;
 
 const PLACE_GREATEST: u8 = places::COUNT as u8 - 1;
 
-// No `From`, since neither type is this crate's; and of the bytes that none of them is stored as each is read as the last.
+// No `From`, since neither type is this crate's. A byte that no form is stored as is read as the last of them.
 fn form_from(b: u8) -> Form
     ensures { result ≡ form_of b }
 {
@@ -294,7 +295,7 @@ pub fn taking(lane: &[u8], kind: Kind) -> Taken
 pub fn is_taken(t: Take) -> bool
     ensures { result ≡ is_taken_so t }
 {
-    !matches!(t, Take::Not)
+    t != Take::Not
 }
 
 pub fn is_told(t: Take) -> bool

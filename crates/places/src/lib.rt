@@ -18,6 +18,7 @@ pub const SIZE: usize = 3520;
 // ---- a place
 
 // The result in place p, as it stands.
+#[tactic(auto, using(crate::proofs::Areas::place_fits))]
 pub fn at(area: &[u8], p: usize) -> &[u8]
     requires { (length area.now ≡ places_size) × (p < place_count) }
     ensures { result.now ≡ place_in p area.now }
@@ -36,21 +37,14 @@ pub fn put(area: &mut [u8], p: usize, res: &[u8])
 
 // ---- which of them is free
 
-fn number(b: u8) -> usize
-    ensures { result ≡ b }
-{
-    b as usize
-}
-
 // The places of one session are marked as used, each by a 1.
+#[tactic(auto, using(crate::proofs::Marks::mark_end, text::proofs::Lists::all_at))]
 pub fn mark(used: &mut [u8], held: &[u8])
     requires { (length used.old ≡ place_count) × (all is_place held.now ≡ true) }
     ensures { used.new ≡ marked used.old held.now }
 {
-    let mut i = 0;
-    while i < held.len() {
-        used[number(held[i])] = 1;
-        i += 1;
+    for &p in held {
+        used[usize::from(p)] = 1;
     }
 }
 

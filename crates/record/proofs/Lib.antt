@@ -1,3 +1,2 @@
-pub mod Arms
-pub mod Times
 pub mod Parts
+mod Times

@@ -1,42 +1,29 @@
--- The items of a payload as the code has them, in the model's terms. 01, "House records".
-use Rattle.std.specs.Prelude.{ℕ, Bool, true, List, ◌++◌, leb, get_or}
+-- The records that a call takes and the items of their payloads as the code has them, in the model's terms. 01, "House records".
+use Rattle.std.specs.Prelude.{ℕ, List}
 use Rattle.model.specs.Records.{number, limit, text, time, settings_items, tightening_items, scanned_items, alarm_items}
+use Rattle.model.specs.Records.{settings_record_kind, tightening_record_kind, scanned_record_kind, alarm_record_kind}
 use Rattle.model.specs.Records.{Item as ModelItem}
 use Rattle.record.specs.declared.Item.{Item}
-use Rattle.record.specs.declared.Item.TheVariants.{Number, Limit, Text, Code, Time}
-use Rattle.record.specs.declared.Items.{Items}
-use Rattle.record.specs.declared.Items.TheVariants.{Settings, Tightening, Scanned, Alarm}
+use Rattle.record.specs.declared.Item.TheVariants.{Byte, Short, Long, Limit, Text, Time}
+use Rattle.record.specs.declared.RecordKind.{RecordKind}
+use Rattle.record.specs.declared.RecordKind.TheVariants.{Settings, Tightening, Scanned, Alarm}
 
 abbrev pub item_of : Item → ModelItem
-item_of (Number size greatest) = number size greatest
+item_of (Byte greatest) = number 1 greatest
+item_of (Short greatest) = number 2 greatest
+item_of (Long greatest) = number 4 greatest
 item_of (Limit greatest) = limit 4 greatest
 item_of (Text size) = text size
-item_of Code = text 4
 item_of Time = time
 
-abbrev pub items_of : Items → List ModelItem
+abbrev pub items_of : RecordKind → List ModelItem
 items_of Settings = settings_items
 items_of Tightening = tightening_items
 items_of Scanned = scanned_items
 items_of Alarm = alarm_items
 
--- those of every record, one behind the other; and which of them is a record's first
-abbrev pub all_items : List ModelItem
-all_items = settings_items ++ tightening_items ++ scanned_items ++ alarm_items
-
-abbrev pub first_among : Items → ℕ
-first_among Settings = 0
-first_among Tightening = 5
-first_among Scanned = 24
-first_among Alarm = 25
-
--- item k, from 0
-abbrev pub item_at : List ModelItem → ℕ → ModelItem
-item_at es k = get_or es k time
-
--- an item whose number, if it is one, can be read: in 8 bytes at most
-abbrev pub readable : ModelItem → Bool
-readable (number size greatest) = leb size 8
-readable (limit size greatest) = leb size 8
-readable (text size) = true
-readable time = true
+abbrev pub number_of : RecordKind → ℕ
+number_of Settings = settings_record_kind
+number_of Tightening = tightening_record_kind
+number_of Scanned = scanned_record_kind
+number_of Alarm = alarm_record_kind

@@ -9,12 +9,14 @@ use lib.Dec.{leb, lit≤}
 use lib.ListN.{length, get_or, set}
 use borrow.Author.Tests.{leb-true}
 use borrow.Rule.Slice.PartMut.{put_mid, mid_of, mid_len, same_len_mid}
+use Rattle.std.specs.declared.ops.Range.{Range}
 use Rattle.model.specs.Limits.{idle_limit}
 use Rattle.model.specs.Bytes.{all}
 use Rattle.model.specs.Runs.{Run}
 use Rattle.model.specs.Kinds.{kinds}
 use Rattle.model.specs.Notices.{Subscription, unsubscribed}
 use Rattle.model.specs.Session.{no_subscriptions}
+use Rattle.model.proofs.Named.{place_within}
 use Rattle.text.specs.Areas.{Apart}
 use Rattle.text.proofs.Cells.{area_same, area_before, area_after}
 use Rattle.text.proofs.Areas.{each_below, apart, areas_at, areas_put, areas_same, length_areas, all_set, passes}
@@ -27,7 +29,7 @@ use Rattle.head.proofs.Bytes.{storable}
 use Rattle.frame.specs.Places.{notice_in}
 use Rattle.lane.specs.Kinds.{lane_size}
 use Rattle.lane.specs.Lane.{Reading, lane_of, lane_formed, Lane}
-use Rattle.region.specs.Region.{region_size, head_area, run_area, lane_at, lanes, lane_in, subscriptions_in, subscription_in}
+use Rattle.region.specs.Region.{region_size, head_area, run_area, lane_at, lane_range, lanes, lane_in, subscriptions_in, subscription_in}
 use Rattle.region.specs.Region.{meaning, session_of, region_formed, Good, run_bytes, Becomes, Changes, LanesCleared}
 
 -- ==== the map, computed: the lanes stand one behind the other, behind the run
@@ -109,24 +111,31 @@ module _ (r ys : List ℕ) (s : length r ≡ region_size) (a k : ℕ) (len : len
       areas_same f lane_at lane_size r new 0 (length kinds)
       (λ j p q. let b = behind_run j q in area_after a k r ys len in_it (lane_at j) (lane_size j) (omega arith))
 
--- ==== a lane was replaced, as lending `&mut region[a..a + z]` has it
+-- ==== a lane was replaced, as lending `&mut region[w]` has it
 
-module _ (r : List ℕ) {kind a z : ℕ} (few : kind < length kinds) (ea : a ≡ lane_at kind) (ez : z ≡ lane_size kind) where
-  pub lane_part : mid_of a (a + z - a) r ≡ lane_in kind r
-  lane_part = rw (add-sub_cancel_left a z, ea, ez)
+-- the part of it that is lent, and the region with ys there
+abbrev pub part : Range ℕ → List ℕ → List ℕ
+part w r = mid_of w.start (w.end - w.start) r
 
-  pub lane_lent : Good r → Lane kind (mid_of a (a + z - a) r)
+abbrev pub put : Range ℕ → List ℕ → List ℕ → List ℕ
+put w r ys = put_mid w.start (w.end - w.start) r ys
+
+module _ (r : List ℕ) {kind : ℕ} {w : Range ℕ} (few : kind < length kinds) (e : w ≡ lane_range kind) where
+  pub lane_part : part w r ≡ lane_in kind r
+  lane_part = rw (e, add-sub_cancel_left (lane_at kind) (lane_size kind))
+
+  pub lane_lent : Good r → Lane kind (part w r)
   lane_lent g = rw lane_part (lane_good r kind few g)
 
   module _ {ys : List ℕ} (s : length r ≡ region_size) (lane : Lane kind ys) where
     abbrev pub replaced : List ℕ
-    replaced = put_mid a (a + z - a) r ys
+    replaced = put w r ys
 
     as_put : replaced ≡ put_mid (lane_at kind) (lane_size kind) r ys
-    as_put = rw (add-sub_cancel_left a z, ea, ez)
+    as_put = rw (e, add-sub_cancel_left (lane_at kind) (lane_size kind))
 
     in_region : lane_at kind + lane_size kind ≤ length r
-    in_region = let e = lane_ends kind few in omega arith
+    in_region = let ends = lane_ends kind few in omega arith
 
     pub lane_size_kept : length replaced ≡ length r
     lane_size_kept =
@@ -151,7 +160,7 @@ module _ (r : List ℕ) {kind a z : ℕ} (few : kind < length kinds) (ea : a ≡
 
     pub lanes_put : {A : Type 0} (f : ℕ → List ℕ → A) → lanes f replaced ≡ set (lanes f r) kind (f kind ys)
     lanes_put f =
-        ap (lanes f) (as_put ∙ ap (λ (w : ℕ). put_mid (lane_at kind) w r ys) (sym (add-sub_cancel_left (lane_at kind) (lane_size kind))))
+        ap (lanes f) (as_put ∙ ap (λ (n : ℕ). put_mid (lane_at kind) n r ys) (sym (add-sub_cancel_left (lane_at kind) (lane_size kind))))
         ∙ areas_put f lane_at lane_size lanes_apart r ys kind few lane.size (let q = s in omega arith)
 
 -- ==== what it means, by what its slots mean
@@ -223,21 +232,21 @@ module _ (read : Reading) where
 
   -- ==== a lane was replaced
 
-  module _ (r : List ℕ) {kind a z : ℕ} (few : kind < length kinds) (ea : a ≡ lane_at kind) (ez : z ≡ lane_size kind) {ys : List ℕ}
+  module _ (r : List ℕ) {kind : ℕ} {w : Range ℕ} (few : kind < length kinds) (e : w ≡ lane_range kind) {ys : List ℕ}
       (s : length r ≡ region_size) (lane : Lane kind ys) where
     pub lane_replaced : Good r
         → Changes read r (head_of (head_area r)) (run_of (run_area r)) (set (subscriptions_in read r) kind (lane_of read kind ys))
-        (replaced r few ea ez s lane)
+        (replaced r few e s lane)
     unfolding subscriptions_in
     lane_replaced g =
         record {
           becomes =
-              becomes_of g (lane_size_kept r few ea ez s lane) (head_kept r few ea ez s lane) (parts r g).head
-              (run_kept r few ea ez s lane)
+              becomes_of g (lane_size_kept r few e s lane) (head_kept r few e s lane) (parts r g).head
+              (run_kept r few e s lane)
               (parts r g).run
-              (rw (lanes_put r few ea ez s lane lane_formed, lane.formed) (all_set (lanes lane_formed r) kind (parts r g).lanes))
-              (lanes_put r few ea ez s lane (lane_of read));
-          bytes = ap bytes_of (run_kept r few ea ez s lane);
+              (rw (lanes_put r few e s lane lane_formed, lane.formed) (all_set (lanes lane_formed r) kind (parts r g).lanes))
+              (lanes_put r few e s lane (lane_of read));
+          bytes = ap bytes_of (run_kept r few e s lane);
         }
 
   -- ==== nothing was done; the lanes were cleared; and one change after another
@@ -275,3 +284,6 @@ module _ (read : Reading) where
 pub still_good : {r r' : List ℕ} {x : Session} {n : Run} {subs : Reading → List Subscription}
     → ((read : Reading) → Changes read r x n (subs read) r') → Good r'
 still_good c = (c notice_in).becomes.good
+
+-- a lane is lent
+pub ruleset lent = (place_within, lane_lent)

@@ -1,5 +1,5 @@
 -- The end of a run, to a session in its region.
-use mathlib.Core.Path.{◌≡◌, refl, sym, ap, ap₂, ◌∙◌, fun_ext}
+use mathlib.Core.Path.{◌≡◌, refl, sym, ap, ap₂, subst, ◌∙◌, fun_ext}
 use mathlib.Core.Bool.{Bool, true, false, cond}
 use Rattle.std.specs.Prelude.{Option, Some, None}
 use Rattle.std.specs.Bool.{then_some}
@@ -31,7 +31,6 @@ use borrow.Rule.Slice.PartMut.{put_mid}
 use Rattle.text.proofs.Cells.{area_same, area_before}
 use Rattle.message.specs.Meaning.{meant, is_among, Remembers, standing_of}
 use Rattle.message.specs.declared.Common.{Common}
-use Rattle.message.specs.declared.Standing.{Standing}
 use Rattle.session.specs.Meaning.{deed_of, session_as}
 use Rattle.session.specs.Control.{cleared}
 use Rattle.session.specs.Decisions.{is_started}
@@ -53,11 +52,12 @@ use Rattle.lane.specs.Lane.{Reading}
 use Rattle.lane.proofs.Sayings.{quiet_of, after}
 use Rattle.region.specs.Region.{region_size, head_area, run_area, subscriptions_in, subscription_in, session_of, meaning, Good}
 use Rattle.region.specs.Region.{Becomes, Changes, LanesCleared}
-use Rattle.region.specs.Said.{DealtTo, Ready, ending, stood, Shows, StandsSo, Ruled, due_copy, copy_due, IsReady, CarriesOut, ended_by, ended_in}
+use Rattle.region.specs.Said.{DealtTo, Ready, ending, Shows, Rules, due_copy, copy_due, IsReady, CarriesOut}
+use Rattle.region.specs.Said.{ended_by, ended_in}
 use Rattle.region.specs.Said.{RunEnds}
 use Rattle.region.specs.declared.Ended.{Ended}
 use Rattle.region.proofs.Rulings.{ruled_as}
-use Rattle.region.proofs.Areas.{good_of, replaced_size, means, changes_then}
+use Rattle.region.proofs.Areas.{head_few, good_of, replaced_size, means, changes_then}
 use Rattle.region.proofs.Says.{sent, now_is, row_one, said_one}
 use Rattle.region.proofs.Ticks.{means_so}
 
@@ -93,11 +93,11 @@ replies_same g h h' (Some reply.Mirrored) e = ap (λ (z : List ℕ). replies g z
 pub taken_few : (bs : List ℕ) → length (longer empty_run bs).kept ≤ run_kept
 taken_few bs = rw (length-take run_kept bs) (omega arith)
 
--- so the run is
-pub whole_run : {kept : List ℕ} {count : ℕ} (bs : List ℕ) {run : Run} → run ≡ empty_run → kept ≡ (longer empty_run bs).kept
-    → count ≡ (longer empty_run bs).count
-    → (kept ≡ (longer run bs).kept) × (count ≡ (longer run bs).count)
-whole_run bs e ek ec = rw e (ek, ec)
+-- so what is ruled on it is ruled on the run that it is
+pub ruled_whole : {common : Common} {r : List ℕ} {ruling : Ruling} {kept : List ℕ} {count : ℕ} (bs : List ℕ) {run : Run} → run ≡ empty_run
+    → kept ≡ (longer empty_run bs).kept → count ≡ (longer empty_run bs).count
+    → Rules common r (record { kept = kept; count = count }) ruling → Rules common r (longer run bs) ruling
+ruled_whole bs e ek ec w = rw e (ruled_as (longer empty_run bs) ek ec w)
 
 -- kept in the region
 pub kept_few : (a : List ℕ) → length (run_of a).kept ≤ run_kept
@@ -113,9 +113,9 @@ module _ (a : List ℕ) (area : run.Area a) where
       ∙ take_all run_kept (run_of a).kept (omega (arith, length-take (min run_kept (little (take 2 a))) (drop 2 a)))) (omega arith)
 
   -- what is ruled on the run is ruled on it with no more bytes
-  pub ruled_kept : {x : Session} {standing : Standing} {ruling : Ruling} {kept : List ℕ} {count : ℕ} → kept ≡ (run_of a).kept
-      → count ≡ (run_of a).count → Ruled x standing (record { kept = kept; count = count }) ruling
-      → Ruled x standing (longer (run_of a) []) ruling
+  pub ruled_kept : {common : Common} {r : List ℕ} {ruling : Ruling} {kept : List ℕ} {count : ℕ} → kept ≡ (run_of a).kept
+      → count ≡ (run_of a).count → Rules common r (record { kept = kept; count = count }) ruling
+      → Rules common r (longer (run_of a) []) ruling
   ruled_kept ek ec w = rw longer_none (ruled_as (run_of a) ek ec w)
 
   pub kept_header : header_length ≤ length (run_of a).kept → take header_length (run_of a).kept ≡ take header_length (bytes_of a)
@@ -182,8 +182,9 @@ module _ (read : Reading) where
           ready = ready_due kind sends r₂
               (λ b. rw is ((after (room_of (place_of kind)) (deed_of deed) x quiet).there (sym e.sends ∙ b)));
           carries = λ st.
-              rw (q, ← c.becomes.subscriptions, row_one read few e st, said_one read few e st, now, ← (copy_of st kind sends r₂), is, e.sends)
-              (rw (sent (room_of (place_of kind)) (deed_of deed) x quiet st (place_of kind)));
+              rw (q, ← c.becomes.subscriptions, row_one read few e st, said_one read few e st, now)
+              (rw (← (copy_of st kind sends r₂), is, e.sends)
+              (rw (sent (room_of (place_of kind)) (deed_of deed) x quiet st (place_of kind))));
         }
 
   -- step by step: the run is over, what it held is gone or not, and it is then as the decision says
@@ -196,57 +197,42 @@ module _ (read : Reading) where
 
   -- ==== the run is over
 
-  -- what is ruled on a run that is over: whose it is, how that one stands, and the ruling
-  pub record Judged (common : Common) (bs r : List ℕ) (ruling : Ruling) : Type 0 where
-    pub who : Session
-    pub here : who ≡ head_of (head_area r)
-    pub idle : who.idle < idle_limit
-    pub standing : Standing
-    pub stands : (standing_of standing ≡ stood who common (subscriptions_in read r)) × (standing.common ≡ common)
-    pub ruled : Ruled who standing (longer (run_of (run_area r)) bs) ruling
-
-  pub judged : {x : Session} {standing : Standing} {common : Common} {bs r : List ℕ} {ruling : Ruling}
-      → (x ≡ head_of (head_area r)) × (x.idle < idle_limit) → StandsSo x common r standing
-      → Ruled x standing (longer (run_of (run_area r)) bs) ruling → Judged common bs r ruling
-  judged {x} {standing} loaded stands ruled = record {
-    who = x;
-    here = loaded.0;
-    idle = loaded.1;
-    standing = standing;
-    stands = (stands.tests read, stands.shares);
-    ruled = ruled;
-  }
-
-  module _ {common : Common} {bs r : List ℕ} {ruling : Ruling} (o : Judged common bs r ruling) where
+  module _ (bs r : List ℕ) {common : Common} {ruling : Ruling} (good : Good r)
+      (o : Rules common r (longer (run_of (run_area r)) bs) ruling) where
     abbrev n : Run
     n = longer (run_of (run_area r)) bs
 
     abbrev d : Decision
     d = ruling.decision
 
+    abbrev who : Session
+    who = head_of (head_area r)
+
     pub fair : d.next.idle < idle_limit
-    fair = rw o.ruled.decides (decided_fair o.who o.idle o.standing _ _)
+    fair =
+        let P : Decision → Type 0 = λ z. z.next.idle < idle_limit in
+        subst P (sym o.ruled.decides) (decided_fair who (head_few r who good refl) o.standing _ _)
 
     header_there : d.reply ≡ Some reply.Mirrored → header_length ≤ length n.kept
-    header_there q = mirrored_whole o.who o.standing n (ap (λ (z : Decision). z.reply) (sym o.ruled.decides) ∙ q)
+    header_there q = mirrored_whole who o.standing n (ap (λ (z : Decision). z.reply) (sym o.ruled.decides) ∙ q)
 
     told_of_kept : (number : ℕ) → d.reply ≡ Some (reply.Kept number) → is_among common number ≡ true
     told_of_kept number q =
-        rw (← o.stands.1)
-        (told_kept o.who o.standing _ number _ (ap (λ (z : Decision). z.reply) (sym o.ruled.decides) ∙ q))
+        rw (← o.stands.shares)
+        (told_kept who o.standing _ number _ (ap (λ (z : Decision). z.reply) (sym o.ruled.decides) ∙ q))
 
     module _ (g : Shared) (shows : Shows common g) where
-      so : standing_of o.standing ≡ standing_in g o.who.phase (subscriptions_in read r)
+      so : standing_of o.standing ≡ standing_in g who.phase (subscriptions_in read r)
       so =
-          o.stands.0 ∙ ap₂ (λ (granted : Bool) (kept : ℕ → Bool). record {
-            started = is_started o.who.phase;
+          o.stands.tests read ∙ ap₂ (λ (granted : Bool) (kept : ℕ → Bool). record {
+            started = is_started who.phase;
             granted = granted;
             subscribed = subscribed_to (subscriptions_in read r);
             kept = kept;
           }) shows.granted (fun_ext λ n. sym (ap is_there (shows.remembers.asked_for n) ∙ shows.remembers.kept (meant common n)))
 
       remembers : Remembers o.standing.common g.kept
-      remembers = rw o.stands.1 shows.remembers
+      remembers = rw o.stands.shares shows.remembers
 
     module _ {due : Option Kind} {r' : List ℕ} (c : CarriesOut read d r due r') where
       run_ends : (whole : Bool) → (d.reply ≡ Some reply.Mirrored → take header_length n.kept ≡ take header_length (ended_in whole bs r'))
@@ -260,34 +246,36 @@ module _ (read : Reading) where
         kept = told_of_kept;
         steps = λ g e.
             let decided = decide_right g (run_of (run_area r)) (subscriptions_in read r) (ending bs) refl o.standing (remembers g e)
-            o.who
+            who
             (so g e) in
-            rw (means_so read r o.who o.here, decided, ← o.ruled.decides)
+            rw (means_so read r who refl, decided, ← o.ruled.decides)
             (ap₂ (λ (q : model.Session × List Emission) (es : List Emission). (q.0, es ++ q.1)) (c.carries g.settings)
             (replies_same g _ _ d.reply same));
         knows = λ g e.
             let identified = identify_right g (run_of (run_area r)) (subscriptions_in read r) (ending bs) refl o.standing (remembers g e)
-            o.who (so g e) in
-            rw (means_so read r o.who o.here, identified, ← o.ruled.decides) o.ruled.knows;
+            who (so g e) in
+            rw (means_so read r who refl, identified, ← o.ruled.decides) o.ruled.knows;
       }
 
   -- ==== it is over, and what is decided on it is carried out
 
-  module _ {common : Common} {bs r : List ℕ} {ruling : Ruling} (o : Judged common bs r ruling) {due : Option Kind} {r' : List ℕ}
+  module _ (bs r : List ℕ) {common : Common} {ruling : Ruling} (good : Good r)
+      (o : Rules common r (longer (run_of (run_area r)) bs) ruling) {due : Option Kind} {r' : List ℕ}
       (c : CarriesOut read ruling.decision r due r') where
     -- where it stands whole in the slice
     pub ends_whole : run_of (run_area r) ≡ empty_run → RunEnds read common bs r (ended_by ruling true due) r'
     ends_whole e =
-        run_ends o c true (λ q. rw (e, take-take header_length run_kept bs (lit≤ tt)))
-        (λ q. omega (arith, length-take run_kept bs, rw e at (header_there o q)))
+        run_ends bs r good o c true (λ q. rw (e, take-take header_length run_kept bs (lit≤ tt)))
+        (λ q. omega (arith, length-take run_kept bs, rw e at (header_there bs r good o q)))
 
-  module _ {common : Common} {r : List ℕ} {ruling : Ruling} (o : Judged common [] r ruling) {due : Option Kind} {r' : List ℕ}
+  module _ (r : List ℕ) {common : Common} {ruling : Ruling} (good : Good r)
+      (o : Rules common r (longer (run_of (run_area r)) []) ruling) {due : Option Kind} {r' : List ℕ}
       (c : CarriesOut read ruling.decision r due r') where
     -- where it is kept
     pub ends_kept : run.Area (run_area r) → RunEnds read common [] r (ended_by ruling false due) r'
     ends_kept area =
         let n = ap (λ (z : Run). z.kept) (longer_none (run_area r) area) in
-        run_ends o c false (λ q. rw (n, c.bytes) (kept_header (run_area r) area (rw n at (header_there o q))))
+        run_ends [] r good o c false (λ q. rw (n, c.bytes) (kept_header (run_area r) area (rw n at (header_there [] r good o q))))
         (λ q. rw c.bytes (bytes_long (run_area r) area))
 
   -- ==== a run that began earlier ends: first it gets longer, and then it is over

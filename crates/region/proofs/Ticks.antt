@@ -4,12 +4,12 @@ use mathlib.Core.Bool.{Bool, false, true≢false}
 use mathlib.Core.Logic.{◌⊎◌, ⊎_elim}
 use mathlib.Core.List.{List, [], ◌∷◌}
 use Rattle.std.specs.Prelude.{Option, Some, None}
-use Prim.Native.Nat.{ℕ, ◌+◌, ◌-◌, ◌<◌}
+use Rattle.std.specs.declared.ops.Range.{Range}
+use Prim.Native.Nat.{ℕ, ◌<◌}
 use lib.Dec.{eqb}
 use lib.ListN.{length, replicate}
 use lib.Seq.{set-get_or}
 use borrow.Author.Tests.{eqb-true}
-use borrow.Rule.Slice.PartMut.{put_mid, mid_of}
 use Rattle.model.specs.Records.{Settings}
 use Rattle.model.specs.Kinds.{kinds, room_of}
 use Rattle.model.specs.Limits.{idle_limit}
@@ -20,6 +20,7 @@ use Rattle.model.specs.Session.{close}
 use Rattle.model.specs.Session as model
 use Rattle.model.specs.Local.{step, tick, event, takes}
 use Rattle.model.specs.Sharing.{Shared, shared_begun}
+use Rattle.model.proofs.Named.{place_within}
 use Rattle.text.proofs.Areas.{each_below}
 use Rattle.frame.specs.Places.{event_in, notice_in}
 use Rattle.session.specs.Meaning.{session_as, is_taken}
@@ -34,16 +35,15 @@ use Rattle.session.specs.declared.Taken.{Taken}
 use Rattle.session.proofs.Idles.{idle_right}
 use Rattle.run.specs.Area.{run_of}
 use Rattle.head.specs.Head.{head_of}
-use Rattle.lane.specs.Kinds.{lane_size}
 use Rattle.lane.specs.Lane.{Reading, control_of, lane_of, Deals, is_told, is_held}
 use Rattle.lane.specs.Lane as lane
 use Rattle.lane.proofs.Events.{takes_unheld}
 use Rattle.lane.proofs.Sayings.{told}
-use Rattle.region.specs.Region.{head_area, run_area, lane_at, lane_in, subscriptions_in, subscription_in, session_of, meaning}
+use Rattle.region.specs.Region.{head_area, run_area, lane_range, lane_in, subscriptions_in, subscription_in, session_of, meaning}
 use Rattle.region.specs.Region.{places_held, Good, Changes}
 use Rattle.region.specs.Said.{DealtTo, DealtToAll, TickStays, Ticks}
 use Rattle.region.specs.Said.{Answers, Taking, Holds, Takes}
-use Rattle.region.proofs.Areas.{lane_good, lane_part, lane_now, head_kept, length_subscriptions}
+use Rattle.region.proofs.Areas.{part, put, lane_good, lane_lent, lane_part, lane_now, head_kept, length_subscriptions}
 use Rattle.region.proofs.Areas.{subscription_at, means, unchanged}
 use Rattle.region.proofs.Walks.{dealt_to}
 use Rattle.region.proofs.Says.{sent_itself, row_acting, said_due, all_ready, now_is, row_one, said_one, none_due}
@@ -196,16 +196,16 @@ module _ {kind : ℕ} {r : List ℕ} (g : Good r) (few : kind < length kinds) {x
   }
 
 -- its notice is held
-module _ {kind : ℕ} {t : Taken} {slot r : List ℕ} {a z : ℕ} {ys : List ℕ} (few : kind < length kinds) (k : Taking kind t slot r)
-    (ea : a ≡ lane_at kind) (ez : z ≡ lane_size kind) (w : lane.TakesSo kind t.take slot (mid_of a (a + z - a) r) ys) where
+module _ {kind : ℕ} {t : Taken} {slot r : List ℕ} {u : Range ℕ} {ys : List ℕ} (few : kind < length kinds) (k : Taking kind t slot r)
+    (lent : u ≡ lane_range kind) (w : lane.TakesSo kind t.take slot (part u r) ys) where
   abbrev r₁ : List ℕ
-  r₁ = put_mid a (a + z - a) r ys
+  r₁ = put u r ys
 
   holds_takes : (read : Reading) (p : List ℕ) → read kind slot ≡ notice_in kind p → Takes read kind p r t.take r₁
   holds_takes read p e =
       let v = rw e at (w.means (read kind)) in
-      takes_one read p r few refl (k.answers.started k.holds) (dealt_to read few k.good ea ez v.deals)
-      (v.takes ∙ ap (λ l. notices.takes (room_of kind) (lane_of read kind l)) (lane_part r few ea ez))
+      takes_one read p r few refl (k.answers.started k.holds) (dealt_to read few k.good lent v.deals)
+      (v.takes ∙ ap (λ l. notices.takes (room_of kind) (lane_of read kind l)) (lane_part r few lent))
 
   pub takes_held : Holds kind t.take slot r r₁
   unfolding places_held
@@ -214,7 +214,12 @@ module _ {kind : ℕ} {t : Taken} {slot r : List ℕ} {a z : ℕ} {ys : List ℕ
     adds = λ e.
         let lane = (w.means (notice_in kind)).deals.lane in
         let started = k.answers.started k.holds in
-        let now = subst (λ (n : ℕ). lane_in n r₁ ≡ ys) e (lane_now r few ea ez k.good.size lane) in
-        let was = subst (λ (n : ℕ). mid_of a (a + z - a) r ≡ lane_in n r) e (lane_part r few ea ez) in
-        rw (head_kept r few ea ez k.good.size lane, started, now, ← was) (w.adds e k.holds);
+        let now = subst (λ (n : ℕ). lane_in n r₁ ≡ ys) e (lane_now r few lent k.good.size lane) in
+        let was = subst (λ (n : ℕ). part u r ≡ lane_in n r) e (lane_part r few lent) in
+        rw (head_kept r few lent k.good.size lane, started, now, ← was) (w.adds e k.holds);
   }
+
+-- what becomes of an event, and that it is held so
+pub ruleset answers = (place_within, lane_good, answers_closed, answers_opened, answers_started)
+
+pub ruleset taken_so = (place_within, lane_lent, lane_part, takes_held)

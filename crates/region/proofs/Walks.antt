@@ -7,8 +7,8 @@ use mathlib.Core.Bool.{Bool, true, false}
 use mathlib.Core.List.{List, [], ◌∷◌, ◌++◌, map, append_assoc, append-nil}
 use lib.ListN.{length, get_or, set, take, drop, replicate, length-set, length-map, get_or-map, drop_of_length-le}
 use lib.Seq.{take_all, take-suc-set, drop-set-lt}
-use borrow.Rule.Slice.PartMut.{put_mid, mid_of}
 use Rattle.std.specs.List.{list_all}
+use Rattle.std.specs.declared.ops.Range.{Range}
 use Rattle.model.specs.Bytes.{all}
 use Rattle.model.specs.Kinds.{kinds, room_of}
 use Rattle.model.specs.Named.{place_of}
@@ -18,6 +18,7 @@ use Rattle.model.specs.declared.TheConstants.{KINDS}
 use Rattle.model.specs.Notices.{Subscription, unsubscribed, is_subscribed, Deed, act}
 use Rattle.model.specs.Session.{no_subscriptions}
 use Rattle.model.specs.Row.{row}
+use Rattle.model.proofs.Named.{place_within}
 use Rattle.text.specs.Areas.{areas}
 use Rattle.text.proofs.Lists.{drop_next, replicate_next}
 use Rattle.text.proofs.Areas.{length_areas}
@@ -30,10 +31,11 @@ use Rattle.head.specs.Head.{head_of}
 use Rattle.lane.specs.Kinds.{lane_size}
 use Rattle.lane.specs.Lane.{Reading, lane_of, lane_formed, Deals, any}
 use Rattle.lane.specs.Lane as lane
-use Rattle.region.specs.Region.{region_size, head_area, run_area, lane_at, lanes, lane_in, subscriptions_in, subscription_in}
+use Rattle.region.specs.Region.{region_size, head_area, run_area, lane_at, lane_range, lanes, lane_in, subscriptions_in, subscription_in}
 use Rattle.region.specs.Region.{Good, Changes, LanesCleared}
 use Rattle.region.specs.Said.{acting, dues, DealtTo, DealtToAll, stood}
-use Rattle.region.proofs.Areas.{length_subscriptions, subscription_at, there, lane_part, lane_replaced, lane_size_kept}
+use Rattle.region.proofs.Areas.{part, put, length_subscriptions, subscription_at, there, lane_length, lane_part}
+use Rattle.region.proofs.Areas.{lane_replaced, lane_size_kept}
 use Rattle.region.proofs.Areas.{head_kept, run_kept, lanes_put, unchanged, changes_then}
 
 -- ==== a loop that fills a list: those before k stand there, and what is to come stands behind them
@@ -63,17 +65,16 @@ each_passes f r = refl
 module _ (read : Reading) where
   -- ==== a deed to one lane
 
-  pub dealt_to : {r : List ℕ} {kind a z : ℕ} {deed : Deed} {b : Bool} {ys : List ℕ} → kind < length kinds → Good r → a ≡ lane_at kind
-      → z ≡ lane_size kind → Deals (read kind) kind deed (mid_of a (a + z - a) r) b ys
-      → DealtTo read kind deed r b (put_mid a (a + z - a) r ys)
-  dealt_to {r} {kind} {a} {z} {deed} {ys = ys} few g ea ez d =
-      let is : lane_of read kind (mid_of a (a + z - a) r) ≡ subscription_in read kind r = ap (lane_of read kind) (lane_part r few ea ez) in
+  pub dealt_to : {r : List ℕ} {kind : ℕ} {w : Range ℕ} {deed : Deed} {b : Bool} {ys : List ℕ} → kind < length kinds → Good r
+      → w ≡ lane_range kind → Deals (read kind) kind deed (part w r) b ys → DealtTo read kind deed r b (put w r ys)
+  dealt_to {r} {kind} {w} {deed} {ys = ys} few g e d =
+      let is : lane_of read kind (part w r) ≡ subscription_in read kind r = ap (lane_of read kind) (lane_part r few e) in
       let new : lane_of read kind ys ≡ (act (room_of kind) deed (subscription_in read kind r)).0 =
       d.becomes ∙ ap (λ (x : Subscription). (act (room_of kind) deed x).0) is in
       record {
         changes =
             subst (λ (y : Subscription). Changes read r (head_of (head_area r)) (run_of (run_area r)) (set (subscriptions_in read r) kind y)
-            (put_mid a (a + z - a) r ys)) new (lane_replaced read r few ea ez g.size d.lane g);
+            (put w r ys)) new (lane_replaced read r few e g.size d.lane g);
         sends = d.sends ∙ ap (λ (x : Subscription). any (act (room_of kind) deed x).1) is;
       }
 
@@ -146,25 +147,24 @@ pub clearing_none : (r : List ℕ) → Clearing r r 0
 clearing_none r = record { within = omega arith; size = refl; head = refl; run = refl; formed = refl; none = λ read. refl }
 
 module _ {r₀ r : List ℕ} {k : ℕ} (w : Clearing r₀ r k) where
-  pub clearing_next : {kind a z : ℕ} {ys : List ℕ} → length r₀ ≡ region_size → k < length kinds → kind ≡ k → a ≡ lane_at kind
-      → z ≡ lane_size kind → lane.Cleared kind ys → Clearing r₀ (put_mid a (a + z - a) r ys) (k + 1)
+  pub clearing_next : {kind : ℕ} {u : Range ℕ} {ys : List ℕ} → length r₀ ≡ region_size → k < length kinds → kind ≡ k
+      → u ≡ lane_range kind → lane.Cleared kind ys → Clearing r₀ (put u r ys) (k + 1)
   unfolding subscriptions_in
-  clearing_next {a = a} {z} {ys} s h e at size cleared =
+  clearing_next {u = u} {ys} s h is lent cleared =
       let l = w.size ∙ s in
-      let ea : a ≡ lane_at k = rw (← e) at in
-      let ez : z ≡ lane_size k = rw (← e) size in
-      let c : lane.Cleared k ys = rw (← e) cleared in
+      let e : u ≡ lane_range k = rw (← is) lent in
+      let c : lane.Cleared k ys = rw (← is) cleared in
       record {
         within = omega arith;
-        size = lane_size_kept r h ea ez l c.lane ∙ w.size;
-        head = head_kept r h ea ez l c.lane ∙ w.head;
-        run = run_kept r h ea ez l c.lane ∙ w.run;
+        size = lane_size_kept r h e l c.lane ∙ w.size;
+        head = head_kept r h e l c.lane ∙ w.head;
+        run = run_kept r h e l c.lane ∙ w.run;
         formed =
-            rw (lanes_put r h ea ez l c.lane lane_formed, c.lane.formed)
+            rw (lanes_put r h e l c.lane lane_formed, c.lane.formed)
             (filled_next (lanes lane_formed r) k (rw (length_areas lane_formed lane_at lane_size 0 (length kinds) r) h)
             (replicate_next (length kinds) k true h) ∙ w.formed);
         none = λ read.
-            rw (lanes_put r h ea ez l c.lane (lane_of read), c.means (read k))
+            rw (lanes_put r h e l c.lane (lane_of read), c.means (read k))
             (filled_next (subscriptions_in read r) k (there read r k h) (replicate_next (length kinds) k unsubscribed h) ∙ w.none read);
       }
 
@@ -180,6 +180,8 @@ module _ {r₀ r : List ℕ} {k : ℕ} (w : Clearing r₀ r k) where
         none = λ read.
             let n = length_subscriptions read r in filled (subscriptions_in read r) k (omega arith) (rw none_left) ∙ w.none read;
       }
+
+pub ruleset clearing = (place_within, lane_part, lane_length, clearing_none, all_cleared)
 
 module _ (read : Reading) where
   -- ==== what they are subscribed to

@@ -1,6 +1,7 @@
 -- A session in its region of the table, 288 bytes: its phase and idle count, its run, and a lane for each kind of notice.
 -- docs/TABLE.md has the map.
-use Rattle.std.specs.Prelude.{◌≡◌, ℕ, Bool, true, cond, ◌&&◌, List, [], ◌∷◌, length, get_or, take, drop}
+use Rattle.std.specs.Prelude.{◌≡◌, ℕ, ◌+◌, Bool, true, cond, ◌&&◌, List, [], ◌∷◌, length, get_or, take, drop}
+use Rattle.std.specs.declared.ops.Range.{Range}
 use Rattle.model.specs.Bytes.{all}
 use Rattle.model.specs.Runs.{Run}
 use Rattle.model.specs.Kinds.{kinds, tightenings}
@@ -30,6 +31,9 @@ run_area r = take run_size (drop 8 r)
 -- by kind: where its lane begins
 abbrev pub lane_at : ℕ → ℕ
 lane_at kind = get_or (56 ∷ 128 ∷ 160 ∷ []) kind 0
+
+abbrev pub lane_range : ℕ → Range ℕ
+lane_range kind = record { start = lane_at kind; end = lane_at kind + lane_size kind }
 
 -- what f reads in the lane of each kind
 abbrev pub lanes : {A : Type 0} → (ℕ → List ℕ → A) → List ℕ → List A

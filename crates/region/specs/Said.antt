@@ -6,7 +6,7 @@ use Rattle.std.proofs.Math.Option as maybe
 use Rattle.std.proofs.Math.Option.{none, some}
 use Rattle.model.specs.Limits.{header_length, idle_limit}
 use Rattle.model.specs.Records.{Settings}
-use Rattle.model.specs.Runs.{Run, Piece, empty_run}
+use Rattle.model.specs.Runs.{Run, Piece}
 use Rattle.model.specs.Kinds.{tightenings, room_of}
 use Rattle.model.specs.Named.{place_of}
 use Rattle.model.specs.declared.Kind.{Kind}
@@ -178,6 +178,12 @@ pub record Ruled (x : Session) (standing : Standing) (run : Run) (ruling : Rulin
   pub decides : ruling.decision ≡ decision x standing (header_of run.kept run.count) (drop header_length run.kept)
   pub knows : known_as ruling.identified ≡ announced ruling.decision.identifies (drop header_length run.kept)
 
+-- what is ruled on a run to the one in the region
+pub record Rules (common : Common) (r : List ℕ) (run : Run) (ruling : Ruling) : Type 0 where
+  pub standing : Standing
+  pub stands : StandsSo (head_of (head_area r)) common r standing
+  pub ruled : Ruled (head_of (head_area r)) standing run ruling
+
 -- what carry_out asks for: the decision leaves an idle count that can be stored
 pub record CarryingOut (d : Decision) (r : List ℕ) : Type 0 where
   pub good : Good r
@@ -214,11 +220,6 @@ module _ (read : Reading) where
   abbrev pub end_said : Shared → List ℕ → Ended → List ℕ → List Emission
   end_said g bs e r = replies g (take header_length (ended_in e.whole bs r)) e.reply ++ copy_due read g.settings e.due r
 
--- what end_whole asks for: no run has begun, so that the one that ends stands whole in the slice
-pub record EndingWhole (r : List ℕ) : Type 0 where
-  pub good : Good r
-  pub empty : run_of (run_area r) ≡ empty_run
-
 module _ (read : Reading) where
   -- the bytes bs end a run, where what all share is so
   pub record RunEnds (common : Common) (bs r : List ℕ) (e : Ended) (r' : List ℕ) : Type 0 where
@@ -230,8 +231,3 @@ module _ (read : Reading) where
     pub steps : (g : Shared) → Shows common g
         → step g (receives (ending bs)) (session_of read r) ≡ (session_of read r', end_said read g bs e r')
     pub knows : (g : Shared) → Shows common g → known_as e.identified ≡ announces g (ending bs) (session_of read r)
-
-  -- a run ends that is kept: it stands whole in no slice
-  pub record KeptEnds (common : Common) (r : List ℕ) (e : Ended) (r' : List ℕ) : Type 0 where
-    pub whole : e.whole ≡ false
-    pub ends : RunEnds common [] r e r'

@@ -2,12 +2,11 @@
 // done here changes the region and nothing else, and tells by value what is then to be said.
 #![tactic(auto)]
 
-ghost use Rattle.std.specs.Prelude.{◌≡◌, Bool, false, cond, map, ◌≤◌, ◌<◌, length};
-ghost use Rattle.model.specs.Limits.{run_kept, identifier_length, idle_limit};
-ghost use Rattle.model.specs.Bytes.{all, padded};
+ghost use Rattle.std.specs.Prelude.{◌≡◌, cond, map, ◌≤◌, ◌<◌, length};
 ghost use Rattle.std.specs.List.{list_all};
+ghost use Rattle.model.specs.Limits.{run_kept, identifier_length, idle_limit};
+ghost use Rattle.model.specs.Bytes.{padded};
 ghost use Rattle.model.specs.Runs.{empty_run, longer};
-ghost use Rattle.model.specs.Kinds.{kinds};
 ghost use Rattle.model.specs.Named.{place_of};
 ghost use Rattle.model.specs.Notices.{is_subscribed, beats};
 ghost use Rattle.model.specs.Session.{closed, fresh, is_closed as is_closed_session, no_subscriptions};
@@ -20,15 +19,16 @@ ghost use Rattle.places.specs.Places.{place_count};
 ghost use Rattle.places.specs.Free.{marked};
 ghost use Rattle.lane.specs.Kinds.{lane_size};
 ghost use Rattle.lane.specs.Lane.{Reading, lane_formed};
-ghost use Rattle.region.specs.Region.{region_size, head_area, run_area, lane_at as lane_begins, lanes, lane_in, subscriptions_in};
+ghost use Rattle.region.specs.Region.{region_size, head_area, run_area, lane_at as lane_begins, lane_range, lane_in, subscriptions_in};
 ghost use Rattle.region.specs.Region.{session_of, region_formed, Good, run_bytes as bytes_of_run, Becomes, Changes, LanesCleared};
 ghost use Rattle.region.specs.Region.{places_held};
 ghost use Rattle.region.specs.Said.{DealtTo, DealtToAll, TickStays, Ticks, Answers, Taking, Holds};
-ghost use Rattle.region.specs.Said.{StandsSo, Ruled, CarryingOut, CarriesOut, ended_by, EndingWhole, RunEnds, KeptEnds};
+ghost use Rattle.region.specs.Said.{StandsSo, Rules, CarryingOut, CarriesOut, ended_by, RunEnds};
 
 use message::{Common, Standing};
 use model::{IDENTIFIER_LENGTH, KIND_COUNT, KINDS, Kind};
 use session::{Decision, Deed, Phase, Reply, Session, Take, Taken};
+use std::ops::Range;
 
 // How many bytes it has.
 pub const SIZE: usize = 288;
@@ -51,6 +51,14 @@ fn lane_at(kind: Kind) -> usize
     }
 }
 
+// Where it is.
+fn range_of(kind: Kind) -> Range<usize>
+    ensures { result ≡ lane_range (place_of kind) }
+{
+    let at = lane_at(kind);
+    at..at + lane::size(kind)
+}
+
 // ---- reading
 
 // The lane of a kind, as it stands.
@@ -59,9 +67,7 @@ pub fn lane(region: &[u8], kind: Kind) -> &[u8]
     ensures bytes { result.now ≡ lane_in (place_of kind) region.now }
     ensures size { length result.now ≡ lane_size (place_of kind) }
 {
-    let a = lane_at(kind);
-    let e = a + lane::size(kind);
-    &region[a..e]
+    &region[range_of(kind)]
 }
 
 // The bytes of the run that it has received last, as they stand.
@@ -140,14 +146,12 @@ fn clear_run(region: &mut [u8])
 }
 
 // A deed to the notices of one kind: whether a copy of the one that is then open is due.
-#[tactic(auto, using(model::proofs::Named::place_within, crate::proofs::Areas::lane_lent))]
+#[tactic(auto, using(crate::proofs::Areas::lent))]
 fn deal(region: &mut [u8], kind: Kind, deed: Deed) -> bool
     requires { Good region.old }
     ensures { (read : Reading) → DealtTo read (place_of kind) (deed_of deed) region.old result region.new }
 {
-    let a = lane_at(kind);
-    let e = a + lane::size(kind);
-    lane::deal(&mut region[a..e], kind, deed)
+    lane::deal(&mut region[range_of(kind)], kind, deed)
 }
 
 // A second passes for the notices of every kind: of which a copy is due.
@@ -157,23 +161,19 @@ fn beat(region: &mut [u8]) -> [bool; KIND_COUNT]
 {
     let mut due = [false; KIND_COUNT];
     for kind in KINDS {
-        let a = lane_at(kind);
-        let e = a + lane::size(kind);
-        due[kind.place()] = lane::beat(&mut region[a..e], kind);
+        due[kind.place()] = lane::beat(&mut region[range_of(kind)], kind);
     }
     due
 }
 
 // Nothing is held of any kind, whatever the bytes of the lanes were.
-#[tactic(auto, using(crate::proofs::Areas::lane_part, crate::proofs::Areas::lane_length, crate::proofs::Walks::in_order, crate::proofs::Walks::clearing_none, crate::proofs::Walks::clearing_next, crate::proofs::Walks::all_cleared, model::proofs::Named::place_within))]
+#[tactic(auto, using(crate::proofs::Walks::clearing))]
 fn clear_lanes(region: &mut [u8])
     requires { length region.old ≡ region_size }
     ensures { LanesCleared region.old region.new }
 {
     for kind in KINDS {
-        let a = lane_at(kind);
-        let e = a + lane::size(kind);
-        lane::clear(&mut region[a..e], kind);
+        lane::clear(&mut region[range_of(kind)], kind);
     }
 }
 
@@ -225,13 +225,11 @@ pub fn tick(region: &mut [u8]) -> Option<[bool; KIND_COUNT]>
     requires { Good region.old }
     ensures { (read : Reading) → Ticks read region.old result region.new }
 {
-    match session::idled(load(region)) {
-        Some(x) => Some(tick_stays(region, x)),
-        None => {
-            store(region, Session::cleared());
-            None
-        }
-    }
+    let Some(x) = session::idled(load(region)) else {
+        store(region, Session::cleared());
+        return None;
+    };
+    Some(tick_stays(region, x))
 }
 
 // ---- an event
@@ -247,7 +245,7 @@ fn not_taken() -> Taken
 }
 
 // What becomes of an event of that kind.
-#[tactic(auto, using(model::proofs::Named::place_within, crate::proofs::Areas::lane_good, crate::proofs::Ticks::answers_closed, crate::proofs::Ticks::answers_opened, crate::proofs::Ticks::answers_started))]
+#[tactic(auto, using(crate::proofs::Ticks::answers))]
 pub fn taking(region: &[u8], kind: Kind) -> Taken
     requires { Good region.now }
     ensures { Answers (place_of kind) region.now result }
@@ -259,18 +257,16 @@ pub fn taking(region: &[u8], kind: Kind) -> Taken
 }
 
 // Its notice is held so: `slot` is what is kept of it, which means that notice to whoever reads it.
-#[tactic(auto, using(model::proofs::Named::place_within, crate::proofs::Areas::lane_lent, crate::proofs::Areas::lane_part, crate::proofs::Ticks::takes_held))]
+#[tactic(auto, using(crate::proofs::Ticks::taken_so))]
 pub fn take(region: &mut [u8], kind: Kind, taken: Taken, slot: &[u8])
     requires { Taking (place_of kind) taken slot.now region.old }
     ensures { Holds (place_of kind) taken.take slot.now region.old region.new }
 {
-    let a = lane_at(kind);
-    let e = a + lane::size(kind);
-    lane::take(&mut region[a..e], kind, taken, slot);
+    lane::take(&mut region[range_of(kind)], kind, taken, slot);
 }
 
 // The places that it has open or waiting are marked as used.
-#[tactic(auto, using(model::proofs::Named::place_within, crate::proofs::Places::tightenings_good), unfolding(crate::specs::Region::places_held, places::specs::Free::marked))]
+#[tactic(auto, using(crate::proofs::Places::tightenings_good), unfolding(crate::specs::Region::places_held, places::specs::Free::marked))]
 pub fn mark(region: &[u8], used: &mut [u8])
     requires { Good region.now × (length used.old ≡ place_count) }
     ensures { used.new ≡ marked used.old (places_held region.now) }
@@ -330,13 +326,13 @@ struct Ruling {
     identified: Option<[u8; IDENTIFIER_LENGTH]>,
 }
 
-// On a run of so many bytes, of which `run` are kept, to one that stands so.
-#[tactic(auto, using(crate::proofs::Rulings::data_few))]
-fn rule(x: Session, standing: Standing, run: &[u8], count: usize) -> Ruling
-    requires { length run.now ≤ run_kept }
-    ensures { Ruled x standing (record { kept = run.now; count = count }) result }
+// On a run of so many bytes, of which `run` are kept.
+fn rule(region: &[u8], common: Common, run: &[u8], count: usize) -> Ruling
+    requires { Good region.now × (length run.now ≤ run_kept) }
+    ensures { Rules common region.now (record { kept = run.now; count = count }) result }
 {
-    let decision = session::decide(x, standing, run, count);
+    let x = load(region);
+    let decision = session::decide(x, standing(region, x, common), run, count);
     let identified = if decision.identifies {
         Some(announce(frame::data_field(run)))
     } else {
@@ -372,9 +368,9 @@ fn carry_out(region: &mut [u8], d: Decision) -> Option<Kind>
     deal(region, kind, deed).then_some(kind)
 }
 
-// What the end of a run leaves to say: the reply, if there is one, whose header, if it is one that was received, stands in the slice that is
-// lent or in the region; the kind of which a copy of the open notice is due, if one is; and the identifier that is made known to all, if one
-// is.
+// What the end of a run leaves to say: the reply, if there is one, whose header, if it is one that was received, stands in the slice that
+// is lent or in the region; the kind of which a copy of the open notice is due, if one is; and the identifier that is made known to all,
+// if one is.
 #[derive(Clone, Copy)]
 pub struct Ended {
     pub whole: bool,
@@ -394,43 +390,21 @@ fn left_to_say(ruling: Ruling, whole: bool, due: Option<Kind>) -> Ended
     }
 }
 
-// A run ends that stands whole in the slice: it is read there.
-fn end_whole(region: &mut [u8], common: Common, bytes: &[u8]) -> Ended
-    requires { EndingWhole region.old }
-    ensures { (read : Reading) → RunEnds read common bytes.now region.old result region.new }
-{
-    let x = load(region);
-    let ruling = rule(
-        x,
-        standing(region, x, common),
-        run::kept_of(bytes),
-        run::count_of(bytes),
-    );
-    let due = carry_out(region, ruling.decision);
-    left_to_say(ruling, true, due)
-}
-
-// A run ends that began in earlier slices: it is read where it is kept.
-fn end_kept(region: &mut [u8], common: Common) -> Ended
-    requires { Good region.old }
-    ensures { (read : Reading) → KeptEnds read common region.old result region.new }
-{
-    let x = load(region);
-    let standing = standing(region, x, common);
-    let area = &region[RUN_AT..RUN_END];
-    let ruling = rule(x, standing, run::kept(area), run::count(area));
-    let due = carry_out(region, ruling.decision);
-    left_to_say(ruling, false, due)
-}
-
-// The bytes end a run; what all sessions share is told as far as the tests look at it.
+// The bytes end a run; what all sessions share is told as far as the tests look at it. A run that begins in the slice stands whole in it,
+// and is read there; one that began in an earlier slice is read where it is kept.
 pub fn end_run(region: &mut [u8], common: Common, bytes: &[u8]) -> Ended
     requires { Good region.old }
     ensures { (read : Reading) → RunEnds read common bytes.now region.old result region.new }
 {
     if run::count(&region[RUN_AT..RUN_END]) == 0 {
-        return end_whole(region, common, bytes);
+        let ruling = rule(region, common, run::kept_of(bytes), run::count_of(bytes));
+        let due = carry_out(region, ruling.decision);
+        return left_to_say(ruling, true, due);
     }
     lengthen(region, bytes);
-    end_kept(region, common)
+    let now: &[u8] = region;
+    let area = &now[RUN_AT..RUN_END];
+    let ruling = rule(now, common, run::kept(area), run::count(area));
+    let due = carry_out(region, ruling.decision);
+    left_to_say(ruling, false, due)
 }

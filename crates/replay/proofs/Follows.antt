@@ -1,18 +1,15 @@
 -- What becomes of the table and of the lines, call after call.
-use mathlib.Core.Path.{◌≡◌, refl, sym, ap, ap₂, subst, ◌∙◌}
-use Prim.Native.Nat.{ℕ, ◌+◌, ◌≤◌, ◌<◌}
+use mathlib.Core.Path.{◌≡◌, refl, sym, ap, subst, ◌∙◌}
+use Prim.Native.Nat.{ℕ, ◌+◌, ◌≤◌}
 use native.Mathlib.Omega.{arith}
 use mathlib.Core.Bool.{Bool, true, false, cond}
 use mathlib.Core.List.{List, [], ◌++◌, append_assoc, append-nil}
 use lib.Dec.{leb}
-use lib.ListN.{length, take, length-append}
-use lib.Seq.{length-take-le}
-use borrow.Author.Tests.{le-leb, lt-leb, leb-false}
+use lib.ListN.{length, length-append}
+use borrow.Author.Tests.{leb-true, leb-false}
 use Rattle.model.specs.Limits.{output_least}
 use Rattle.model.specs.Program.{State, printed}
-use Rattle.text.specs.Put.{Put}
-use Rattle.text.proofs.Lists.{take_sets}
-use Rattle.replay.specs.States.{Means, Leads, free_from, Behind, Follows}
+use Rattle.replay.specs.States.{Means, Leads, room_made, Behind, Follows}
 
 -- ==== lines behind lines
 
@@ -32,38 +29,27 @@ behind_then {room = room} {a = a} {b = b} {c = c} {m = m} {n = n} p q = record {
       cc;
 }
 
-pub behind_room : {m n : ℕ} {a b new : List ℕ} → m ≡ n → Behind m a new b → Behind n a new b
-behind_room {a = a} {b = b} {new = new} e p = subst (λ (room : ℕ). Behind room a new b) e p
-
-module _ (room at : ℕ) where
-  pub free_behind : at + output_least ≤ room → at ≡ free_from room at
-  free_behind h = rw (le-leb (at + output_least) room h)
-
-  pub free_front : room < at + output_least → 0 ≡ free_from room at
-  free_front h = rw (lt-leb (at + output_least) room h)
-
--- a call's lines, where there is room for them
-pub behind_put : {l l' text : List ℕ} {at free r : ℕ} → at ≤ length l → free ≡ free_from (length l) at → free + output_least ≤ length l
-    → Put l free text r l' → r ≤ free + output_least → Behind (length l) (take at l) text (take r l')
-behind_put {l = l} {l' = l'} {text = text} {at = at} {free = free} {r = r} h e f p q = go (leb (at + output_least) (length l)) refl e
+-- where room is made there is some for one more call's lines
+pub made_room : (room : ℕ) (waited : List ℕ) → output_least ≤ room → length (room_made room waited) + output_least ≤ room
+made_room room waited h = go (leb (length waited + output_least) room) refl
   where
-    stands : take r l' ≡ take free l ++ text
-    stands =
-        ap₂ take p.place p.output ∙ take_sets text l free (omega arith)
+    go : (b : Bool) → leb (length waited + output_least) room ≡ b → length (cond {A = List ℕ} b waited []) + output_least ≤ room
+    go true k = leb-true (length waited + output_least) room k
+    go false k = omega arith
 
-    go : (b : Bool) → leb (at + output_least) (length l) ≡ b → free ≡ cond b at 0 → Behind (length l) (take at l) text (take r l')
-    go true k z = record {
-      written = [];
-      order = stands ∙ ap (λ (n : ℕ). take n l ++ text) z;
-      none = λ m. refl;
-    }
+-- a call's lines, behind those that wait when there is room for them
+pub behind_put : {waited made text waits : List ℕ} (room : ℕ) → made ≡ room_made room waited → waits ≡ made ++ text
+    → Behind room waited text waits
+behind_put {waited = waited} {made = made} {text = text} {waits = waits} room e f = go (leb (length waited + output_least) room) refl e
+  where
+    go : (b : Bool) → leb (length waited + output_least) room ≡ b → made ≡ cond b waited [] → Behind room waited text waits
+    go true k z = record { written = []; order = rw z at f; none = λ h. refl }
     go false k z = record {
-      written = take at l;
-      order = ap (λ (x : List ℕ). take at l ++ x) (stands ∙ ap (λ (n : ℕ). take n l ++ text) z);
+      written = waited;
+      order = ap (λ (x : List ℕ). waited ++ x) (rw z at f);
       none = λ m.
-          let full = leb-false (at + output_least) (length l) k in
-          let n = length-append (take at l) text in
-          let i = length-take-le at l h in
+          let full = leb-false (length waited + output_least) room k in
+          let n = length-append waited text in
           absurd (omega arith);
     }
 

@@ -1,10 +1,11 @@
-pub mod Lines
 pub mod Sizes
-pub mod Turns
+pub mod Lists
+pub mod Printed
 pub mod Told
 pub mod Follows
+pub mod Turns
 pub mod Called
 pub mod Fed
-pub mod Uncut
 pub mod Records
-pub mod Input
+pub mod Pieces
+pub mod Uncut

@@ -9,9 +9,9 @@ use lib.Seq.{length-take-le, drop-drop}
 use Rattle.model.specs.Bytes.{little, places}
 use Rattle.model.specs.Program.{State, called, fed, call_of, given, all_given, bytes_record_kind, is_of}
 use Rattle.model.specs.Records.{record_head}
-use Rattle.replay.specs.Whole.{whole_size, records, waits}
+use Rattle.replay.specs.Whole.{whole_size, Parted, records, waits}
 use Rattle.replay.specs.States.{Follows}
-use Rattle.replay.proofs.Sizes.{slices_first, slices_none}
+use Rattle.replay.proofs.Sizes.{is_whole, slices_first, slices_none}
 use Rattle.replay.proofs.Follows.{follows_nothing, follows_then, follows_as}
 
 -- ==== one record
@@ -50,16 +50,18 @@ pub record Serving (input : List ℕ) (room : ℕ) (t waited t' waiting left : L
 pub serving_begins : (input : List ℕ) (room : ℕ) (t waited : List ℕ) → Serving input room t waited t waited input
 serving_begins input room t waited = record { so_far = λ x. x; follows = follows_nothing room t waited; rest = λ x. refl; same = refl }
 
-pub serving_on : {input t waited t' waiting left t₁ waiting₁ rest : List ℕ} {room size : ℕ} → Serving input room t waited t' waiting left
-    → size ≡ whole_size left → 0 < size → size ≤ length left
-    → Follows (λ x. given x (take size left)) room t' waiting t₁ waiting₁ → rest ≡ drop size left
-    → Serving input room t waited t₁ waiting₁ rest
-serving_on {left = left} {size = size} s e h few f d = record {
-  so_far = λ x. given (s.so_far x) (take size left);
-  follows = follows_then s.follows f;
-  rest = λ x. rw d (rw (slices_first left size e h) at (s.rest x));
-  same = rw d (waits_next left size e h few ∙ s.same);
-}
+pub serving_on : {input t waited t' waiting left t₁ waiting₁ slice rest : List ℕ} {room : ℕ} → Serving input room t waited t' waiting left
+    → Parted left slice rest → Follows (λ x. given x slice) room t' waiting t₁ waiting₁ → Serving input room t waited t₁ waiting₁ rest
+serving_on {left = left} {slice = slice} s p f =
+    let size = whole_size left in
+    let w = is_whole left p.some in
+    let few : size ≤ length left = omega (arith, w.fits, w.size) in
+    record {
+      so_far = λ x. given (s.so_far x) slice;
+      follows = follows_then s.follows f;
+      rest = λ x. rw (p.first, p.rest) (rw (slices_first left size refl p.some) at (s.rest x));
+      same = rw p.rest (waits_next left size refl p.some few ∙ s.same);
+    }
 
 -- no whole record is left
 pub serving_ends : {input t waited t' waiting left : List ℕ} {room : ℕ} → Serving input room t waited t' waiting left → whole_size left ≡ 0

@@ -2,16 +2,18 @@
 use mathlib.Core.Path.{◌≡◌, refl, sym, ap, ◌∙◌}
 use Prim.Native.Nat.{ℕ, zero, suc, ◌+◌, ◌≤◌, ◌<◌}
 use native.Mathlib.Omega.{arith}
-use mathlib.Core.Bool.{Bool, true, false, cond, not, ◌&&◌, and-false}
+use mathlib.Core.Bool.{Bool, true, false, cond, not, ◌&&◌, and-false, and-eq-true_iff}
 use mathlib.Core.List.{List, [], ◌∷◌}
 use lib.Dec.{leb, ltb}
 use lib.ListN.{length, take, drop, length-drop}
-use borrow.Author.Tests.{le-leb, lt-leb, ltb-true, ltb-false}
+use borrow.Author.Tests.{le-leb, lt-leb, leb-true, ltb-true, ltb-false}
 use Rattle.model.specs.Limits.{payload_longest}
 use Rattle.model.specs.Bytes.{little, places}
 use Rattle.model.specs.Program.{slices}
 use Rattle.model.specs.Records.{record_head}
-use Rattle.replay.specs.Whole.{whole_size, too_long}
+use Rattle.std.proofs.Common.{Option, None, Some, Bor, MatchOption}
+use Rattle.std.specs.List.{IsSplitAt}
+use Rattle.replay.specs.Whole.{Announces, whole_size, Parted, too_long}
 
 module _ (bs : List ℕ) where
   abbrev payload : ℕ
@@ -58,6 +60,28 @@ module _ (bs : List ℕ) where
       go true e = absurd (omega arith)
       go false e = refl
 
+pub record IsWhole (bs : List ℕ) : Type 0 where
+  pub size : whole_size bs ≡ record_head + little (places 1 2 bs)
+  pub short : little (places 1 2 bs) ≤ payload_longest
+  pub fits : record_head + little (places 1 2 bs) ≤ length bs
+
+pub is_whole : (bs : List ℕ) → 0 < whole_size bs → IsWhole bs
+unfolding whole_size
+is_whole bs h = go (few && leb (record_head + n) (length bs)) refl h
+  where
+    n : ℕ
+    n = little (places 1 2 bs)
+
+    few : Bool
+    few = leb record_head (length bs) && leb n payload_longest
+
+    go : (t : Bool) → (few && leb (record_head + n) (length bs)) ≡ t → 0 < cond t (record_head + n) 0 → IsWhole bs
+    go true q z =
+        let b = (and-eq-true_iff few (leb (record_head + n) (length bs))).0 q in
+        let k = (and-eq-true_iff (leb record_head (length bs)) (leb n payload_longest)).0 b.0 in
+        record { size = rw q; short = leb-true _ _ k.1; fits = leb-true _ _ b.1 }
+    go false q z = absurd (omega arith)
+
 -- as many turns as there are bytes are enough
 pub slices_enough : (m n : ℕ) (bs : List ℕ) → length bs ≤ m → length bs ≤ n → slices m bs ≡ slices n bs
 slices_enough zero n bs h g = sym (slices_none bs n (sym (size_cut bs (omega arith))))
@@ -92,3 +116,19 @@ is_long bs n e h = rw (le-leb record_head (length bs) h, ← e) (go (ltb payload
     go : (t : Bool) → ltb payload_longest n ≡ t → t ≡ not (leb n payload_longest)
     go true q = rw (lt-leb n payload_longest (ltb-true payload_longest n q))
     go false q = rw (le-leb n payload_longest (ltb-false payload_longest n q))
+
+-- a payload that is not too long, and what is cut off behind it
+pub parted : (bs : List ℕ) (n : ℕ) → Announces bs n → n ≤ payload_longest → (r : Option (Bor (List ℕ) × Bor (List ℕ)))
+    → MatchOption r (length bs < record_head + n) (λ p. IsSplitAt bs (record_head + n) p.0.now p.1.now)
+    → MatchOption r (whole_size bs ≡ 0) (λ p. Parted bs p.0.now p.1.now)
+parted bs n a h None k = sym (size_missing bs (omega arith))
+parted bs n a h (Some p) k =
+    let size : record_head + n ≡ whole_size bs =
+    ap (λ (m : ℕ). record_head + m) a.payload_length ∙ size_whole bs (omega arith) (omega arith) in
+    record {
+      some = omega arith;
+      first = k.1 ∙ ap (λ (m : ℕ). take m bs) size;
+      rest = k.2 ∙ ap (λ (m : ℕ). drop m bs) size;
+      head = omega arith;
+      lengths = omega arith;
+    }

@@ -1,13 +1,13 @@
 -- What the program does with a record: the call that it stands for, and that received bytes are used up.
 use mathlib.Core.Path.{◌≡◌, refl, sym, ap, ◌∙◌}
-use Prim.Native.Nat.{ℕ, zero, suc, ◌+◌, ◌≤◌, ◌<◌}
+use Prim.Native.Nat.{ℕ, zero, suc, ◌+◌, ◌<◌}
 use native.Mathlib.Omega.{arith}
-use mathlib.Core.Bool.{Bool, true, false, not, cond, ◌&&◌, and-eq-true_iff}
+use mathlib.Core.Bool.{true, false, not, ◌&&◌, and-false, and-eq-true_iff}
 use mathlib.Core.List.{List, [], ◌∷◌}
 use lib.Dec.{leb, eqb}
 use lib.ListN.{length, drop, length-drop}
-use lib.Seq.{sets, length-sets}
-use borrow.Author.Tests.{eq-eqb, eqb-true, eqb-false, leb-true, not-true}
+use lib.Seq.{sets}
+use borrow.Author.Tests.{eq-eqb, eqb-true, eqb-false, lt-leb, not-true}
 use Rattle.model.specs.Runs.{cut, consumed_by}
 use Rattle.model.specs.World.{World}
 use Rattle.model.specs.Calls.{Call, start, bytes, does, answered, output, refusal, step}
@@ -19,12 +19,14 @@ use Rattle.refusal.specs.Numbers.{number}
 use Rattle.controller.specs.declared.Answer.{Answer}
 use Rattle.controller.specs.Contract.{said, Outcome}
 use Rattle.controller.proofs.Outputs.{so_long, stands}
-use Rattle.replay.specs.States.{Fits}
 
 -- ==== the call of a record
 
-pub at_least : (least n : ℕ) → is_of least n ≡ true → least ≤ n
-at_least least n e = leb-true least n ((and-eq-true_iff (leb least n) (leb n (least + session_greatest))).0 e).0
+pub is_below : (least n : ℕ) → n < least → is_of least n ≡ false
+is_below least n h = rw (lt-leb least n h)
+
+pub is_above : (least n : ℕ) → least + session_greatest < n → is_of least n ≡ false
+is_above least n h = rw (lt-leb n (least + session_greatest) h, and-false (leb least n))
 
 -- a start is lent no output, and would leave any as it was
 nothing : (l : List ℕ) → length l ≡ 0 → [] ≡ l
@@ -74,24 +76,3 @@ used_up {s} {t} {o} {r} {t'} {o'} {rest} bs p out q = go bs p out
         (ap (λ (a : Answer). a.number) (sym out.answer) ∙ is.0) in
         let n = is.1 in
         omega (arith, consumes b bs, length-drop r.consumed (b ∷ bs), ap length p)
-
--- ==== what a call leaves to the program
-
-pub same_output : {c : Call} {t o : List ℕ} {r : Answer} {t' o' : List ℕ} → Outcome c t o r t' o' → length o' ≡ length o
-same_output {c = c} {t = t} {o = o} out = ap length out.output ∙ length-sets o 0 (output (said c t o).2)
-
-pub fits_in : {c : Call} {t o : List ℕ} {r : Answer} {t' o' : List ℕ} → Outcome c t o r t' o' → Fits r o'
-fits_in out =
-    let h = (stands out).within in
-    let e = same_output out in
-    record { within = omega arith; few = out.fits }
-
--- the measure of a loop over received bytes, which goes on where a call is done and something is left
-pub fewer : {s : ℕ} {t o t' o' rest : List ℕ} {going on : Bool} (left : List ℕ) (r : Answer) → going ≡ true
-    → rest ≡ drop r.consumed left → Outcome (bytes s left) t o r t' o' → on ≡ (eqb r.number 0 && not (eqb (length rest) 0))
-    → cond on (suc (length rest)) 0 < cond going (suc (length left)) 0
-fewer {rest = rest} left r e p out q = rw (e, q) (go (eqb r.number 0 && not (eqb (length rest) 0)) refl)
-  where
-    go : (b : Bool) → (eqb r.number 0 && not (eqb (length rest) 0)) ≡ b → cond b (suc (length rest)) 0 < suc (length left)
-    go true z = omega (arith, used_up left p out z)
-    go false z = omega arith

@@ -1,32 +1,12 @@
 -- 01, "Counted and compared": the program's table and its lines, beside a state of the model's program.
-use Rattle.std.specs.Prelude.{◌≡◌, ℕ, ◌+◌, ◌≤◌, true, cond, List, [], ◌++◌, leb, length}
-use Rattle.model.specs.Limits.{session_count, table_least, output_least}
+use Rattle.std.specs.Prelude.{◌≡◌, ℕ, ◌+◌, ◌≤◌, Bool, true, not, cond, ◌&&◌, List, [], ◌++◌, leb, eqb, length}
+use Rattle.model.specs.Limits.{session_count, output_least}
 use Rattle.model.specs.Program.{State, all_given, printed}
 use Rattle.model.specs.Erased.{erase_world}
 use Rattle.table.specs.Table.{decode, table_formed}
-use Rattle.controller.specs.declared.Answer.{Answer}
-use Rattle.replay.specs.Whole.{records, waits}
-
--- what the program lends its calls, and where it has lines wait
-pub record Lends (t o l : List ℕ) : Type 0 where
-  pub table : length t ≡ table_least
-  pub output : length o ≡ output_least
-  pub room : output_least ≤ length l
-
--- what feed and given ask for: the same, where lines wait up to `at`
-pub record LendsFrom (t o l : List ℕ) (at : ℕ) : Type 0 where
-  pub lends : Lends t o l
-  pub within : at ≤ length l
-
--- what room and print ask for, of the lines alone: they wait up to `at`, and one call's have room
-pub record Holds (l : List ℕ) (at : ℕ) : Type 0 where
-  pub within : at ≤ length l
-  pub room : output_least ≤ length l
-
--- what tell and print ask for: the records of an answer stand in the output, and are no more than one call's
-pub record Fits (r : Answer) (o : List ℕ) : Type 0 where
-  pub within : r.written ≤ length o
-  pub few : r.written ≤ output_least
+use Rattle.replay.specs.declared.TheConstants.{BUFFER}
+use Rattle.replay.specs.declared.Program.{Program}
+use Rattle.replay.specs.Whole.{too_long, records, waits}
 
 -- a table means a state: it has as many sessions, is well formed where the state is, and has then the state's world, but for the numbers
 -- of events, of which it keeps none
@@ -40,9 +20,9 @@ pub record Leads (f : State → State) (t new t' : List ℕ) : Type 0 where
   pub state : (x : State) → Means t x → Means t' (f x)
   pub lines : (x : State) → Means t x → printed (f x).lines ≡ printed x.lines ++ new
 
--- where the lines of one more call begin: behind those that wait, or at the front where there is no room behind them
-abbrev pub free_from : ℕ → ℕ → ℕ
-free_from room at = cond (leb (at + output_least) room) at 0
+-- the lines that wait when one more call has room for its own: they are written out where there is no room behind them
+abbrev pub room_made : ℕ → List ℕ → List ℕ
+room_made room waited = cond (leb (length waited + output_least) room) waited []
 
 -- new lines come behind those that waited. Then `waits` still wait, and those before them were written out, which are none as long as
 -- there is room for one more call's
@@ -57,7 +37,17 @@ pub record Follows (f : State → State) (room : ℕ) (t waited t' waits : List 
   pub leads : Leads f t new t'
   pub behind : Behind room waited new waits
 
+-- the same of the program: p has become q
+abbrev pub ProgramFollows : (State → State) → Program → Program → Type 0
+ProgramFollows f p q = Follows f BUFFER p.table p.lines q.table q.lines
+
 -- ==== what was read, which nothing says, and what was written out
+
+-- what waited stays, and what was read waits behind it; `some` tells whether that is anything
+pub record Filled (waited waits : List ℕ) (some : Bool) : Type 0 where
+  pub read : List ℕ
+  pub behind : waits ≡ waited ++ read
+  pub any : some ≡ not (eqb (length read) 0)
 
 -- `read` came behind what waited, the whole records in that were served, the bytes of their lines were written out, and the rest waits
 pub record Turned (t waited t' waiting : List ℕ) : Type 0 where
@@ -65,6 +55,11 @@ pub record Turned (t waited t' waiting : List ℕ) : Type 0 where
   pub written : List ℕ
   pub leads : Leads (λ x. all_given x (records (waited ++ read))) t written t'
   pub left : waiting ≡ waits (waited ++ read)
+
+-- such a turn: the run goes on where something was read, and what waits is no record that is too long
+pub record OneTurn (t waited t' waiting : List ℕ) (on : Bool) : Type 0 where
+  pub turned : Turned t waited t' waiting
+  pub goes_on : on ≡ (not (eqb (length turned.read) 0) && not (too_long waiting))
 
 -- the same, of all that was read: nothing waited before
 pub record Ran (t t' : List ℕ) : Type 0 where

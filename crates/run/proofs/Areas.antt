@@ -16,10 +16,6 @@ pub counted : (a : List ℕ) → Area a → little (take 2 a) ≤ 10000
 unfolding run_formed
 counted a h = leb-true _ _ h.formed
 
-pub count_is : (a : List ℕ) (n : ℕ) → Area a → n ≡ little (take 2 a) → (n ≡ (run_of a).count) × (n ≤ 10000)
-unfolding run_of
-count_is a n h e = (e, rw e (counted a h))
-
 pub kept_is : (a : List ℕ) (n k : ℕ) → n ≡ (run_of a).count → k ≡ min 45 n → take (2 + k - 2) (drop 2 a) ≡ (run_of a).kept
 unfolding run_of
 kept_is a n k e p = ap (λ (m : ℕ). take m (drop 2 a)) (let z : 2 + k - 2 ≡ k = omega arith in z ∙ p ∙ ap (min 45) e)

@@ -1,8 +1,8 @@
 -- A session's run as the table holds it, in 48 bytes: how many bytes it has in two of them, then those that are kept.
 -- 01, "Runs and headers".
-use Rattle.std.specs.Prelude.{◌≡◌, ℕ, ◌≤◌, min, Bool, true, List, ◌++◌, leb, ltb, length, take, drop}
+use Rattle.std.specs.Prelude.{◌≡◌, ℕ, ◌≤◌, min, Bool, true, List, ◌++◌, leb, ltb, eqb, length, take, drop}
 use Rattle.model.specs.Limits.{run_kept, run_counted}
-use Rattle.model.specs.Bytes.{little}
+use Rattle.model.specs.Bytes.{NUL, little}
 use Rattle.model.specs.Runs.{Run, empty_run, longer as longer_run, cut}
 
 abbrev pub run_size : ℕ
@@ -40,11 +40,8 @@ pub record Passed (bs : List ℕ) (i : ℕ) : Type 0 where
   pub bytes : (cut bs).bytes ≡ take i bs ++ (cut (drop i bs)).bytes
   pub ends : (cut bs).ends ≡ (cut (drop i bs)).ends
 
--- what may_end asks for: what was passed ends at `from`, and the bytes from there to `to` are there to be looked at
-pub record Looking (bs : List ℕ) (from to : ℕ) : Type 0 where
-  pub passed : Passed bs from
-  pub forward : from ≤ to
-  pub within : to ≤ length bs
+abbrev pub is_NUL : ℕ → Bool
+is_NUL b = eqb b NUL
 
 -- where a piece of received bytes ends: before the first NUL, or with the last byte
 pub record Ends (bs : List ℕ) (n : ℕ) : Type 0 where

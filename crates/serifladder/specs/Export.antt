@@ -1,12 +1,14 @@
 -- 01, "What the product holds": a call as C makes it. The four numbers go to a further lent run.
 use Rattle.std.specs.Prelude.{◌≡◌, ℕ, ◌≤◌, true, List, length, drop}
+use Rattle.std.specs.Borrow.{MutBor}
+use Rattle.std.specs.Fn.{Once}
 use Rattle.std.proofs.lemmas.List.Edits.{sets}
 use Rattle.model.specs.Limits.{output_least}
 use Rattle.model.specs.World.{uncounted}
 use Rattle.model.specs.Calls.{Call, Returned, returned, answer_bytes}
 use Rattle.table.specs.Table.{table_used, decode, table_formed}
 use Rattle.refusal.specs.Numbers.{lent}
-use Rattle.controller.specs.Contract.{model_answer}
+use Rattle.controller.specs.Contract.{model_answer, Outcome}
 use Rattle.controller.specs.declared.Answer.{Answer}
 
 -- what the model has C told, from what the lent table means
@@ -33,3 +35,13 @@ pub record Exported (c : Call) (t o a : List ℕ) (r : ℕ) (t' o' a' : List ℕ
   pub formed : r ≡ 0 → table_formed t' ≡ true
   -- refused, or not made
   pub kept : (r ≡ 0 → ⊥) → t' ≡ t
+
+-- a table and an output, as a function is lent them
+abbrev pub LentBoth : Type 0
+LentBoth = MutBor (List ℕ) × (MutBor (List ℕ) × Unit {0})
+
+-- whatever f answers and leaves where it is lent the table t and the output o is what the call c does
+abbrev pub Does : {F : Type 0} → Once F LentBoth (Answer × LentBoth) → F → Call → List ℕ → List ℕ → Type 0
+Does g f c t o =
+    (lent left : LentBoth) (x : Answer) → lent.0.now ≡ t → lent.1.0.now ≡ o → g.post f lent (x, left)
+    → Outcome c t o x left.0.now left.1.0.now

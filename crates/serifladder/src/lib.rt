@@ -10,8 +10,9 @@ ghost use Rattle.model.specs.Calls.{
   bytes as bytes_call,
   one_tick,
   tool,
+  Call,
 };
-ghost use Rattle.serifladder.specs.Export.{AnswerWritten, Exported};
+ghost use Rattle.serifladder.specs.Export.{AnswerWritten, Does, Exported};
 
 use controller::Answer;
 use model::ANSWER_LEAST;
@@ -24,11 +25,29 @@ fn give(answer: &mut [u8], x: Answer) -> u64
     requires { answer_least ≤ length answer.old }
     ensures { AnswerWritten x answer.old result answer.new }
 {
-    let a = text::put_little(answer, 0, 8, x.number);
-    let b = text::put_little(answer, a, 8, x.consumed);
-    let c = text::put_little(answer, b, 8, x.written);
-    text::put_little(answer, c, 8, x.taken);
+    let mut at = 0;
+    for n in [x.number, x.consumed, x.written, x.taken] {
+        at = text::put_little(answer, at, 8, n);
+    }
     x.number
+}
+
+// Makes a call, with the table and the output that C lends, and tells C its answer; where that is too short the call is not made.
+fn answered<F: FnOnce(&mut [u8], &mut [u8]) -> Answer>(
+    table: &mut [u8],
+    output: &mut [u8],
+    answer: &mut [u8],
+    call: F,
+) -> u64
+    requires { F.IsAlwaysCallable call }
+    ensures { (c : Call) → Does F.FnOnce call c table.old output.old
+        → Exported c table.old output.old answer.old result table.new output.new answer.new }
+{
+    if answer.len() < ANSWER_LEAST {
+        return ANSWER_TOO_SHORT;
+    }
+    let x = call(table, output);
+    give(answer, x)
 }
 
 #[unsafe(no_mangle)]
@@ -36,11 +55,10 @@ pub extern "C" fn serifladder_start(table: &mut [u8], settings: &[u8], answer: &
     ensures { Exported (start_call settings.now) table.old [] answer.old result table.new []
         answer.new }
 {
-    if answer.len() < ANSWER_LEAST {
-        return ANSWER_TOO_SHORT;
-    }
-    let x = controller::start(table, settings);
-    give(answer, x)
+    // A start is lent no output.
+    answered(table, &mut [], answer, |table, _| {
+        controller::start(table, settings)
+    })
 }
 
 #[unsafe(no_mangle)]
@@ -53,11 +71,9 @@ pub extern "C" fn serifladder_open(
     ensures { Exported (open_session session) table.old output.old answer.old result table.new
         output.new answer.new }
 {
-    if answer.len() < ANSWER_LEAST {
-        return ANSWER_TOO_SHORT;
-    }
-    let x = controller::open(table, output, session);
-    give(answer, x)
+    answered(table, output, answer, |table, output| {
+        controller::open(table, output, session)
+    })
 }
 
 #[unsafe(no_mangle)]
@@ -70,11 +86,9 @@ pub extern "C" fn serifladder_hang_up(
     ensures { Exported (hang_up_session session) table.old output.old answer.old result
         table.new output.new answer.new }
 {
-    if answer.len() < ANSWER_LEAST {
-        return ANSWER_TOO_SHORT;
-    }
-    let x = controller::hang_up(table, output, session);
-    give(answer, x)
+    answered(table, output, answer, |table, output| {
+        controller::hang_up(table, output, session)
+    })
 }
 
 #[unsafe(no_mangle)]
@@ -88,11 +102,9 @@ pub extern "C" fn serifladder_bytes(
     ensures { Exported (bytes_call session bytes.now) table.old output.old answer.old result
         table.new output.new answer.new }
 {
-    if answer.len() < ANSWER_LEAST {
-        return ANSWER_TOO_SHORT;
-    }
-    let x = controller::bytes(table, output, session, bytes);
-    give(answer, x)
+    answered(table, output, answer, |table, output| {
+        controller::bytes(table, output, session, bytes)
+    })
 }
 
 #[unsafe(no_mangle)]
@@ -100,11 +112,7 @@ pub extern "C" fn serifladder_tick(table: &mut [u8], output: &mut [u8], answer: 
     ensures { Exported one_tick table.old output.old answer.old result table.new
         output.new answer.new }
 {
-    if answer.len() < ANSWER_LEAST {
-        return ANSWER_TOO_SHORT;
-    }
-    let x = controller::tick(table, output);
-    give(answer, x)
+    answered(table, output, answer, controller::tick)
 }
 
 #[unsafe(no_mangle)]
@@ -117,9 +125,7 @@ pub extern "C" fn serifladder_record(
     ensures { Exported (tool slice.now) table.old output.old answer.old result
         table.new output.new answer.new }
 {
-    if answer.len() < ANSWER_LEAST {
-        return ANSWER_TOO_SHORT;
-    }
-    let x = controller::tool_record(table, output, slice);
-    give(answer, x)
+    answered(table, output, answer, |table, output| {
+        controller::tool_record(table, output, slice)
+    })
 }

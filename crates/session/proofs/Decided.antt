@@ -1,5 +1,5 @@
--- What is true of every decision: it leaves an idle count that a session can have, it mirrors only what is a message, and it tells only of a
--- tightening that is kept.
+-- What is true of every decision: it leaves an idle count that a session can have, it mirrors only what is a message, and it tells only of
+-- a tightening that is kept.
 use mathlib.Core.Path.{◌≡◌, refl}
 use mathlib.Core.Bool.{Bool, true, false, not, cond}
 use mathlib.Core.List.{List, [], ◌∷◌}
@@ -71,11 +71,12 @@ accepted_fair mid revision no_acknowledge number (some (acknowledges kind)) = om
 accepted_fair mid revision no_acknowledge number (some (fetches n)) = omega arith
 accepted_fair mid revision no_acknowledge number (some mirrors) = omega arith
 
-pub decided_fair : (x : Session) → x.idle < idle_limit → (standing : Standing) (h : Option Header) (bs : List ℕ) → Fair (decision x standing h bs)
+pub decided_fair : (x : Session) → x.idle < idle_limit → (standing : Standing) (h : Option Header) (bs : List ℕ)
+    → Fair (decision x standing h bs)
 decided_fair x few standing h bs =
+    let number = meant standing.common (number_asked bs) in
     on_any Fair x (λ b mid n. few) (omega arith) standing bs (λ size mid revision no_acknowledge error e.
-    either Fair (no_error error) (accepted_fair mid revision no_acknowledge (meant standing.common (number_asked bs)) (effect_listed (entry_of mid)))
-    (omega arith)) h
+    either Fair (no_error error) (accepted_fair mid revision no_acknowledge number (effect_listed (entry_of mid))) (omega arith)) h
 
 -- ==== what is mirrored is a message, so that there are 20 bytes to send back
 
@@ -84,7 +85,7 @@ module _ (x : Session) (standing : Standing) (r : Run) where
       → (decision x standing (shown (cond b (some (message_of r)) none)) (drop header_length r.kept)).reply ≡ Some Mirrored
       → header_length ≤ length r.kept
   unfolding decision
-  whole_if false e q = absurd (let z : ◌≡◌ {A = ℕ} 0 1 = cc in omega arith)
+  whole_if false e q = cc
   whole_if true e q = (header_sound r.kept r.count e).whole
 
   pub mirrored_whole : (decision_on x standing r).reply ≡ Some Mirrored → header_length ≤ length r.kept
@@ -102,8 +103,8 @@ module _ (x : Session) (standing : Standing) (bs : List ℕ) (n : ℕ) where
   held false error e = absurd (there e)
 
   unmoved : (y : Session) (b : Bool) (mid code : ℕ) → Known (replied (cond b (Some (Error mid code)) None) y)
-  unmoved y true mid code q = absurd (let z : ◌≡◌ {A = ℕ} 0 1 = cc in omega arith)
-  unmoved y false mid code q = absurd (let z : ◌≡◌ {A = ℕ} 0 1 = cc in omega arith)
+  unmoved y true mid code q = cc
+  unmoved y false mid code q = cc
 
   module _ (mid revision : ℕ) (no_acknowledge : Bool) where
     abbrev number : ℕ
@@ -111,18 +112,18 @@ module _ (x : Session) (standing : Standing) (bs : List ℕ) (n : ℕ) where
 
     effect_known : (f : model.Effect) → first none (own_test (standing_of standing) f bs ∷ []) ≡ none
         → Known (accepted mid revision no_acknowledge number (some f))
-    effect_known starts e q = absurd (let z : ◌≡◌ {A = ℕ} 0 1 = cc in omega arith)
-    effect_known stops e q = absurd (let z : ◌≡◌ {A = ℕ} 0 1 = cc in omega arith)
-    effect_known (identifies m) e q = absurd (let z : ◌≡◌ {A = ℕ} 0 1 = cc in omega arith)
-    effect_known (subscribes kind m) e q = absurd (let z : ◌≡◌ {A = ℕ} 0 1 = cc in omega arith)
-    effect_known (unsubscribes kind m) e q = absurd (let z : ◌≡◌ {A = ℕ} 0 1 = cc in omega arith)
-    effect_known (acknowledges kind) e q = absurd (let z : ◌≡◌ {A = ℕ} 0 1 = cc in omega arith)
+    effect_known starts e q = cc
+    effect_known stops e q = cc
+    effect_known (identifies m) e q = cc
+    effect_known (subscribes kind m) e q = cc
+    effect_known (unsubscribes kind m) e q = cc
+    effect_known (acknowledges kind) e q = cc
     effect_known (fetches m) e q = let same : number ≡ n = cc in rw (← same) (held (is_among standing.common number) m e)
-    effect_known mirrors e q = absurd (let z : ◌≡◌ {A = ℕ} 0 1 = cc in omega arith)
+    effect_known mirrors e q = cc
 
     entry_known : (size : ℕ) (o : Maybe Entry) → tested (standing_of standing) o size revision bs ≡ none
         → Known (accepted mid revision no_acknowledge number (effect_listed o))
-    entry_known size none e q = absurd (let z : ◌≡◌ {A = ℕ} 0 1 = cc in omega arith)
+    entry_known size none e q = cc
     entry_known size (some f) e q = effect_known f.effect (passed (standing_of standing) f size revision bs e).2 q
 
     started_known : (size : ℕ) (o : Maybe Entry) (error : Maybe model.Error) → tested (standing_of standing) o size revision bs ≡ error
@@ -133,5 +134,5 @@ module _ (x : Session) (standing : Standing) (bs : List ℕ) (n : ℕ) where
   pub told_kept : (h : Option Header) → Known (decision x standing h bs)
   unfolding error_of
   told_kept h =
-      on_any Known x (unmoved x) (λ q. absurd (let z : ◌≡◌ {A = ℕ} 0 1 = cc in omega arith)) standing bs
+      on_any Known x (unmoved x) (λ q. cc) standing bs
       (λ size mid revision no_acknowledge error e. started_known mid revision no_acknowledge size (entry_of mid) error e) h

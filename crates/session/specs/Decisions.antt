@@ -85,7 +85,7 @@ decided Opened x mid revision no_acknowledge number error = decided_opened x mid
 decided Started x mid revision no_acknowledge number error =
     decided_started mid revision no_acknowledge number (effect_listed (entry_of mid)) error
 
--- of a run with that header, if it is a message, and that data field, by what the tests look at besides; one that is dropped changes nothing
+-- of a run with that header, if it is a message, and that data field, by what the tests look at besides; what is dropped changes nothing
 unfoldable pub decision : Session → Standing → Option Header → List ℕ → Decision
 decision x standing None bs = replied None x
 decision x standing (Some h) bs =

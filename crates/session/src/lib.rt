@@ -320,7 +320,8 @@ pub fn dealt(x: Subscription, deed: Deed) -> Step
 // ---- an event, to a subscription
 
 // What becomes of its notice: it is not taken; sent once, and not held; held at place 0 as the open one, and sent; held at the
-// place that is named, and not sent yet. (Not taken is no `None` beside the others: of one that is sent once the subscription stays, too.)
+// place that is named, and not sent yet. (Not taken is a case beside the others, and no `None`: of one that is sent once the subscription
+// stays as it is, too.)
 #[derive(Clone, Copy, PartialEq, Eq)]
 pub enum Take {
     Not,
@@ -447,12 +448,9 @@ fn deal(reply: Option<Reply>, kind: Kind, deed: Deed) -> Decision
 fn refused(mid: u64, effect: Option<Effect>, error: Error) -> Decision
     ensures { result ≡ refused_with mid (effect_found effect) (error_in (Err error)) }
 {
-    if message::gets_reply(effect) {
-        let code = message::error_code(Err(error));
-        replied(Some(Reply::Error { mid, code }), begun())
-    } else {
-        replied(None, begun())
-    }
+    let code = message::error_code(Err(error));
+    let reply = message::gets_reply(effect).then_some(Reply::Error { mid, code });
+    replied(reply, begun())
 }
 
 // A message with no error, to a session that is started; the number is that of the tightening that it asks for, if it asks for one.
@@ -497,8 +495,8 @@ fn decide_opened(x: Session, mid: u64, found: Result<(), Error>) -> Decision
     }
     match found {
         Ok(()) => start(),
-        Err(_) => {
-            let code = message::error_code(found);
+        Err(error) => {
+            let code = message::error_code(Err(error));
             replied(Some(Reply::Error { mid, code }), x)
         }
     }

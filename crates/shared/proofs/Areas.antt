@@ -5,7 +5,7 @@ use native.Mathlib.Nat.{suc-min-suc}
 use native.Mathlib.Omega.{arith}
 use mathlib.Core.Bool.{Bool, true, false, ◌&&◌, and-eq-true_iff}
 use mathlib.Core.List.{List, [], ◌∷◌}
-use borrow.Author.Tests.{leb-true, le-leb, lt-leb, eq-eqb, ne_eqb}
+use borrow.Author.Tests.{leb-true, le-leb}
 use lib.Dec.{eqb, leb, lit≤}
 use lib.ListN.{length, take, drop, replicate}
 use lib.Seq.{sets, length-sets, length-take-le}
@@ -62,18 +62,6 @@ module _ (a : List ℕ) where
 
     pub kept_numbered : count_of a ≤ last_of a
     kept_numbered = leb-true (count_of a) (last_of a) tests.1
-
-  pub unmarked : (little (take mark_length a) ≡ little mark → ⊥) → false ≡ shared_formed a
-  unfolding shared_formed
-  unmarked h = rw (ne_eqb (little (take mark_length a)) (little mark) h)
-
-  pub too_many : little (take mark_length a) ≡ little mark → results_kept < count_of a → false ≡ shared_formed a
-  unfolding shared_formed
-  too_many e h = rw (eq-eqb (little (take mark_length a)) (little mark) e, lt-leb (count_of a) results_kept h)
-
-  pub by_numbers : little (take mark_length a) ≡ little mark → count_of a ≤ results_kept → leb (count_of a) (last_of a) ≡ shared_formed a
-  unfolding shared_formed
-  by_numbers e h = rw (eq-eqb (little (take mark_length a)) (little mark) e, le-leb (count_of a) results_kept h)
 
   is_area : length a ≡ shared_size → marked ≡ true → count_of a ≤ results_kept → count_of a ≤ last_of a → Area a
   unfolding shared_formed

@@ -1,8 +1,8 @@
 // What all sessions share, in its bytes at the front of the table.
 #![tactic(auto)]
 
-ghost use Rattle.std.specs.Prelude.{◌≡◌, [], suc, min, ◌<◌, length};
-ghost use Rattle.model.specs.Limits.{identifier_length, number_greatest, results_kept};
+ghost use Rattle.std.specs.Prelude.{◌≡◌, [], suc, ◌<◌, length};
+ghost use Rattle.model.specs.Limits.{identifier_length, number_greatest};
 ghost use Rattle.model.specs.Bytes.{spaces};
 ghost use Rattle.model.specs.Records.{settings_of, settings_length, tightening_length};
 ghost use Rattle.model.specs.Events.{result_as};
@@ -40,24 +40,20 @@ const MEMORY_AT: usize = 1024;
 // The last number in the settings' payload: it stands at its end.
 const SETTINGS_LAST_AT: usize = SETTINGS_LENGTH - NUMBER_LENGTH;
 
-// ---- reading
+// ---- reading. The area is a slice: callers cut it from the table, and an array would be a conversion more at each call
 
 // The mark stands, and so many tightenings may be kept: every call asks it.
+#[tactic(auto, unfolding(crate::specs::Shared::shared_formed))]
 pub fn is_formed(area: &[u8]) -> bool
     requires { length area.now ≡ shared_size }
     ensures { result ≡ shared_formed area.now }
 {
-    if text::little(area, MARK_AT, MARK_LENGTH) != MARK {
-        return false;
-    }
     let many = count(area);
-    if many > RESULTS_KEPT {
-        return false;
-    }
-    many <= last(area)
+    text::little(area, MARK_AT, MARK_LENGTH) == MARK && many <= RESULTS_KEPT && many <= last(area)
 }
 
 // The settings' payload, as it stands.
+#[tactic(auto, unfolding(crate::specs::Shared::settings_part))]
 pub fn settings(area: &[u8]) -> &[u8]
     requires { length area.now ≡ shared_size }
     ensures { result.now ≡ settings_part area.now }
@@ -66,6 +62,7 @@ pub fn settings(area: &[u8]) -> &[u8]
 }
 
 // The identifier in force, as it stands.
+#[tactic(auto, unfolding(crate::specs::Shared::in_force_of))]
 pub fn in_force(area: &[u8]) -> &[u8]
     requires { length area.now ≡ shared_size }
     ensures { result.now ≡ in_force_of area.now }
@@ -74,6 +71,7 @@ pub fn in_force(area: &[u8]) -> &[u8]
 }
 
 // The last tightening number.
+#[tactic(auto, unfolding(crate::specs::Shared::last_of))]
 pub fn last(area: &[u8]) -> u64
     requires { length area.now ≡ shared_size }
     ensures { (result ≡ last_of area.now) × (result < suc number_greatest) }
@@ -82,6 +80,7 @@ pub fn last(area: &[u8]) -> u64
 }
 
 // How many tightenings are kept.
+#[tactic(auto, unfolding(crate::specs::Shared::count_of))]
 pub fn count(area: &[u8]) -> u64
     requires { length area.now ≡ shared_size }
     ensures { (result ≡ count_of area.now) × (result < 256) }
@@ -97,6 +96,7 @@ fn place_at(n: u64) -> usize
 }
 
 // The payload at the place of the number n, as it stands.
+#[tactic(auto, using(crate::proofs::Results::payload_long), unfolding(crate::specs::Memory::payload_kept))]
 pub fn kept(area: &[u8], n: u64) -> &[u8]
     requires { length area.now ≡ shared_size }
     ensures { (result.now ≡ payload_kept n area.now) × (length result.now ≡ tightening_length) }
@@ -108,6 +108,7 @@ pub fn kept(area: &[u8], n: u64) -> &[u8]
 // ---- writing
 
 // A start with these settings: no identifier is in force, the last number is the settings', and no tightening is kept.
+#[tactic(auto, using(crate::proofs::Areas::started))]
 pub fn start(area: &mut [u8], payload: &[u8])
     requires { (length area.old ≡ shared_size) × (length payload.now ≡ settings_length) }
     ensures { Holds payload.now (spaces identifier_length) (settings_of payload.now).last []
@@ -122,22 +123,13 @@ pub fn start(area: &mut [u8], payload: &[u8])
 }
 
 // An identifier comes in force.
+#[tactic(auto, using(crate::proofs::Areas::force_put))]
 pub fn put_in_force(area: &mut [u8], identifier: &[u8])
     requires { Area area.old × (length identifier.now ≡ identifier_length) }
     ensures { Holds (settings_part area.old) identifier.now (last_of area.old)
         (kept_of area.old) area.new }
 {
     text::copy(identifier, area, IN_FORCE_AT);
-}
-
-// How many are kept when one more comes to so many.
-fn count_with(count: u64) -> u64
-    ensures { result ≡ min results_kept (suc count) }
-{
-    if count < RESULTS_KEPT {
-        return count + 1;
-    }
-    RESULTS_KEPT
 }
 
 // A tightening came: its payload, the identifier that is meant in place of the tool's own, and its number behind it, which is the next.
@@ -148,7 +140,7 @@ pub fn remember(area: &mut [u8], res: &[u8])
         area.new }
 {
     let number = text::little(res, TIGHTENING_LENGTH, NUMBER_LENGTH);
-    let many = count_with(count(area));
+    let many = RESULTS_KEPT.min(count(area) + 1);
     text::copy(&res[0..TIGHTENING_LENGTH], area, place_at(number));
     text::put_little(area, COUNT_AT, COUNT_LENGTH, many);
     text::put_little(area, LAST_AT, NUMBER_LENGTH, number);

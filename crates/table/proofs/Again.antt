@@ -43,7 +43,8 @@ record_long s bs = omega arith
 pub alike : {a b : Asked} → true ≡ sameb the_type a.kind b.kind && (eqb a.revision b.revision && beq a.no_acknowledge b.no_acknowledge)
     → a ≡ b
 alike {a} {b} e =
-    let parts = (and-eq-true_iff (sameb the_type a.kind b.kind) (eqb a.revision b.revision && beq a.no_acknowledge b.no_acknowledge)).0 (sym e) in
+    let parts = (and-eq-true_iff (sameb the_type a.kind b.kind)
+    (eqb a.revision b.revision && beq a.no_acknowledge b.no_acknowledge)).0 (sym e) in
     let kind : a.kind ≡ b.kind = same_true the_type (search rules) _ _ parts.0 in
     search rules
 
@@ -54,7 +55,8 @@ module _ {t o p : List ℕ} {n : Next} {asked : Asked} (l : AskedLent t o n aske
   again_lent =
       let s = last.shown in
       let e = s.stands.ends in
-      let long = record_long s.session (event_frame (settings_in t) c.asked.revision c.asked.no_acknowledge (event_in (place_of asked.kind) p)) in
+      let long = record_long s.session
+      (event_frame (settings_in t) c.asked.revision c.asked.no_acknowledge (event_in (place_of asked.kind) p)) in
       let f = last.few in
       let few = l.lent.session in
       let room = l.lent.room in

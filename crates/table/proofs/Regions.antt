@@ -112,9 +112,9 @@ pub length_settings : (a : List ℕ) → length a ≡ shared_size → length (se
 unfolding settings_part
 length_settings a e = length-take-le 33 (drop 16 a) (simp length-drop (omega arith))
 
-pub length_in_force : (a : List ℕ) → length a ≡ shared_size → length (in_force_of a) ≡ identifier_length
+pub in_force_size : (a : List ℕ) → length a ≡ shared_size → length (in_force_of a) ≡ identifier_length
 unfolding in_force_of
-length_in_force a e = length-take-le 25 (drop 56 a) (simp length-drop (omega arith))
+in_force_size a e = length-take-le 25 (drop 56 a) (simp length-drop (omega arith))
 
 -- ==== what has become of it
 

@@ -96,7 +96,7 @@ pub fn last(table: &[u8]) -> u64
 }
 
 // The identifier in force, as it stands.
-#[tactic(auto, using(crate::proofs::Regions::length_in_force, crate::proofs::Regions::length_shared), unfolding(crate::specs::Table::decode))]
+#[tactic(auto, using(crate::proofs::Regions::in_force_size, crate::proofs::Regions::length_shared), unfolding(crate::specs::Table::decode))]
 pub fn in_force(table: &[u8]) -> &[u8]
     requires { Table table.now }
     ensures { (result.now ≡ (decode table.now).shared.in_force) × (length result.now ≡ identifier_length) }

@@ -4,12 +4,13 @@ use Prim.Native.Nat.{ℕ, zero, suc, ◌+◌, ◌-◌, ◌≤◌, ◌<◌, min}
 use native.Mathlib.Nat.{add-zero, add-suc, suc-add, add-sub_cancel_left, zero-min, min-zero, suc-min-suc, sub-zero, suc-sub-suc}
 use native.Mathlib.Numerals.{add-one}
 use native.Mathlib.Omega.{arith}
-use mathlib.Core.Bool.{Bool, true, false, ◌&&◌, and-eq-true_iff}
+use mathlib.Core.Bool.{Bool, true, ◌&&◌, and-eq-true_iff}
 use mathlib.Core.List.{List, [], ◌∷◌, ◌++◌, append_assoc}
-use lib.ListN.{length, get_or, set, take, drop, replicate, length-append, length-set, drop_of_length-le, take-append-drop}
-use lib.Seq.{sets, sets-eq, set-set, set_comm, drop-cons, drop-drop, drop-set-add, drop-set-lt, take-set-le, take_at, take-nil}
-use lib.Seq.{length-take-le, take-append-add, get_or-drop}
+use lib.ListN.{length, get_or, set, take, drop, replicate, length-append, length-drop}
+use lib.Seq.{sets, sets-eq, paste, set-set, set_comm, drop-cons, drop-drop, drop-set-add, drop-set-lt, take-set-le, take_at, take-nil}
+use lib.Seq.{length-take-le, take-append-add}
 use borrow.Rule.Slice.PartMut.{put_mid, drop_put}
+use Rattle.std.specs.List.{copy_within}
 use Rattle.model.specs.Bytes.{all}
 
 -- ==== what is left of a list, an element later
@@ -27,24 +28,9 @@ all_at test [] i d e h = absurd (omega arith)
 all_at test (x ∷ l) zero d e h = ((and-eq-true_iff (test x) (all test l)).0 e).0
 all_at test (x ∷ l) (suc i) d e h = all_at test l i d ((and-eq-true_iff (test x) (all test l)).0 e).1 (omega arith)
 
-module _ (test : ℕ → Bool) where
-  pub all_next : (l : List ℕ) (i : ℕ) → i < length l → all test (drop i l) ≡ test (get_or l i 0) && all test (drop (i + 1) l)
-  all_next l i h = ap (all test) (drop_next l i 0 h)
-
-  pub all_end : (l : List ℕ) (i : ℕ) → length l ≤ i → all test (drop i l) ≡ true
-  all_end l i h = ap (all test) (drop_of_length-le l {i = i} h)
-
-  -- a loop that tests an element a turn: what is left of the test is all of it
-  pub all_goes_on : (l : List ℕ) (i : ℕ) → i < length l → test (get_or l i 0) ≡ true → all test (drop i l) ≡ all test l
-      → all test (drop (i + 1) l) ≡ all test l
-  all_goes_on l i h t e = ap (λ (b : Bool). b && all test (drop (i + 1) l)) (sym t) ∙ sym (all_next l i h) ∙ e
-
-  pub all_stops : (l : List ℕ) (i : ℕ) → i < length l → test (get_or l i 0) ≡ false → all test (drop i l) ≡ all test l → false ≡ all test l
-  all_stops l i h t e = ap (λ (b : Bool). b && all test (drop (i + 1) l)) (sym t) ∙ sym (all_next l i h) ∙ e
-
-  pub all_same : (other : ℕ → Bool) → ((b : ℕ) → test b ≡ other b) → (l : List ℕ) → all test l ≡ all other l
-  all_same other h [] = refl
-  all_same other h (x ∷ l) = ap₂ ◌&&◌ (h x) (all_same other h l)
+pub all_same : (test other : ℕ → Bool) → ((b : ℕ) → test b ≡ other b) → (l : List ℕ) → all test l ≡ all other l
+all_same test other h [] = refl
+all_same test other h (x ∷ l) = ap₂ ◌&&◌ (h x) (all_same test other h l)
 
 -- ==== runs of stores
 
@@ -91,10 +77,6 @@ written_before o zs xs at i e n h =
     ap (λ (k : ℕ). sets (sets o (at + k) xs) at zs) (sym n) ∙ sets_swap zs xs o at (at + length zs) (omega arith)
     ∙ sets_sets zs xs o at ∙ ap (sets o at) (sym e) ∙ h
 
--- the next few of a list, and those behind them
-pub next_few : (l : List ℕ) (i n : ℕ) → drop i l ≡ take n (drop i l) ++ drop (i + n) l
-next_few l i n = sym (take-append-drop n (drop i l)) ∙ ap (λ (z : List ℕ). take n (drop i l) ++ z) (drop-drop n i l)
-
 -- ==== a run of stores as a part that was replaced
 
 pub sets_mid : (l vs : List ℕ) (a k : ℕ) → length vs ≡ k → a + k ≤ length l → sets l a vs ≡ put_mid a k l vs
@@ -102,6 +84,16 @@ sets_mid l vs a k e h =
     let h' : a + length vs ≤ length l = omega arith in
     sets-eq vs l a h' ∙ append_assoc (take a l) vs _
     ∙ ap (λ (z : List ℕ). take a l ++ (vs ++ z)) (sym (drop-drop (length vs) a l) ∙ ap (λ (n : ℕ). drop n (drop a l)) e)
+
+-- a part of a list copied to another place of it
+pub sets_moved : (o : List ℕ) (from to at n : ℕ) → to - from ≡ n → to ≤ length o → at + n ≤ length o
+    → copy_within o from to at ≡ sets o at (take n (drop from o))
+sets_moved o from to at n e whole fits =
+    let few : n ≤ length (drop from o) = simp length-drop (omega arith) in
+    let long : length (take n (drop from o)) ≡ n = length-take-le n (drop from o) few in
+    ap (λ (m : ℕ). paste o at (drop from o) m) e
+    ∙ ap (λ (m : ℕ). take at o ++ take n (drop from o) ++ drop (at + m) o) (sym long)
+    ∙ sym (sets-eq (take n (drop from o)) o at (rw long fits))
 
 -- what lies after a part that was replaced
 pub drop_after : (l ys : List ℕ) (a k b : ℕ) → length ys ≡ k → a + k ≤ length l → a + k ≤ b → drop b (put_mid a k l ys) ≡ drop b l
@@ -152,43 +144,3 @@ drop-take zero m l h = rw sub-zero
 drop-take (suc k) zero l h = absurd (omega arith)
 drop-take (suc k) (suc m) [] h = simp take-nil
 drop-take (suc k) (suc m) (x ∷ l) h = rw suc-sub-suc (drop-take k m l (omega arith))
-
--- ==== bytes moved down
-
--- what is left to move, an element later
-copy_step : (o l : List ℕ) (at from i n : ℕ) → i < n → from + n ≤ length l
-    → sets o (at + i) (take (n - i) (drop (from + i) l))
-    ≡ sets (set o (at + i) (get_or l (from + i) 0)) (at + (i + 1)) (take (n - (i + 1)) (drop (from + (i + 1)) l))
-copy_step o l at from i n h k =
-    let p : n - i ≡ suc (n - (i + 1)) = omega arith in
-    let q : suc (at + i) ≡ at + (i + 1) = omega arith in
-    let r : suc (from + i) ≡ from + (i + 1) = omega arith in
-    ap₂ (λ (m : ℕ) (z : List ℕ). sets o (at + i) (take m z)) p (drop-cons l (from + i) 0 (omega arith))
-    ∙ ap₂ (λ (a b : ℕ). sets (set o (at + i) (get_or l (from + i) 0)) a (take (n - (i + 1)) (drop b l))) q r
-
--- a loop that moves one a turn: what is left to move, and that it was not touched yet
-pub record Moving (q₀ q : List ℕ) (to from n i : ℕ) : Type 0 where
-  pub within : i ≤ n
-  pub same : length q ≡ length q₀
-  pub left : sets q₀ to (take n (drop from q₀)) ≡ sets q (to + i) (take (n - i) (drop (from + i) q₀))
-  pub ahead : drop (to + i) q ≡ drop (to + i) q₀
-
-pub moved : (q₀ q : List ℕ) (to from n i : ℕ) → Moving q₀ q to from n i → i < n → to ≤ from → from + n ≤ length q₀
-    → Moving q₀ (set q (to + i) (get_or q (from + i) 0)) to from n (i + 1)
-moved q₀ q to from n i m h le k =
-    let far : to + i + (from - to) ≡ from + i = omega arith in
-    let b : get_or q (from + i) 0 ≡ get_or q₀ (from + i) 0 =
-    ap (λ (j : ℕ). get_or q j 0) (sym far) ∙ sym (get_or-drop (to + i) q (from - to) 0)
-    ∙ ap (λ (l : List ℕ). get_or l (from - to) 0) m.ahead
-    ∙ get_or-drop (to + i) q₀ (from - to) 0 ∙ ap (λ (j : ℕ). get_or q₀ j 0) far in
-    let up : to + (i + 1) ≡ to + i + 1 = omega arith in
-    record {
-      within = omega arith;
-      same = length-set q _ _ ∙ m.same;
-      left =
-          m.left ∙ copy_step q q₀ to from i n h k
-          ∙ ap (λ (x : ℕ). sets (set q (to + i) x) (to + (i + 1)) (take (n - (i + 1)) (drop (from + (i + 1)) q₀))) (sym b);
-      ahead =
-          drop-set-lt (to + (i + 1)) q (to + i) _ (omega arith) ∙ ap (λ (j : ℕ). drop j q) up ∙ sym (drop-drop 1 (to + i) q)
-          ∙ ap (drop 1) m.ahead ∙ drop-drop 1 (to + i) q₀ ∙ ap (λ (j : ℕ). drop j q₀) (sym up);
-    }

@@ -1,13 +1,16 @@
 -- Writes one after another.
 use mathlib.Core.Path.{◌≡◌, refl, sym, ap, ap₂, subst, ◌∙◌}
-use Prim.Native.Nat.{ℕ, ◌+◌, ◌-◌, ◌≤◌, ◌<◌}
+use Prim.Native.Nat.{ℕ, ◌+◌, ◌-◌, ◌≤◌}
 use native.Mathlib.Nat.{add-zero, zero-add, add_assoc}
 use native.Mathlib.Omega.{arith}
 use mathlib.Core.List.{List, [], ◌++◌, append-nil, ◌∷◌}
-use lib.ListN.{length, get_or, take, drop, length-append, length-drop, drop_of_length-le, set, length-set}
-use lib.Seq.{sets, length-sets, sets-eq, take-set-le, get_or-take, get_or-drop, length-take-le}
+use lib.ListN.{length, take, drop, length-append, length-drop, drop_of_length-le, set, length-set}
+use lib.Seq.{sets, length-sets, sets-eq}
 use Rattle.text.specs.Put.{Put, Stands}
-use Rattle.text.proofs.Lists.{drop_next, sets_sets, sets_swap, sets_over, written, drop_sets, take_sets}
+use borrow.Rule.Slice.PartMut.{put_mid}
+use Rattle.std.proofs.lemmas.Grind.{common_steps}
+use Rattle.text.proofs.Numbers.{in_bytes_next, in_bytes_length}
+use Rattle.text.proofs.Lists.{sets_sets, sets_swap, sets_over, sets_mid, written, drop_sets, take_sets}
 
 pub put_nothing : (o : List ℕ) (at : ℕ) → Put o at [] at o
 put_nothing o at = record { output = refl; place = sym (add-zero at) }
@@ -75,6 +78,24 @@ put_as {o} {o'} {bs} {cs} {at} {r} e p = record {
 pub put_of : {o o' : List ℕ} {at r : ℕ} (k : ℕ) (bs : List ℕ) → length bs ≡ k → o' ≡ sets o at bs → r ≡ at + k → Put o at bs r o'
 put_of {o} {o'} {at} k bs e p q = record { output = p; place = q ∙ ap (λ (n : ℕ). at + n) (sym e) }
 
+-- a part of the bytes is replaced by as many
+pub put_part : (o bs vs : List ℕ) (at k to : ℕ) → vs ≡ bs → length bs ≡ k → to ≡ at + k → to ≤ length o → Put o at bs to (put_mid at k o vs)
+put_part o bs vs at k to same size e fits = record {
+  output = ap (put_mid at k o) same ∙ sym (sets_mid o bs at k size (omega arith));
+  place = e ∙ ap (λ (n : ℕ). at + n) (sym size);
+}
+
+-- the same, where the bytes were split at the place
+pub put_behind : (o front back bs vs : List ℕ) (at n : ℕ) → front ≡ take at o → back ≡ drop at o → vs ≡ bs → length bs ≡ n
+    → at + n ≤ length o → Put o at bs (at + n) (front ++ (vs ++ drop n back))
+put_behind o front back bs vs at n before behind same size fits = record {
+  output = rw (before, behind, same) (sym (sets_mid o bs at n size fits));
+  place = ap (λ (m : ℕ). at + m) (sym size);
+}
+
+-- what shows a number's bytes written, one after another
+pub ruleset bytes_put = (common_steps, in_bytes_next, in_bytes_length, put_part)
+
 -- what is written to keeps its length
 pub put_length : {o o' bs : List ℕ} {at r : ℕ} → Put o at bs r o' → length o' ≡ length o
 put_length {o} {o'} {bs} {at} p = ap length p.output ∙ length-sets o at bs
@@ -113,42 +134,6 @@ left_none {o} {bs} {o'} {at} {to} l = record { output = l.content; place = sym (
 -- what is left, by another name
 pub left_as : {o bs o' xs ys : List ℕ} {at to : ℕ} → xs ≡ ys → Left o at bs o' to xs → Left o at bs o' to ys
 left_as {o} {bs} {o'} {xs} {ys} {at} {to} e l = subst (λ (z : List ℕ). Left o at bs o' to z) e l
-
--- ==== a loop that repeats what stands before it: what is left to repeat, and that nothing before it was touched
-
-abbrev again : List ℕ → ℕ → ℕ → List ℕ
-again o from at = take (at - from) (drop from o)
-
-pub record Repeating (o : List ℕ) (from at : ℕ) (o' : List ℕ) (i : ℕ) : Type 0 where
-  pub within : i ≤ at - from
-  pub left : Left o at (again o from at) o' (at + i) (drop i (again o from at))
-  pub before : take at o' ≡ take at o
-
-pub repeat_none : (o : List ℕ) (from at : ℕ) → Repeating o from at o 0
-repeat_none o from at = record { within = omega arith; left = rw add-zero (left_all o at _); before = refl }
-
-module _ {o o' : List ℕ} {from at i : ℕ} (w : Repeating o from at o' i) (h : from ≤ at) (fits : at + (at - from) ≤ length o) where
-  long : length (again o from at) ≡ at - from
-  long = length-take-le (at - from) (drop from o) (rw length-drop (omega arith))
-
-  pub repeat_next : i < at - from → Repeating o from at (set o' (at + i) (get_or o' (from + i) 0)) (i + 1)
-  repeat_next more =
-      let here : from + i < at = omega arith in
-      let x : get_or o' (from + i) 0 ≡ get_or (again o from at) i 0 =
-      sym (get_or-take at o' (from + i) 0 here) ∙ ap (λ (l : List ℕ). get_or l (from + i) 0) w.before ∙ get_or-take at o (from + i) 0 here
-      ∙ sym (get_or-drop from o i 0) ∙ sym (get_or-take (at - from) (drop from o) i 0 more) in
-      let rest = drop_next (again o from at) i 0 (rw long more) in
-      record {
-        within = omega arith;
-        left = left_set at i (rest ∙ ap (λ (y : ℕ). y ∷ drop (i + 1) (again o from at)) (sym x)) w.left;
-        before = take-set-le at o' (at + i) _ (omega arith) ∙ w.before;
-      }
-
-  pub repeat_all : at - from ≤ i → Put o at (again o from at) (at + (at - from)) o'
-  repeat_all done =
-      let e : i ≡ at - from = let m = w.within in omega arith in
-      let all_of_it = left_none (left_as (drop_of_length-le (again o from at) {i = i} (omega (arith, long))) w.left) in
-      subst (λ (n : ℕ). Put o at (again o from at) (at + n) o') e all_of_it
 
 -- ==== a scratch array that is written over whole
 

@@ -14,11 +14,17 @@ pub fn is_digit(b: u8) -> bool
     b.is_ascii_digit()
 }
 
-// Whether every byte of s is least..greatest.
+// Whether every byte of s is least..greatest. By `iter().all` a byte takes five instructions in place of four: an acknowledge 2 % more.
+#[tactic(auto, using(crate::proofs::Lists::drop_next))]
 pub fn all_within(s: &[u8], least: u8, greatest: u8) -> bool
     ensures { result ≡ all (within least greatest) s.now }
 {
-    s.iter().all(|b| (least..=greatest).contains(b))
+    for b in s {
+        if !(least..=greatest).contains(b) {
+            return false;
+        }
+    }
+    true
 }
 
 pub fn is_text(s: &[u8]) -> bool
@@ -41,61 +47,29 @@ pub fn is_spaces(s: &[u8]) -> bool
 
 // ---- numbers that bytes hold
 
-fn wide(x: u8) -> u64
-    ensures { result ≡ x }
+// The number of these bytes, little-endian.
+fn number_of(bytes: &[u8]) -> u64
+    requires { length bytes.now ≤ 8 }
+    ensures { (result ≡ little_of bytes.now) × (result < 256 ^ length bytes.now) }
 {
-    x as u64
-}
-
-// Two bytes in one step.
-fn little_2(b: &[u8], at: usize) -> u64
-    requires { at + 2 ≤ length b.now }
-    ensures { (result ≡ little_of (take 2 (drop at b.now))) × (result < 256 ^ 2) }
-{
-    wide(b[at]) + 256 * wide(b[at + 1])
-}
-
-// Four bytes, and eight.
-fn little_4(b: &[u8], at: usize) -> u64
-    requires { at + 4 ≤ length b.now }
-    ensures { (result ≡ little_of (take 4 (drop at b.now))) × (result < 256 ^ 4) }
-{
-    little_2(b, at) + 65_536 * little_2(b, at + 2)
-}
-
-fn little_8(b: &[u8], at: usize) -> u64
-    requires { at + 8 ≤ length b.now }
-    ensures { result ≡ little_of (take 8 (drop at b.now)) }
-{
-    little_4(b, at) + 4_294_967_296 * little_4(b, at + 4)
-}
-
-// Any number of bytes, one after another.
-fn little_by_bytes(b: &[u8], at: usize, size: usize) -> u64
-    requires { (at + size ≤ length b.now) × (size ≤ 8) }
-    ensures { (result ≡ little_of (take size (drop at b.now))) × (result < 256 ^ size) }
-{
-    let mut i = size;
     let mut n: u64 = 0;
-    while i > 0 {
-        i -= 1;
-        n = n * 256 + wide(b[at + i]);
+    for &byte in bytes.iter().rev() {
+        n = n * 256 + u64::from(byte);
     }
     n
 }
 
-// The number of the size bytes at `at`, little-endian.
+// The number of the size bytes at `at`. Two and four stand by themselves: where the length is known, the bytes are read in one load.
+#[tactic(auto, using(crate::proofs::Numbers::little_2, crate::proofs::Numbers::little_4))]
 pub fn little(b: &[u8], at: usize, size: usize) -> u64
     requires { (at + size ≤ length b.now) × (size ≤ 8) }
     ensures { (result ≡ little_of (take size (drop at b.now))) × (result < 256 ^ size) }
 {
-    if size == 2 {
-        return little_2(b, at);
+    match size {
+        2 => u64::from(u16::from_le_bytes([b[at], b[at + 1]])),
+        4 => u64::from(u32::from_le_bytes([b[at], b[at + 1], b[at + 2], b[at + 3]])),
+        _ => number_of(&b[at..at + size]),
     }
-    if size == 4 {
-        return little_4(b, at);
-    }
-    little_by_bytes(b, at, size)
 }
 
 // The number that digits give.
@@ -103,35 +77,21 @@ pub fn decimal(s: &[u8]) -> u64
     requires { (length s.now ≤ 19) × (all is_digit s.now ≡ true) }
     ensures { (result ≡ decimal_of s.now) × (result < 10 ^ length s.now) }
 {
-    let mut i = 0;
     let mut n: u64 = 0;
-    while i < s.len() {
-        n = n * 10 + wide(s[i] - b'0');
-        i += 1;
+    for &digit in s {
+        n = n * 10 + u64::from(digit - b'0');
     }
     n
 }
 
-// How far a byte is above `0`, and 0 for one that is not.
-fn above_0(b: u8) -> u64
-    ensures { (result ≡ b - 0x30) × (result ≤ 207) }
-{
-    if b < b'0' {
-        return 0;
-    }
-    wide(b - b'0')
-}
-
-// The same number of any bytes, whether they are digits or not: each counts as what it is above `0`.
+// The same number of any bytes, whether they are digits or not: each counts as what it is above `0`, and 0 where it is not.
 pub fn number(s: &[u8]) -> u64
     requires { length s.now ≤ 17 }
     ensures { result ≡ decimal_of s.now }
 {
-    let mut i = 0;
     let mut n: u64 = 0;
-    while i < s.len() {
-        n = n * 10 + above_0(s[i]);
-        i += 1;
+    for byte in s {
+        n = n * 10 + u64::from(byte.saturating_sub(b'0'));
     }
     n
 }
@@ -142,25 +102,20 @@ pub fn number(s: &[u8]) -> u64
 pub fn rest(s: &[u8], from: usize) -> &[u8]
     ensures { result.now ≡ drop from s.now }
 {
-    if s.len() < from {
-        return &s[..0];
-    }
-    &s[from..]
+    &s[from.min(s.len())..]
 }
 
 // ---- writers: each returns the place behind what it wrote
 
 // The bytes of s.
+#[tactic(auto, using(crate::proofs::Puts::put_part))]
 pub fn copy(s: &[u8], out: &mut [u8], at: usize) -> usize
     requires { at + length s.now ≤ length out.old }
     ensures { Put out.old at s.now result out.new }
 {
-    let mut i = 0;
-    while i < s.len() {
-        out[at + i] = s[i];
-        i += 1;
-    }
-    at + i
+    let end = at + s.len();
+    out[at..end].copy_from_slice(s);
+    end
 }
 
 // The bytes of s, where they are few and the compiler knows how many: eight in one load and one store.
@@ -168,44 +123,37 @@ pub fn copy_few(s: &[u8], out: &mut [u8], at: usize) -> usize
     requires { at + length s.now ≤ length out.old }
     ensures { Put out.old at s.now result out.new }
 {
-    let mut i = 0;
-    while s.len() - i >= 8 {
-        let n = little_8(s, i);
-        put_little(out, at + i, 8, n);
-        i += 8;
-    }
-    copy(&s[i..], out, at + i)
+    copy(s, out, at)
 }
 
 // The byte b, width times.
+#[tactic(auto, using(crate::proofs::Puts::put_part))]
 pub fn fill(out: &mut [u8], at: usize, width: usize, b: u8) -> usize
     requires { at + width ≤ length out.old }
     ensures { (result ≡ at + width) × Put out.old at (replicate width b) result out.new }
 {
-    let mut i = 0;
-    while i < width {
-        out[at + i] = b;
-        i += 1;
-    }
-    at + width
+    let end = at + width;
+    out[at..end].fill(b);
+    end
 }
 
 // n in size bytes, little-endian.
+#[tactic(auto, using(crate::proofs::Puts::bytes_put), unfolding(model::specs::Bytes::in_bytes))]
 pub fn put_little(out: &mut [u8], at: usize, size: usize, n: u64) -> usize
     requires { at + size ≤ length out.old }
     ensures { (result ≡ at + size) × Put out.old at (in_bytes size n) result out.new }
 {
+    let end = at + size;
     let mut left = n;
-    let mut i = 0;
-    while i < size {
-        out[at + i] = (left % 256) as u8;
-        left = left / 256;
-        i += 1;
+    for byte in &mut out[at..end] {
+        *byte = (left % 256) as u8;
+        left /= 256;
     }
-    at + size
+    end
 }
 
 // Two digits: both in one store.
+#[tactic(auto, using(crate::proofs::Numbers::pair_bytes))]
 fn put_pair(out: &mut [u8], at: usize, n: u64) -> usize
     requires { (n < 100) × (at + 2 ≤ length out.old) }
     ensures { (result ≡ at + 2) × Put out.old at (digits 2 n) result out.new }
@@ -218,30 +166,25 @@ pub fn put_digits(out: &mut [u8], at: usize, width: usize, n: u64) -> usize
     requires { at + width ≤ length out.old }
     ensures { (result ≡ at + width) × Put out.old at (digits width n) result out.new }
 {
+    let odd = width % 2;
     let mut left = n;
-    let mut i = width;
-    while i >= 2 {
-        i -= 2;
-        put_pair(out, at + i, left % 100);
-        left = left / 100;
+    for i in (0..width / 2).rev() {
+        put_pair(out, at + odd + 2 * i, left % 100);
+        left /= 100;
     }
-    if i == 0 {
-        return at + width;
+    if odd == 1 {
+        out[at] = b'0' + (left % 10) as u8;
     }
-    out[at] = b'0' + (left % 10) as u8;
     at + width
 }
 
 // The n bytes at `from`, moved down to `to`.
+#[tactic(auto, using(crate::proofs::Lists::sets_moved))]
 pub fn shift(b: &mut [u8], to: usize, from: usize, n: usize)
     requires { (to ≤ from) × (from + n ≤ length b.old) }
     ensures { b.new ≡ sets b.old to (take n (drop from b.old)) }
 {
-    let mut i = 0;
-    while i < n {
-        b[to + i] = b[from + i];
-        i += 1;
-    }
+    b.copy_within(from..from + n, to);
 }
 
 // The bytes from `from` up to `at`, once more behind them.
@@ -250,10 +193,7 @@ pub fn repeat(out: &mut [u8], from: usize, at: usize) -> usize
     ensures { Put out.old at (take (at - from) (drop from out.old)) result out.new }
 {
     let n = at - from;
-    let mut i = 0;
-    while i < n {
-        out[at + i] = out[from + i];
-        i += 1;
-    }
+    let (before, behind) = out.split_at_mut(at);
+    behind[..n].copy_from_slice(&before[from..]);
     at + n
 }

@@ -19,7 +19,7 @@ loop-kind-preserved c = λ read.
     let few = place_within _ in
     rw c.place.ensures
     (dealing_next read (λ kind. beats) w c.loop-kind-test.true (in_order _ c.loop-kind-test.true)
-    (dealt_to read few w.changes.becomes.good c.lane_at-a.ensures c.size.ensures (c.beat.ensures (read _))))
+    (dealt_to read few w.changes.becomes.good c.range_of.ensures (c.beat.ensures (read _))))
 
 pub returns : goal.returns
 returns c = λ read. dealt_to_all read (λ kind. beats) (c.loop-kind.invariant read) c.loop-kind-test.false

@@ -7,4 +7,4 @@ use Rattle.region.proofs.deal.Goals as goal
 pub returns : goal.returns
 returns c = λ read.
     let kind = place_of c.args.kind in
-    dealt_to read (place_within c.args.kind) c.requires c.lane_at-a.ensures c.size.ensures (c.deal.ensures (read kind))
+    dealt_to read (place_within c.args.kind) c.requires c.range_of.ensures (c.deal.ensures (read kind))

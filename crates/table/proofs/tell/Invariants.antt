@@ -16,8 +16,8 @@ abbrev pub invariant-loop-session : goal.invariant-loop-session
 invariant-loop-session l =
     let kind = place_of l.kind in
     record {
-      turns : Turns (copy_most (kind_at kind)) (event (event_in kind l.notice)) l.initial.table l.initial.out l.at l.table l.out l.next.to.at
-          l.session;
+      turns : Turns (copy_most (kind_at kind)) (event (event_in kind l.notice)) l.initial.table l.initial.out l.at l.table l.out
+          l.next.to.at l.session;
       sums : Summing kind l.initial.table l.table l.session l.taken;
       last : IfSome l.next.copied (Last (settings_in l.table) kind l.notice l.next.to.at l.out);
       stands : kind ≡ tightenings → IfSome l.next.place (Stands l.table l.notice);

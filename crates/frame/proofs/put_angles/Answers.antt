@@ -1,0 +1,7 @@
+-- `frame::put_angles`: three limits and a number.
+use borrow.Author.Rules.{rules}
+use Rattle.frame.proofs.Fields.{fields}
+use Rattle.frame.proofs.put_angles.Goals as goal
+
+pub returns : goal.returns
+returns g c = search (rules, fields)
