@@ -1,14 +1,18 @@
 -- `table::free_place` meets its contract.
-use Rattle.std.proofs.Common.{sym, ◌∙◌}
+use mathlib.Core.Path.{sym, subst, ◌∙◌}
 use Rattle.places.proofs.Marks.{length_marked}
-use Rattle.table.proofs.Regions.{region_good}
+use Rattle.region.specs.Region.{Good}
+use Rattle.table.proofs.Regions.{part_in, part_good}
 use Rattle.table.proofs.Places.{found, marks_next, marks_all}
 use Rattle.table.proofs.free_place.Goals as goal
 
 pub mark-requires : goal.mark-requires
 mark-requires c =
-    let good = region_good c.args.table.now c.loop-s.s c.requires.0 c.loop-s-test.true in
-    (rw c.region_of.ensures.bytes good, c.loop-s.invariant.0)
+    let t = c.args.table.now in (
+      subst Good (part_in t c.loop-s.s ∙ sym c.region_of.ensures.bytes)
+          (part_good t c.loop-s.s c.requires.0 c.loop-s-test.true),
+      c.loop-s.invariant.0,
+    )
 
 pub loop-s-preserved : goal.loop-s-preserved
 loop-s-preserved c =

@@ -1,11 +1,12 @@
 -- `table::keep_placed` meets its contract.
 use borrow.Author.Tests.{lt-ltb}
-use Rattle.std.proofs.Common.{refl, sym, ap, subst, Some}
+use Rattle.std.proofs.Common.{refl, sym, ap, subst, ◌∙◌, List, ℕ, Some}
 use Rattle.std.proofs.lemmas.Option.{IfSome_then}
 use Rattle.model.specs.Kinds.{tightenings}
 use Rattle.frame.specs.Places.{notice_in}
 use Rattle.places.specs.Places.{place_count}
 use Rattle.region.specs.Region.{places_held}
+use Rattle.region.specs.Said.{Answers}
 use Rattle.region.proofs.Places.{holds_fewer}
 use Rattle.table.specs.Table.{reading_in}
 use Rattle.table.specs.Passes.{Adds, one_more}
@@ -31,7 +32,7 @@ take-requires c =
     let s = c.args.s in
     rw c.range_of.ensures record {
       good = part_good t s o.becomes.table p.session;
-      answers = rw (part_in t s, o.regions s p.session) p.answers;
+      answers = subst (λ (r : List ℕ). Answers tightenings r c.args.taken) (sym (part_in t s ∙ o.regions s p.session)) p.answers;
       holds = p.holds;
       size = refl;
       formed = lt-ltb c.stand-stands.result place_count o.stands.there;
