@@ -5,12 +5,16 @@ use native.Mathlib.Nat.{suc-mul}
 use native.Mathlib.Omega.{arith}
 use mathlib.Core.Bool.{Bool, true, false, cond, not}
 use mathlib.Core.List.{List, [], ◌∷◌}
-use lib.Dec.{eqb}
+use lib.Dec.{eqb, ltb}
 use lib.ListN.{length, get_or, set, replicate, drop, length-set, length-replicate, drop_of_length-le}
 use lib.Seq.{get_or-set_other}
-use borrow.Author.Tests.{eq-eqb, ne_eqb, eqb-true, eqb-false}
+use borrow.Author.Tests.{eqb-true, eqb-false, ltb-true, ltb-false}
+use Rattle.std.specs.Prelude.{Option, Some, None}
+use Rattle.std.specs.List.{position, position_or_len}
+use Rattle.std.proofs.lemmas.List.Recursion.{is_position_or_len}
+use Rattle.std.proofs.lemmas.List.Sums.{prefix_len-le-length}
 use Rattle.text.proofs.Lists.{drop_next}
-use Rattle.places.specs.Free.{lacks, is_free, marked, marked_by_all, first_free}
+use Rattle.places.specs.Free.{lacks, is_free, marked, marked_by_all, first_free, FirstFree}
 
 -- ==== how many marks there are
 
@@ -179,15 +183,27 @@ pub mark_end : (used held : List ℕ) (i : ℕ) → length held ≤ i → marked
 unfolding marked
 mark_end used held i h = ap (marked used) (drop_of_length-le held {i = i} h)
 
-pub looked_next : (used : List ℕ) (p : ℕ) → p < length used → (get_or used p 0 ≡ 0 → ⊥)
-    → first_free (drop p used) ≡ suc (first_free (drop (p + 1) used))
-unfolding first_free
-looked_next used p h ne = ap first_free (drop_next used p 0 h) ∙ rw (ne_eqb (get_or used p 0) 0 ne)
+-- what stands where no mark is
+abbrev pub no_mark : ℕ → Bool
+no_mark u = eqb u 0
 
-pub looked_found : (used : List ℕ) (p : ℕ) → p < length used → get_or used p 0 ≡ 0 → first_free (drop p used) ≡ 0
+first_is : (used : List ℕ) → first_free used ≡ position_or_len no_mark used
 unfolding first_free
-looked_found used p h e = ap first_free (drop_next used p 0 h) ∙ rw (eq-eqb (get_or used p 0) 0 e)
+first_is = is_position_or_len first_free no_mark refl (λ u used. ap (cond (eqb u 0) 0) (omega arith))
 
-pub looked_end : (used : List ℕ) (p : ℕ) → length used ≤ p → first_free (drop p used) ≡ 0
-unfolding first_free
-looked_end used p h = ap first_free (drop_of_length-le used {i = p} h)
+-- what the first one without a mark is, where there is one
+pub first_found : (used : List ℕ) (r : Option ℕ) → r ≡ position no_mark used → FirstFree used r
+first_found used r e = rw e (go (ltb (position_or_len no_mark used) (length used)) refl)
+  where
+    go : (b : Bool) → ltb (position_or_len no_mark used) (length used) ≡ b
+        → FirstFree used (cond b (Some (position_or_len no_mark used)) None)
+    go true h = (sym (first_is used), ltb-true (position_or_len no_mark used) (length used) h)
+    go false h =
+        let past = ltb-false (position_or_len no_mark used) (length used) h in
+        let most = prefix_len-le-length (λ u. not (no_mark u)) used in
+        first_is used ∙ omega arith
+
+-- there is one, where it is known to be one of them
+pub first_some : (used : List ℕ) (r : Option ℕ) → FirstFree used r → first_free used < length used → r ≡ Some (first_free used)
+first_some used None f h = absurd (omega arith)
+first_some used (Some p) f h = ap Some f.0

@@ -1,5 +1,6 @@
 -- 02, P7: which places are free. Each list is the places that one session has open or waiting.
-use Rattle.std.specs.Prelude.{ℕ, suc, Bool, not, cond, List, [], ◌∷◌, eqb, set}
+use Rattle.std.specs.Prelude.{◌≡◌, ℕ, suc, ◌<◌, Bool, not, cond, List, [], ◌∷◌, eqb, set, length, Option}
+use Rattle.std.specs.Option.{MatchOption}
 use Rattle.model.specs.Bytes.{all}
 
 -- none of them is p
@@ -23,3 +24,7 @@ marked_by_all used (held ∷ each) = marked_by_all (marked used held) each
 unfoldable pub first_free : List ℕ → ℕ
 first_free [] = 0
 first_free (u ∷ used) = cond (eqb u 0) 0 (suc (first_free used))
+
+-- the first without a mark, if there is one
+abbrev pub FirstFree : List ℕ → Option ℕ → Type 0
+FirstFree used first = MatchOption first (first_free used ≡ length used) (λ p. (p ≡ first_free used) × (p < length used))

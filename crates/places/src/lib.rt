@@ -5,7 +5,7 @@
 ghost use Rattle.std.specs.Prelude.{◌≡◌, true, ◌<◌, length};
 ghost use Rattle.model.specs.Bytes.{all};
 ghost use Rattle.places.specs.Places.{place_count, places_size, is_place, place_in, Putting, Puts};
-ghost use Rattle.places.specs.Free.{marked, first_free as first_free_of};
+ghost use Rattle.places.specs.Free.{marked, FirstFree};
 
 use model::RESULT_LENGTH;
 
@@ -48,16 +48,9 @@ pub fn mark(used: &mut [u8], held: &[u8])
     }
 }
 
-// The first that is not marked; as many as there are, where all are.
-pub fn first_free(used: &[u8]) -> usize
-    ensures { result ≡ first_free_of used.now }
+// The first that is not marked, if there is one.
+pub fn first_free(used: &[u8]) -> Option<usize>
+    ensures { FirstFree used.now result }
 {
-    let mut p = 0;
-    while p < used.len() {
-        if used[p] == 0 {
-            return p;
-        }
-        p += 1;
-    }
-    p
+    used.iter().position(|&mark| mark == 0)
 }

@@ -28,8 +28,8 @@ all_answers {u = u} {f = f} {r = r} test l ran from answers =
     all_from_yields_List test u f r ran (YieldsList-from_slice l from) answers ∙ all_is test l
 
 -- what `s.iter().position(..)` answers, likewise
-pub position_answers : {A F : Type 0} {g : Mut F (Bor A × Unit {0}) Bool} {s u : Iter A} {f : F} {r : Option ℕ}
-    (test : A → Bool) (l : List A) → FindsPosition fronts g s f r u → iter_rest s ≡ l
+pub position_answers : {A F : Type 0} {g : Mut F (Bor A × Unit {0}) Bool} {s u : Iter A} {f : F} {r : Option ℕ} (test : A → Bool)
+    (l : List A) → FindsPosition fronts g s f r u → iter_rest s ≡ l
     → ((x : Bor A) (b : Bool) (q : F) → Called g f (x, tt) b q → (q ≡ f) × (b ≡ test x.now)) → r ≡ position test l
 position_answers {u = u} {f = f} {r = r} test l ran from answers =
     position_from_yields_List test u f r ran (YieldsList-from_slice l from) answers
