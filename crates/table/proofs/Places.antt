@@ -13,8 +13,8 @@ use Rattle.model.specs.Kinds.{tightenings}
 use Rattle.text.proofs.Lists.{drop_next, all_at}
 use Rattle.frame.specs.Places.{notice_in}
 use Rattle.places.specs.Places.{place_count, places_size, place_in, Putting, Puts}
-use Rattle.places.specs.Free.{lacks, is_free, marked, marked_by_all, first_free}
-use Rattle.places.proofs.Marks.{Fewer, free_there}
+use Rattle.places.specs.Free.{lacks, is_free, marked, marked_by_all, first_free, FirstFree}
+use Rattle.places.proofs.Marks.{Fewer, free_there, first_some}
 use Rattle.lane.specs.Kinds.{most}
 use Rattle.region.specs.Region.{region_size, region_formed, session_of, places_held}
 use Rattle.region.proofs.Places.{Agree, areas_alike, same_session, holds_few}
@@ -45,13 +45,18 @@ module _ (t : List ℕ) (h : Table t) where
       }
 
   -- so there is one: there are as many places as all may hold
-  pub found : {used : List ℕ} {p : ℕ} → Roomy t → used ≡ marked_by_all (replicate place_count 0) (each_holds t) → p ≡ first_free used
-      → (p < place_count) × (is_free p (each_holds t) ≡ true)
-  found room e q =
-      let many : length (each_holds t) * most tightenings ≡ place_count = ap (λ (n : ℕ). n * most tightenings)
-      (length_regions places_held t) in
-      let there = rw many at (free_there (most tightenings) (each_holds t) room.session (fewer room)) in
-      rw (q, e) there
+  module _ {used : List ℕ} (room : Roomy t) (e : used ≡ marked_by_all (replicate place_count 0) (each_holds t)) where
+    there : (first_free used < place_count) × (is_free (first_free used) (each_holds t) ≡ true)
+    there =
+        let many : length (each_holds t) * most tightenings ≡ place_count = ap (λ (n : ℕ). n * most tightenings)
+        (length_regions places_held t) in
+        rw e (rw many at (free_there (most tightenings) (each_holds t) room.session (fewer room)))
+
+    pub found : {r : Option ℕ} → length used ≡ place_count → FirstFree used r → r ≡ Some (first_free used)
+    found {r} size f = first_some used r f (rw size there.0)
+
+    pub found_free : {p : ℕ} → p ≡ first_free used → (p < place_count) × (is_free p (each_holds t) ≡ true)
+    found_free q = rw q there
 
   -- a loop that marks them, one session after the other
   pub marks_next : (used : List ℕ) (s : ℕ) → s < session_count

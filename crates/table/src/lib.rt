@@ -284,7 +284,7 @@ fn put_event(table: &[u8], out: &mut [u8], next: Next, asked: Asked, notice: &[u
     frame::put_copy(out, next.to, asked, settings(table), notice)
 }
 
-// The first place that no session has open or waiting.
+// The first place that no session has open or waiting: one is free, since one session holds fewer than it may.
 fn free_place(table: &[u8]) -> usize
     requires { Table table.now × Roomy table.now }
     ensures { (result < place_count) × (is_free result (regions places_held table.now) ≡ true) }
@@ -293,7 +293,7 @@ fn free_place(table: &[u8]) -> usize
     for s in 0..SESSION_COUNT {
         region::mark(region_of(table, s), &mut used);
     }
-    places::first_free(&used)
+    places::first_free(&used).unwrap()
 }
 
 // A result that a session is to hold stands in a place: the one where it stands already, or one that is free.
