@@ -198,8 +198,8 @@ fn put_copy(table: &[u8], out: &mut [u8], to: To, kind: Kind, notice: &[u8]) -> 
 // A copy of the open notice of that kind, of which one is due.
 fn say_one(table: &[u8], out: &mut [u8], to: To, kind: Kind) -> usize
     requires { OpenLent table.now out.old to (place_of kind) }
-    ensures { Wrote (copy_most (kind_at (place_of kind))) (due_copy (settings_in table.now) (place_of kind) true
-        (subscription_to to (place_of kind) table.now)) to out.old result out.new }
+    ensures { Wrote (copy_most (kind_at (place_of kind))) (due_copy (settings_in table.now) (place_of kind)
+        true (subscription_to to (place_of kind) table.now)) to out.old result out.new }
 {
     put_copy(table, out, to, kind, open_notice(table, to.session, kind))
 }
