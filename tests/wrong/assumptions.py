@@ -47,8 +47,8 @@ ASSUMES = {
 # A function that C calls, up to the next one.
 EXPORT = re.compile(r'\bextern\s*""\s*fn (\w+)((?:(?!\bfn\b).)*)', re.S)
 
-# The goals of a loop, which today's toolchain calls so too.
-GOALS = re.compile(r"^use Rattle\.\w+\.proofs\.[\w+]+\.Given as goal$", re.M)
+# The goals of a loop, in a function or in a method of a type, which today's toolchain calls so too.
+GOALS = re.compile(r"^use Rattle\.\w+\.proofs\.[\w+]+(?:\.[\w+]+)?\.Given as goal$", re.M)
 
 SAYS = re.compile(r"Assumes (.*?)\.(?: |$)")
 NOTHING = ()
