@@ -1,5 +1,8 @@
 // A session in its region of the table: its phase and idle count, the run that it is receiving, and a lane for each kind of notice. What is
 // done here changes the region and nothing else, and tells by value what is then to be said.
+//
+// It is lent as a slice, and that it is good is a clause: with a struct around the slice, what the table is to know of its bytes after a
+// call did not prove.
 #![tactic(auto)]
 
 ghost use Rattle.std.specs.Prelude.{◌≡◌, cond, map, ◌≤◌, ◌<◌, length};

@@ -34,6 +34,9 @@ use region::Ended;
 use session::{Form, Reply, Take, Taken};
 use std::ops::Range;
 
+// A table is lent as bytes, as C lends it, and each function asks for what it needs of them: a type that says so would ask more of whoever
+// calls the functions that other crates and the documents name.
+
 // Where the places begin.
 const SHARED: usize = shared::SIZE;
 
