@@ -7,8 +7,8 @@ A document names in backquotes: a file (`tests/README.md`; tests/README names th
 its ending (`model/specs/Frames`, `table/proofs/Says`), a function (`frame::put_copy`), a constant, a type, a definition or a law
 (`OUTPUT_LEAST`, `event_frame`, `Demand3.equal`), a must-fail edit (`NUL_counted`), a function or an array of C (`put_record()`, `RULES[]`),
 a test of the host (`a-slow-disk`, whose function is a_slow_disk), a command (`make test`; also where it stands indented). The pages of
-docs/past and docs/landings, and PORT and the two DESIGN-PASS, which tell of what was, and MUST-FAIL, which is derived, may name what is
-gone: of them the links alone are looked at. Of links those count that lead to files here, with their #anchors.
+docs/past and docs/landings, and PORT, the two DESIGN-PASS and LOOK-BACK, which tell of what was, and MUST-FAIL, which is derived, may
+name what is gone: of them the links alone are looked at. Of links those count that lead to files here, with their #anchors.
 
 Exit status 0: every name is there, and every link leads somewhere."""
 
@@ -20,7 +20,7 @@ import sys
 ROOT = os.path.dirname(os.path.dirname(os.path.dirname(os.path.abspath(__file__))))
 NOT_KEPT = (".git", "target", "out", "__pycache__")  # not in the repository: git's own, and what .gitignore names
 DERIVED = "MUST-FAIL.md"
-OF_A_MOVE = ("PORT.md", "DESIGN-PASS.md", "DESIGN-PASS-CONTRACTS.md")  # names as they were beside names as they are
+OF_A_MOVE = ("PORT.md", "DESIGN-PASS.md", "DESIGN-PASS-CONTRACTS.md", "LOOK-BACK.md")  # names as they were beside names as they are
 
 # What stands in backquotes and is a name: not an option, a text or a byte.
 CRATE_FILE = re.compile(r"([a-z_]+)/(specs|proofs)(?:/(\w+))?")

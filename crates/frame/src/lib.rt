@@ -280,7 +280,7 @@ fn put_parts(out: &mut [u8], at: usize, told: &[u8]) -> usize
     ensures { FieldsPut (told_values scanned_items told.now) 1 identifier_rows out.old at result
         out.new }
 {
-    let at = put_text(out, at, 1, told);
+    let at = put_text(out, at, 1, &told[0..IDENTIFIER_LENGTH]);
     let at = put_filled(out, at, 2, IDENTIFIER_LENGTH, b' ');
     let at = put_filled(out, at, 3, IDENTIFIER_LENGTH, b' ');
     put_filled(out, at, 4, IDENTIFIER_LENGTH, b' ')
@@ -527,7 +527,7 @@ fn put_notice(out: &mut [u8], at: usize, asked: Asked, settings: &[u8], told: &[
         out.new }
 {
     match asked.kind {
-        Kind::Identifiers if asked.revision < 2 => text::copy_few(told, out, at),
+        Kind::Identifiers if asked.revision < 2 => text::copy(told, out, at),
         Kind::Identifiers => put_parts(out, at, told),
         Kind::Tightenings if asked.revision < 2 => put_result(out, at, settings, told),
         Kind::Tightenings => {

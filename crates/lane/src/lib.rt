@@ -316,7 +316,7 @@ fn put(lane: &mut [u8], kind: Kind, i: u64, slot: &[u8], next: Subscription)
     ensures { Pushes (place_of kind) i slot.now next lane.old lane.new }
 {
     let at = CONTROL_SIZE + i as usize * slot_size(kind);
-    lane[at..at + slot.len()].copy_from_slice(slot);
+    text::replace(&mut lane[at..at + slot.len()], slot);
     store(lane, kind, next);
 }
 

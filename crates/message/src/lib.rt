@@ -1,7 +1,7 @@
 // What a message does, and the error that it has (01, "What a message does"; 02, P2 and P5): decided by value, whatever the numbers are.
 #![tactic(auto)]
 
-ghost use Rattle.std.specs.Prelude.{◌≡◌, true, cond, ◌&&◌, eqb, ℕ, List};
+ghost use Rattle.std.specs.Prelude.{◌≡◌, true, cond, ◌&&◌, eqb, ℕ, List, MatchOption};
 ghost use Rattle.std.proofs.Math.Option.{none, some};
 ghost use Rattle.model.specs.Bytes.{within as is_within};
 ghost use Rattle.model.specs.Messages.{entry_of, number_asked as number_asked_in, own, error_of};
@@ -9,7 +9,7 @@ ghost use Rattle.model.specs.Messages.{good_among, in_digits as in_digits_so, go
 ghost use Rattle.model.specs.Named.{place_of};
 ghost use Rattle.message.specs.Meaning.{effect_in, effect_found, effect_listed, answered, meant as meant_by, is_among, standing_of};
 ghost use Rattle.message.specs.Meaning.{standing_with, error_in, error_number};
-ghost use Rattle.message.specs.Inner.{revision_in, row_found, own_error_in};
+ghost use Rattle.message.specs.Inner.{revision_in, entry_in, own_error_in};
 
 use model::{KIND_COUNT, Kind, NUMBER_DIGITS};
 
@@ -172,25 +172,25 @@ static MESSAGES: [Row; 14] = [
 
 // The row of a message, by its number.
 #[tactic(auto, unfolding(model::specs::Messages::entry_of))]
-fn listed_of(mid: u64) -> Option<Row>
-    ensures { row_found result ≡ entry_of mid }
+fn listed_of(mid: u64) -> Option<&'static Row>
+    ensures { MatchOption result (none ≡ entry_of mid) (λ row. some (entry_in row.now) ≡ entry_of mid) }
 {
     // A `match` on the number, as 01 asks: what comes to its closing arm is unknown.
     match mid {
-        1 => Some(MESSAGES[0]),
-        3 => Some(MESSAGES[1]),
-        50 => Some(MESSAGES[2]),
-        51 => Some(MESSAGES[3]),
-        53 => Some(MESSAGES[4]),
-        54 => Some(MESSAGES[5]),
-        60 => Some(MESSAGES[6]),
-        62 => Some(MESSAGES[7]),
-        63 => Some(MESSAGES[8]),
-        70 => Some(MESSAGES[9]),
-        72 => Some(MESSAGES[10]),
-        73 => Some(MESSAGES[11]),
-        64 => Some(MESSAGES[12]),
-        9999 => Some(MESSAGES[13]),
+        1 => Some(&MESSAGES[0]),
+        3 => Some(&MESSAGES[1]),
+        50 => Some(&MESSAGES[2]),
+        51 => Some(&MESSAGES[3]),
+        53 => Some(&MESSAGES[4]),
+        54 => Some(&MESSAGES[5]),
+        60 => Some(&MESSAGES[6]),
+        62 => Some(&MESSAGES[7]),
+        63 => Some(&MESSAGES[8]),
+        70 => Some(&MESSAGES[9]),
+        72 => Some(&MESSAGES[10]),
+        73 => Some(&MESSAGES[11]),
+        64 => Some(&MESSAGES[12]),
+        9999 => Some(&MESSAGES[13]),
         _ => None,
     }
 }

@@ -318,7 +318,7 @@ fn announce(data_field: &[u8]) -> [u8; IDENTIFIER_LENGTH]
     ensures { result ≡ padded identifier_length data_field.now }
 {
     let mut identifier = [b' '; IDENTIFIER_LENGTH];
-    identifier[..data_field.len()].copy_from_slice(data_field);
+    text::replace(&mut identifier[..data_field.len()], data_field);
     identifier
 }
 

@@ -5,10 +5,10 @@ use native.Mathlib.Nat.{add-zero, add-suc, suc-add, add-sub_cancel_left, zero-mi
 use native.Mathlib.Numerals.{add-one}
 use native.Mathlib.Omega.{arith}
 use mathlib.Core.Bool.{Bool, true, ◌&&◌, and-eq-true_iff}
-use mathlib.Core.List.{List, [], ◌∷◌, ◌++◌, append_assoc}
-use lib.ListN.{length, get_or, set, take, drop, replicate, length-append, length-drop}
+use mathlib.Core.List.{List, [], ◌∷◌, ◌++◌, append-nil, append_assoc}
+use lib.ListN.{length, get_or, set, take, drop, replicate, length-append, length-drop, drop_of_length-le}
 use lib.Seq.{sets, sets-eq, paste, set-set, set_comm, drop-cons, drop-drop, drop-set-add, drop-set-lt, take-set-le, take_at, take-nil}
-use lib.Seq.{length-take-le, take-append-add}
+use lib.Seq.{length-take-le, take_all, take-append-add}
 use borrow.Rule.Slice.PartMut.{put_mid, drop_put}
 use Rattle.std.specs.List.{copy_within}
 use Rattle.model.specs.Bytes.{all}
@@ -20,6 +20,25 @@ drop_next l i d h = rw add-one (drop-cons l i d h)
 
 pub replicate_next : {A : Type 0} (n i : ℕ) (a : A) → i < n → replicate (n - i) a ≡ a ∷ replicate (n - (i + 1)) a
 replicate_next n i a h = let e : n - i ≡ suc (n - (i + 1)) = omega arith in ap (λ (k : ℕ). replicate k a) e
+
+-- ==== the first elements of a list in the place of another's, an element later
+
+abbrev pub replaced_up_to : ℕ → List ℕ → List ℕ → List ℕ
+replaced_up_to i l o = take i l ++ drop i o
+
+replaced_after : (i : ℕ) (l o : List ℕ) → i < length l → length o ≡ length l
+    → set (replaced_up_to i l o) i (get_or l i 0) ≡ replaced_up_to (suc i) l o
+replaced_after i [] o h e = absurd (omega arith)
+replaced_after i (b ∷ l) [] h e = absurd (omega arith)
+replaced_after zero (b ∷ l) (x ∷ o) h e = refl
+replaced_after (suc i) (b ∷ l) (x ∷ o) h e = ap (b ∷◌) (replaced_after i l o (omega arith) (omega arith))
+
+pub replaced_next : {f : List ℕ} (i : ℕ) (l o : List ℕ) → i < length l → length o ≡ length l → f ≡ replaced_up_to i l o
+    → set f i (get_or l i 0) ≡ replaced_up_to (i + 1) l o
+replaced_next i l o h g e = rw (add-one, e) (replaced_after i l o h g)
+
+pub replaced_all : {f : List ℕ} (i : ℕ) (l o : List ℕ) → length l ≤ i → length o ≡ length l → f ≡ replaced_up_to i l o → f ≡ l
+replaced_all i l o h g e = rw (take_all i l h, drop_of_length-le o {i = i} (omega arith)) at e ∙ append-nil l
 
 -- ==== tests of every element
 

@@ -107,6 +107,18 @@ pub fn rest(s: &[u8], from: usize) -> &[u8]
 
 // ---- writers: each returns the place behind what it wrote
 
+// The bytes of `from` in the place of as many, by a loop of its own: where the compiler does not know how many, it makes of std's
+// `copy_from_slice` a call of memmove, which the archive for C would have to be given.
+#[tactic(auto, using(crate::proofs::Lists::replaced_next, crate::proofs::Lists::replaced_all))]
+pub fn replace(to: &mut [u8], from: &[u8])
+    requires { length to.old ≡ length from.now }
+    ensures { to.new ≡ from.now }
+{
+    for (i, &b) in from.iter().enumerate() {
+        to[i] = b;
+    }
+}
+
 // The bytes of s.
 #[tactic(auto, using(crate::proofs::Puts::put_part))]
 pub fn copy(s: &[u8], out: &mut [u8], at: usize) -> usize
@@ -114,16 +126,19 @@ pub fn copy(s: &[u8], out: &mut [u8], at: usize) -> usize
     ensures { Put out.old at s.now result out.new }
 {
     let end = at + s.len();
-    out[at..end].copy_from_slice(s);
+    replace(&mut out[at..end], s);
     end
 }
 
-// The bytes of s, where they are few and the compiler knows how many: eight in one load and one store.
+// The bytes of s, where they are few and the compiler knows how many: it has the library's loads and stores stand in the place of a loop.
+#[tactic(auto, using(crate::proofs::Puts::put_part))]
 pub fn copy_few(s: &[u8], out: &mut [u8], at: usize) -> usize
     requires { at + length s.now ≤ length out.old }
     ensures { Put out.old at s.now result out.new }
 {
-    copy(s, out, at)
+    let end = at + s.len();
+    out[at..end].copy_from_slice(s);
+    end
 }
 
 // The byte b, width times.
@@ -194,6 +209,6 @@ pub fn repeat(out: &mut [u8], from: usize, at: usize) -> usize
 {
     let n = at - from;
     let (before, behind) = out.split_at_mut(at);
-    behind[..n].copy_from_slice(&before[from..]);
+    replace(&mut behind[..n], &before[from..]);
     at + n
 }

@@ -7,7 +7,7 @@ use Rattle.frame.proofs.put_notice.Goals as goal
 pub returns-in-Identifiers : goal.returns-in-Identifiers
 returns-in-Identifiers c =
     let a = c.args in
-    identifier_alone (payloads a.settings.now a.told.now) a.asked c.in-Identifiers.is (omega arith) c.requires.whole.1 c.copy_few.ensures
+    identifier_alone (payloads a.settings.now a.told.now) a.asked c.in-Identifiers.is (omega arith) c.requires.whole.1 c.copy.ensures
 
 pub returns-in-Identifiers-2 : goal.returns-in-Identifiers-2
 returns-in-Identifiers-2 c =

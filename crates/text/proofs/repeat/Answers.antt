@@ -9,6 +9,6 @@ pub returns : goal.returns
 returns c =
     let a = c.args in
     let s = c.split_at_mut-before.ensures in
-    let again : c.copy_from_slice.new.self ≡ take (a.at - a.from) (drop a.from a.out.now) =
+    let again : c.replace.new.to ≡ take (a.at - a.from) (drop a.from a.out.now) =
     grind (arith, common_steps, drop-take) in
     put_behind a.out.now _ _ _ _ a.at _ s.front s.back again (simp (length-take, length-drop) (omega arith)) (omega arith)
