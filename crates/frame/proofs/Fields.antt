@@ -36,7 +36,7 @@ field_put field width e p f q = record { place = omega arith; put = put_then p q
 
 -- ==== some rows and then others
 
-length_append_rows : (xs ys : List Row) → rows_length true (xs ++ ys) ≡ rows_length true xs + rows_length true ys
+pub length_append_rows : (xs ys : List Row) → rows_length true (xs ++ ys) ≡ rows_length true xs + rows_length true ys
 length_append_rows [] ys = omega arith
 length_append_rows (x ∷ xs) ys = let e = length_append_rows xs ys in omega arith
 
@@ -92,7 +92,7 @@ module _ (b : Sources) where
     unfolding characters
     blank_then width rows p f q = field_then (blank width) rows refl refl p f q
 
-    unreported_then : (width : ℕ) (rows : List Row) → Written o at (2 + width) (numbered m (replicate width digit_0)) r₁ o₁ → m ≡ n
+    pub unreported_then : (width : ℕ) (rows : List Row) → Written o at (2 + width) (numbered m (replicate width digit_0)) r₁ o₁ → m ≡ n
         → FieldsPut b (n + 1) rows o₁ r₁ r₂ o₂ → FieldsPut b n (unreported width ∷ rows) o at r₂ o₂
     unfolding characters
     unreported_then width rows p f q = field_then (unreported width) rows refl refl p f q
@@ -100,6 +100,23 @@ module _ (b : Sources) where
   pub fields_none : {o : List ℕ} {at : ℕ} (n : ℕ) → FieldsPut b n [] o at at o
   unfolding data_from
   fields_none {at = at} n = record { place = sym (add-zero at); put = record { output = refl; place = sym (add-zero at) } }
+
+  -- ==== three limits, and the value that they are of, of one width
+
+  pub limits_then_value : (n width from i : ℕ) {o o₁ o₂ o₃ o₄ : List ℕ} {at r₁ r₂ r₃ r₄ v₁ v₂ v₃ v₄ x₁ x₂ x₃ : ℕ}
+      → v₁ ≡ x₁ → limit_of x₁ ≡ limit_at (source b from) i
+      → Written o at (2 + width) (numbered n (limit_characters width (limit_of v₁))) r₁ o₁
+      → v₂ ≡ x₂ → limit_of x₂ ≡ limit_at (source b from) (i + 1)
+      → Written o₁ r₁ (2 + width) (numbered (n + 1) (limit_characters width (limit_of v₂))) r₂ o₂
+      → v₃ ≡ x₃ → limit_of x₃ ≡ limit_at (source b from) (i + 2)
+      → Written o₂ r₂ (2 + width) (numbered (n + 1 + 1) (limit_characters width (limit_of v₃))) r₃ o₃
+      → v₄ ≡ number_at (source b from) (i + 3) → Written o₃ r₃ (2 + width) (numbered (n + 1 + 1 + 1) (digits width v₄)) r₄ o₄
+      → FieldsPut b n (limit width from i ∷ limit width from (i + 1) ∷ limit width from (i + 2) ∷ number width from (i + 3) ∷ []) o at r₄ o₄
+  limits_then_value n width from i {v₁ = v₁} {v₂ = v₂} {v₃ = v₃} e e' p f f' q g g' s h t =
+      limit_then n n width from i _ v₁ p refl (ap (λ (k : ℕ). limit_of k) e ∙ e')
+      (limit_then (n + 1) (n + 1) width from (i + 1) _ v₂ q refl (ap (λ (k : ℕ). limit_of k) f ∙ f')
+      (limit_then (n + 1 + 1) (n + 1 + 1) width from (i + 2) _ v₃ s refl (ap (λ (k : ℕ). limit_of k) g ∙ g')
+      (number_then (n + 1 + 1 + 1) (n + 1 + 1 + 1) width from (i + 3) [] t refl h (fields_none (n + 1 + 1 + 1 + 1)))))
 
   -- ==== fields of one width that the tool does not report: one more behind so many
 
@@ -120,6 +137,10 @@ fixed h b = record { place = h.place; put = h.put b }
 pub of_each : {n : ℕ} {rows : List Row} {o o' : List ℕ} {at r : ℕ} → ((b : Sources) → FieldsPut b n rows o at r o')
     → FixedPut n rows o at r o'
 of_each h = record { place = (h nothing).place; put = λ b. (h b).put }
+
+pub fixed_then : (n : ℕ) (xs ys : List Row) {o o₁ o₂ : List ℕ} {at r₁ r₂ : ℕ} → FixedPut n xs o at r₁ o₁
+    → FixedPut (n + length xs) ys o₁ r₁ r₂ o₂ → FixedPut n (xs ++ ys) o at r₂ o₂
+fixed_then n xs ys p q = of_each (λ b. fields_then b n xs ys (fixed p b) (fixed q b))
 
 -- what is left has room for one more
 pub room_left : (i count width : ℕ) → i < count

@@ -1,3 +1,4 @@
+pub mod Tests
 pub mod Headers
 pub mod Fields
 pub mod Contents

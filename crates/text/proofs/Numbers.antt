@@ -75,6 +75,17 @@ little_4 l at h =
       drop_next l (at + 3) 0 (omega arith),
     ) (omega arith)
 
+-- bytes that were read are those that are written
+pub same_bytes : (size at : ℕ) (l : List ℕ) → ((i : ℕ) → get_or l i 0 < 256) → at + size ≤ length l
+    → in_bytes size (little (take size (drop at l))) ≡ take size (drop at l)
+unfolding in_bytes
+same_bytes zero at l b h = refl
+same_bytes (suc size) at l b h =
+    let x = get_or l at 0 in
+    let n = little (take size (drop (at + 1) l)) in
+    let parts = byte_below x n (b at) in
+    rw (drop_next l at 0 (omega arith), parts.0, parts.1, same_bytes size (at + 1) l b (omega arith))
+
 -- ==== bounds
 
 -- fewer digits to a base, a smaller bound
