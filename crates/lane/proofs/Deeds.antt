@@ -26,7 +26,7 @@ use Rattle.session.specs.declared.Beat.TheVariants.{Runs, Copy, GivenUp}
 use Rattle.session.specs.declared.Step.{Step}
 use Rattle.session.specs.declared.Subscription.{Subscription}
 use Rattle.session.specs.declared.Deed.{Deed}
-use Rattle.session.specs.declared.Deed.TheVariants.{Beats, Acks, Asks, Drops}
+use Rattle.session.specs.declared.Deed.TheVariants.{Nothing, Beats, Acks, Asks, Drops}
 use Rattle.lane.specs.Lane.{any}
 
 -- ==== the first is there, where it goes or is sent
@@ -64,6 +64,7 @@ module _ (x : Subscription) where
 
   pub feasible : (d : Deed) → Feasible x.held (dealt x d)
   unfolding ticked acknowledged
+  feasible Nothing = still_feasible x.held x
   feasible Beats = tick_feasible x.form
   feasible Acks = acknowledge_feasible x.form
   feasible (Asks revision b) = still_feasible x.held _
@@ -87,6 +88,9 @@ module _ {room : Room} where
 
   pub goes : (x : Subscription) (ns : List Notice) → Holds room x ns → (d : Deed)
       → Goes (act room (deed_of d) (subscription_in x ns)) ns (dealt x d)
+  goes x ns h Nothing =
+      let e = h.held in
+      record { acts = rw (e, take-length ns); clock = h.clock; few = omega arith }
   goes x ns h Beats = goes_so _ ns _ (tick_right room x ns h)
   goes x ns h Acks = goes_so _ ns _ (acknowledge_right room x ns h)
   goes x ns h Drops = record { acts = refl; clock = omega arith; few = zero-le }

@@ -21,7 +21,7 @@ use Rattle.session.proofs.Tests.{chosen}
 use Rattle.session.specs.declared.Form.{Form}
 use Rattle.session.specs.declared.Form.TheVariants.{Not, Plain, Acknowledged}
 use Rattle.session.specs.declared.Deed as by_value
-use Rattle.session.specs.declared.Deed.TheVariants.{Beats, Acks, Asks, Drops}
+use Rattle.session.specs.declared.Deed.TheVariants.{Nothing, Beats, Acks, Asks, Drops}
 use Rattle.lane.specs.Lane.{is_plain, control_of, first_in, notices_in, lane_by, open_one, any}
 
 -- a copy of a notice, to a session that subscribed as the control of the lane l tells
@@ -105,6 +105,7 @@ Quiet drops = Unit {0}
 Quiet acks = Unit {0}
 
 pub quiet_of : (d : by_value.Deed) → Quiet (deed_of d)
+quiet_of Nothing = tt
 quiet_of Beats = tt
 quiet_of Acks = tt
 quiet_of (Asks revision b) = tt

@@ -17,7 +17,7 @@ use Rattle.session.specs.declared.Due.{Due}
 use Rattle.session.specs.declared.Due.TheVariants as due
 use Rattle.session.specs.declared.Step.{Step}
 use Rattle.session.specs.declared.Deed.{Deed}
-use Rattle.session.specs.declared.Deed.TheVariants.{Beats, Acks, Asks, Drops}
+use Rattle.session.specs.declared.Deed.TheVariants.{Nothing, Beats, Acks, Asks, Drops}
 use Rattle.session.specs.declared.Take.{Take}
 use Rattle.session.specs.declared.Take.TheVariants as take
 use Rattle.session.specs.declared.Taken.{Taken}
@@ -116,6 +116,7 @@ acknowledged x = acknowledged_from x.form x
 -- ==== a deed, an event aside
 
 abbrev pub dealt : Subscription → Deed → Step
+dealt x Nothing = still x
 dealt x Beats = ticked x
 dealt x Acks = acknowledged x
 dealt x (Asks revision no_acknowledge) = still (subscribed x revision no_acknowledge)

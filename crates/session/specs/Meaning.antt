@@ -68,6 +68,7 @@ pub record Stepped (room : Room) (becomes : model.Subscription × List Notice) (
 
 -- the model's deed
 abbrev pub deed_of : Deed → model.Deed
+deed_of deed.Nothing = model.nothing
 deed_of deed.Beats = model.beats
 deed_of deed.Acks = model.acks
 deed_of (deed.Asks revision no_acknowledge) = model.asks revision no_acknowledge

@@ -294,9 +294,10 @@ pub fn acknowledged(x: Subscription) -> Step
 
 // ---- a deed, to a subscription
 
-// What is done to a subscription, an event aside: a tick; an acknowledge; it is subscribed to; it is unsubscribed from.
+// What is done to a subscription, an event aside: nothing; a tick; an acknowledge; it is subscribed to; it is unsubscribed from.
 #[derive(Clone, Copy, PartialEq, Eq)]
 pub enum Deed {
+    Nothing,
     Beats,
     Acks,
     Asks { revision: u64, no_acknowledge: bool },
@@ -307,6 +308,7 @@ pub fn dealt(x: Subscription, deed: Deed) -> Step
     ensures { result ≡ dealt_to x deed }
 {
     match deed {
+        Deed::Nothing => still(x),
         Deed::Beats => ticked(x),
         Deed::Acks => acknowledged(x),
         Deed::Asks {
