@@ -55,7 +55,7 @@ module _ (a : List ℕ) (h : Area a) where
     asked n true = at_last ∙ ap (λ (m : ℕ). numbered m (kept_of a)) (sym last)
     asked n false = refl
 
-    remembers : Remembers x (kept_of a)
+    pub remembers : Remembers x (kept_of a)
     unfolding asked_for
     remembers = record {
       kept = λ n. ap is_there (at_number n) ∙ there_if (among n) (result_at n) ∙ rw (last, count);

@@ -41,7 +41,7 @@ use Rattle.table.proofs.Regions.{part, put, part_in, part_is, put_in, put_means,
 use Rattle.table.proofs.Regions.{put_reading, put_other, so_many_sessions}
 use Rattle.table.proofs.Alone.{went_one, went_alone, became_alone, stayed_alone, by_settings}
 use Rattle.table.proofs.Events.{becomes_then}
-use Rattle.table.proofs.Says.{copy_said}
+use Rattle.table.proofs.Says.{asked_said}
 use Rattle.table.proofs.Again.{last_now}
 
 -- ==== the region of a session has become r, and what that leaves to say was written
@@ -225,5 +225,5 @@ module _ (k : Kind) {t o : List ℕ} {n : Next} {p : List ℕ} (e : EventLent t 
   told_copy b q v =
       let u = rw q at v in
       rw q (told_one u.within
-      (rw (b, ← w.settings) (put_as (copy_said (reading_in t₁) (settings_in t₁) n.to.session k (region_in n.to.session t₁) p
+      (rw (b, ← w.settings) (put_as (asked_said (reading_in t₁) (settings_in t₁) n.to.session k (region_in n.to.session t₁) p
       (w.ready b)) u.bytes)) (last_now e.lent.room u))

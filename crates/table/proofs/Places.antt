@@ -52,11 +52,12 @@ module _ (t : List ℕ) (h : Table t) where
         (length_regions places_held t) in
         rw e (rw many at (free_there (most tightenings) (each_holds t) room.session (fewer room)))
 
-    pub found : {r : Option ℕ} → length used ≡ place_count → FirstFree used r → r ≡ Some (first_free used)
-    found {r} size f = first_some used r f (rw size there.0)
+    pub found_some : {r : Option ℕ} → length used ≡ place_count → FirstFree used r → r ≡ Some (first_free used)
+    found_some {r} size f = first_some used r f (rw size there.0)
 
-    pub found_free : {p : ℕ} → p ≡ first_free used → (p < place_count) × (is_free p (each_holds t) ≡ true)
-    found_free q = rw q there
+  pub found : {used : List ℕ} {p : ℕ} → Roomy t → used ≡ marked_by_all (replicate place_count 0) (each_holds t) → p ≡ first_free used
+      → (p < place_count) × (is_free p (each_holds t) ≡ true)
+  found room e q = rw q (there room e)
 
   -- a loop that marks them, one session after the other
   pub marks_next : (used : List ℕ) (s : ℕ) → s < session_count

@@ -29,7 +29,7 @@ use Rattle.session.proofs.Replies.{out_append}
 use Rattle.places.specs.Places.{place_count, is_place, place_in}
 use Rattle.places.proofs.Areas.{place_long}
 use Rattle.lane.specs.Kinds.{is_placed, slot_size, control_size, lane_size}
-use Rattle.lane.specs.Lane.{Reading, control_of, first_in, Lane}
+use Rattle.lane.specs.Lane.{Reading, is_plain, control_of, first_in, Lane}
 use Rattle.lane.proofs.Controls.{storable, held_formed}
 use Rattle.lane.proofs.Slots.{places_there, first_place}
 use Rattle.lane.proofs.KindLaws.{kind_fits}
@@ -58,14 +58,20 @@ unplaced Alarms e = refl
 -- ==== a copy
 
 -- of the notice of the bytes p, to one that is subscribed
-pub copy_said : (read : Reading) (st : Settings) (s : ℕ) (kind : Kind) (r p : List ℕ)
+pub copy_said : (read : Reading) (st : Settings) (s kind : ℕ) (r p : List ℕ) → is_subscribed (subscription_in read kind r) ≡ true
+    → frame_record s (event_frame st (control_of (lane_in kind r)).revision (is_plain (control_of (lane_in kind r)).form) (event_in kind p))
+    ≡ out_bytes s (copies_out st kind (subscription_in read kind r) (notice_in kind p ∷ []))
+copy_said read st s kind r p h =
+    sym (append-nil _)
+    ∙ ap (λ (cs : List Copy). out_bytes s (map copy (tag kind cs)))
+    (sym (tell_said (read kind) kind (lane_in kind r) st (notice_in kind p) h))
+
+-- and as a session asked for notices of a kind
+pub asked_said : (read : Reading) (st : Settings) (s : ℕ) (kind : Kind) (r p : List ℕ)
     → is_subscribed (subscription_in read (place_of kind) r) ≡ true
     → frame_record s (event_frame st (asked_in kind r).revision (asked_in kind r).no_acknowledge (event_in (place_of kind) p))
     ≡ out_bytes s (copies_out st (place_of kind) (subscription_in read (place_of kind) r) (notice_in (place_of kind) p ∷ []))
-copy_said read st s kind r p h =
-    let k = place_of kind in
-    sym (append-nil _)
-    ∙ ap (λ (cs : List Copy). out_bytes s (map copy (tag k cs))) (sym (tell_said (read k) k (lane_in k r) st (notice_in k p) h))
+asked_said read st s kind r p h = copy_said read st s (place_of kind) r p h
 
 -- of the open notice, which the first slot means
 module _ {t : List ℕ} {s kind : ℕ} (known : kind < length kinds) (o : Opened t s kind) where
@@ -193,7 +199,7 @@ module _ {t o₀ : List ℕ} {to : To} {due : List Bool} (p : DueLent t o₀ to 
         (out_append to.session (due_copy st kind (get_or due kind false) (subscription_to to kind t))
         (due_copies st (suc kind) (drop (suc kind) due) (drop (suc kind) xs)))
 
-    saying_next : {o' : List ℕ} {next : ℕ}
+    pub saying_next : {o' : List ℕ} {next : ℕ}
         → Wrote (copy_most (kind_at kind)) (due_copy (settings_in t) kind (get_or due kind false) (subscription_to to kind t))
         behind o next o'
         → Saying t o₀ to due o' next (kind + 1)

@@ -5,7 +5,7 @@ use Rattle.std.proofs.lemmas.Option.{same_Some}
 use Rattle.places.proofs.Marks.{length_marked}
 use Rattle.region.specs.Region.{Good}
 use Rattle.table.proofs.Regions.{part_in, part_good}
-use Rattle.table.proofs.Places.{found, found_free, marks_next, marks_all}
+use Rattle.table.proofs.Places.{found_some, found, marks_next, marks_all}
 use Rattle.table.proofs.free_place.Goals as goal
 
 pub mark-requires : goal.mark-requires
@@ -28,10 +28,10 @@ loop-s-preserved c =
 pub unwrap-requires : goal.unwrap-requires
 unwrap-requires c =
     let marks = sym (marks_all c.args.table.now c.requires.0 c.loop-s.used c.loop-s.s c.loop-s-test.false) ∙ c.loop-s.invariant.1 in
-    ap is_some (found c.args.table.now c.requires.0 c.requires.1 marks c.loop-s.invariant.0 c.first_free.ensures)
+    ap is_some (found_some c.args.table.now c.requires.0 c.requires.1 marks c.loop-s.invariant.0 c.first_free.ensures)
 
 pub returns : goal.returns
 returns c =
     let marks = sym (marks_all c.args.table.now c.requires.0 c.loop-s.used c.loop-s.s c.loop-s-test.false) ∙ c.loop-s.invariant.1 in
-    let first = found c.args.table.now c.requires.0 c.requires.1 marks c.loop-s.invariant.0 c.first_free.ensures in
-    found_free c.args.table.now c.requires.0 c.requires.1 marks (same_Some _ _ (sym c.unwrap.ensures ∙ first))
+    let first = found_some c.args.table.now c.requires.0 c.requires.1 marks c.loop-s.invariant.0 c.first_free.ensures in
+    found c.args.table.now c.requires.0 c.requires.1 marks (same_Some _ _ (sym c.unwrap.ensures ∙ first))
