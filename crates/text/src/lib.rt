@@ -130,7 +130,7 @@ pub fn copy(s: &[u8], out: &mut [u8], at: usize) -> usize
     end
 }
 
-// The bytes of s, where they are few and the compiler knows how many: it has the library's loads and stores stand in the place of a loop.
+// The bytes of s, where they are few and the compiler knows how many: the library moves them by a load and a store, and no loop.
 #[tactic(auto, using(crate::proofs::Puts::put_part))]
 pub fn copy_few(s: &[u8], out: &mut [u8], at: usize) -> usize
     requires { at + length s.now ≤ length out.old }
