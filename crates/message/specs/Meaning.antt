@@ -6,6 +6,7 @@ use Rattle.std.proofs.Math.Option.{Option as Maybe, none, some}
 use Rattle.model.specs.Events.{Result}
 use Rattle.model.specs.Memory.{numbered, asked_for, is_there}
 use Rattle.model.specs.Messages as model
+use Rattle.model.specs.declared.Kind.{Kind}
 use Rattle.model.specs.Named.{place_of}
 use Rattle.model.specs.Messages.{Entry, starts, stops, identifies, subscribes, unsubscribes, acknowledges, fetches, mirrors}
 use Rattle.model.specs.Messages.{gets_reply, Error, unknown_message, already_started, wrong_length, wrong_revision, wrong_data, own, code}
@@ -18,21 +19,28 @@ use Rattle.message.specs.declared.Error.TheVariants as error
 
 -- ==== the table's column of own errors and effects
 
--- the model's effect, its own error's number with it
-abbrev pub effect_in : Effect → model.Effect
-effect_in effect.Starts = starts
-effect_in effect.Stops = stops
-effect_in (effect.Identifies error) = identifies error
-effect_in (effect.Subscribes kind error) = subscribes (place_of kind) error
-effect_in (effect.Unsubscribes kind error) = unsubscribes (place_of kind) error
-effect_in (effect.Acknowledges kind) = acknowledges (place_of kind)
-effect_in (effect.Fetches error) = fetches error
-effect_in effect.Mirrors = mirrors
+-- the model's effect, its own error's number with it, where a kind's place among the kinds is told
+abbrev pub effect_by : {K : Type 0} → (K → ℕ) → Effect K → model.Effect
+effect_by place effect.Starts = starts
+effect_by place effect.Stops = stops
+effect_by place (effect.Identifies error) = identifies error
+effect_by place (effect.Subscribes kind error) = subscribes (place kind) error
+effect_by place (effect.Unsubscribes kind error) = unsubscribes (place kind) error
+effect_by place (effect.Acknowledges kind) = acknowledges (place kind)
+effect_by place (effect.Fetches error) = fetches error
+effect_by place effect.Mirrors = mirrors
+
+-- that of one of the kinds by their names
+abbrev pub effect_in : Effect Kind → model.Effect
+effect_in = effect_by place_of
 
 -- none for a message that is not listed
-abbrev pub effect_found : Option Effect → Maybe model.Effect
-effect_found None = none
-effect_found (Some e) = some (effect_in e)
+abbrev pub effect_found_by : {K : Type 0} → (K → ℕ) → Option (Effect K) → Maybe model.Effect
+effect_found_by place None = none
+effect_found_by place (Some e) = some (effect_by place e)
+
+abbrev pub effect_found : Option (Effect Kind) → Maybe model.Effect
+effect_found = effect_found_by place_of
 
 -- the effect that an entry has, where there is one
 abbrev pub effect_listed : Maybe Entry → Maybe model.Effect

@@ -7,30 +7,31 @@ ghost use Rattle.model.specs.Bytes.{within as is_within};
 ghost use Rattle.model.specs.Messages.{entry_of, number_asked as number_asked_in, own, error_of};
 ghost use Rattle.model.specs.Messages.{good_among, in_digits as in_digits_so, good_data};
 ghost use Rattle.model.specs.Named.{place_of};
-ghost use Rattle.message.specs.Meaning.{effect_in, effect_found, effect_listed, answered, meant as meant_by, is_among, standing_of};
-ghost use Rattle.message.specs.Meaning.{standing_with, error_in, error_number};
+ghost use Rattle.message.specs.Meaning.{effect_in, effect_found, effect_found_by, effect_listed, answered, meant as meant_by, is_among};
+ghost use Rattle.message.specs.Meaning.{standing_of, standing_with, error_in, error_number};
 ghost use Rattle.message.specs.Inner.{revision_in, entry_in, own_error_in};
 
 use model::{KIND_COUNT, Kind, NUMBER_DIGITS};
 
 // ---- what a message does
 
-// What a message that is known does when it has no error; the number is that of its own error.
+// What a message that is known does when it has no error; the number is that of its own error. K is what kinds of notice are told by: their
+// names, or whatever else a caller has, as numbers of which more may be than there are kinds.
 #[derive(Clone, Copy, PartialEq, Eq)]
-pub enum Effect {
+pub enum Effect<K = Kind> {
     Starts,
     Stops,
     Identifies { error: u64 },
-    Subscribes { kind: Kind, error: u64 },
-    Unsubscribes { kind: Kind, error: u64 },
-    Acknowledges { kind: Kind },
+    Subscribes { kind: K, error: u64 },
+    Unsubscribes { kind: K, error: u64 },
+    Acknowledges { kind: K },
     Fetches { error: u64 },
     Mirrors,
 }
 
-// Whether a message is ever answered: an acknowledge is not, and one that is unknown, and has no effect, is.
-pub fn gets_reply(effect: Option<Effect>) -> bool
-    ensures { result ≡ answered (effect_found effect) }
+// Whether a message is ever answered: an acknowledge is not, whatever its kind, and one that is unknown, and has no effect, is.
+pub fn gets_reply<K: Copy>(effect: Option<Effect<K>>) -> bool
+    ensures { (place : K → ℕ) → result ≡ answered (effect_found_by place effect) }
 {
     !matches!(effect, Some(Effect::Acknowledges { .. }))
 }
